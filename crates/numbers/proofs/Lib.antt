@@ -1,0 +1,12 @@
+pub mod Branches
+pub mod Squares
+pub mod Digits
+pub mod Halves
+pub mod Patterns
+pub mod Significands
+pub mod Exponents
+pub mod Units
+pub mod Fields
+pub mod Between
+pub mod Monotone
+pub mod Rounding

@@ -1,0 +1,26 @@
+-- `roots::significand` meets its contract: by the check, or by the digits.
+use mathlib.Core.Path.{_≡_, subst}
+use Prim.Native.Nat.{ℕ, _*_, _%_, _^_, _≤_, _<_}
+use borrow.Author.Needs.{needs}
+use Rattle.numbers.specs.Root.{Nearest}
+use Rattle.numbers.proofs.Units.{shifted}
+use Rattle.numbers.proofs.significand.Statement.{statement}
+use Rattle.numbers.proofs.significand.Tie as tie
+
+n-is : (c : tie.Start) → (2 ^ 52 ≤ c .args .m * 2 ^ c .args .odd % 2 ^ 64) × (c .args .m * 2 ^ c .args .odd % 2 ^ 64 < 2 ^ 54) × (c .args .m * 2 ^ c .args .odd % 2 ^ 64 ≡ c .args .m * 2 ^ c .args .odd)
+n-is c = shifted (c .args .m) (c .args .odd) (c .pre .0) (c .pre .1) (c .pre .2)
+
+nearest-requires : tie.Need-nearest-requires
+nearest-requires c κs = let n = n-is (c .before) in (n .0, n .1, c .candidate .ensures .0, c .candidate .ensures .1)
+
+returns : tie.Need-returns
+returns c = subst (λ (n : ℕ). Nearest (n * 2 ^ 52) (c .before .before .candidate .result)) (n-is (c .before .before .before) .2) (c .before .nearest .ensures (c .if1 .taken))
+
+nearest-root-requires : tie.Need-nearest-root-requires
+nearest-root-requires c κs = let n = n-is (c .before .before .before) in (n .0, n .1)
+
+returns-2 : tie.Need-returns-2
+returns-2 c = subst (λ (n : ℕ). Nearest (n * 2 ^ 52) (c .nearest-root .result)) (n-is (c .before .before .before .before) .2) (c .nearest-root .ensures)
+
+pub significand-spec : {M : Type 1} → statement M
+significand-spec = tie.close (tie.spec (λ c. search needs) (λ c κs. search needs) nearest-requires returns nearest-root-requires returns-2)

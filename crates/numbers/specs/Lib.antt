@@ -1,0 +1,4 @@
+pub mod Reals
+pub mod Root
+pub mod Rounding
+pub mod Parts

@@ -1,0 +1,243 @@
+// The square root of an f64, rounded to the nearest f64.
+ghost use mathlib.Core.Path.{_≡_};
+ghost use mathlib.Core.Bool.{true};
+ghost use Prim.Native.Nat.{_+_, _*_, _/_, _%_, _^_, _≤_, _<_};
+ghost use lib.IntN.{pos, negsuc};
+ghost use lib.Ieee.{fin, minus, binary64, ofBits};
+ghost use lib.Bits.{bitAnd};
+ghost use Rattle.numbers.specs.Reals.{maxOf, minOf, clampUnit};
+ghost use Rattle.numbers.specs.Rounding.{roundDownOf};
+ghost use mathlib.Core.Bool.{false};
+ghost use Rattle.numbers.specs.Root.{Nearest, rootOf};
+ghost use Rattle.numbers.specs.Parts.{Exponent, lifted};
+
+const FRACTION: u64 = 0xf_ffff_ffff_ffff;
+
+const MINUS_ONE: f64 = -1.0;
+
+const LEADING: u64 = 0x10_0000_0000_0000;
+
+// The larger of the two; a NaN yields the other, and of two that compare equal it is the first.
+pub fn max(x: f64, y: f64) -> f64
+    ensures { λ r. ⌜ r ≡ maxOf x y ⌝ }
+{
+    if x != x { y } else { if x < y { y } else { x } }
+}
+
+// The smaller of the two; a NaN yields the other, and of two that compare equal it is the first.
+pub fn min(x: f64, y: f64) -> f64
+    ensures { λ r. ⌜ r ≡ minOf x y ⌝ }
+{
+    if x != x { y } else { if y < x { y } else { x } }
+}
+
+// x held to 0..1.
+pub fn clamp_unit(t: f64) -> f64
+    ensures { λ r. ⌜ r ≡ clampUnit t ⌝ }
+{
+    if t < 0.0 {
+        0.0
+    } else {
+        if t > 1.0 { 1.0 } else { t }
+    }
+}
+
+// The root of x. The bits of x are taken apart into sign, exponent and fraction.
+pub fn root(x: f64) -> f64
+    ensures { λ r. ⌜ r ≡ rootOf x ⌝ }
+{
+    if x != x {
+        return x;
+    }
+    let bits = f64::to_bits(x);
+    let sign = bits >> 63;
+    let exponent = (bits >> 52) & 0x7ff;
+    let fraction = bits & FRACTION;
+    if exponent == 0 {
+        if fraction == 0 {
+            return x;
+        }
+        if sign != 0 {
+            return 0.0 / 0.0;
+        }
+        return root_of_subnormal(fraction);
+    }
+    if sign != 0 {
+        return 0.0 / 0.0;
+    }
+    if exponent == 0x7ff {
+        return x;
+    }
+    root_of(fraction | LEADING, difference(exponent as u32, 1075))
+}
+
+// The largest whole number not above x. Of an x from 1 on `low` digits of the fraction stand behind the point; they are cut off.
+// A negative one grows first by all of them: a carry out of the fraction goes to the exponent.
+pub fn round_down(x: f64) -> f64
+    ensures { λ r. ⌜ r ≡ roundDownOf x ⌝ }
+{
+    if x != x {
+        return x;
+    }
+    let bits = f64::to_bits(x);
+    let sign = bits >> 63;
+    let exponent = (bits >> 52) & 0x7ff;
+    if exponent >= 1075 {
+        return x;
+    }
+    if exponent < 1023 {
+        return round_down_small(x, bits);
+    }
+    let low = 1075 - exponent;
+    if sign != 0 {
+        return f64::from_bits(((bits + ((1u64 << low) - 1)) >> low) << low);
+    }
+    f64::from_bits((bits >> low) << low)
+}
+
+// The same of a magnitude below 1.
+fn round_down_small(x: f64, bits: u64) -> f64
+    requires { ⌜ (x ≡ ofBits binary64 bits) × (bitAnd (bits / 2 ^ 52) 2047 < 1023) ⌝ }
+    ensures { λ r. ⌜ r ≡ roundDownOf x ⌝ }
+{
+    if bits & 0x7fff_ffff_ffff_ffff == 0 {
+        return x;
+    }
+    if bits >> 63 != 0 {
+        return MINUS_ONE;
+    }
+    0.0
+}
+
+// The root of f * 2^-1074: f is shifted up by its count of leading zeros, to 53 digits.
+fn root_of_subnormal(f: u64) -> f64
+    requires { ⌜ (0 < f) × (f < 2 ^ 52) ⌝ }
+    ensures { λ r. ⌜ r ≡ rootOf (fin false f (negsuc 1073)) ⌝ }
+{
+    let zeros = u64::leading_zeros(f) - 11;
+    root_of(f << zeros, difference(0, 1074 + zeros))
+}
+
+// The root of m * 2^e, for an m of 53 digits. The exponent is halved towards minus infinity; what is left of it, 0 or 1, goes to m.
+fn root_of(m: u64, e: i64) -> f64
+    requires { ⌜ (2 ^ 52 ≤ m) × (m < 2 ^ 53) × Exponent e ⌝ }
+    ensures { λ r. ⌜ r ≡ rootOf (fin false m e) ⌝ }
+{
+    let s = significand(m, odd(e));
+    f64::from_bits((halved(e) << 52) + s)
+}
+
+// The whole number nearest to the root of m * 2^odd * 2^52: a candidate that passes the check, or else found digit by digit.
+fn significand(m: u64, odd: u64) -> u64
+    requires { ⌜ (2 ^ 52 ≤ m) × (m < 2 ^ 53) × (odd < 2) ⌝ }
+    ensures { λ r. ⌜ Nearest (m * 2 ^ odd * 2 ^ 52) r ⌝ }
+{
+    let n = m << odd;
+    let s = candidate(m, odd);
+    if nearest(n, s) {
+        return s;
+    }
+    nearest_root(n)
+}
+
+// A number that is most often the nearest. Its digits are those of a float near the root of z = m * 2^odd / 2^52; nothing is proved of how near.
+fn candidate(m: u64, odd: u64) -> u64
+    requires { ⌜ (2 ^ 52 ≤ m) × (m < 2 ^ 53) × (odd < 2) ⌝ }
+    ensures { λ r. ⌜ (2 ^ 52 ≤ r) × (r < 2 ^ 53) ⌝ }
+{
+    let u = f64::from_bits((1022u64 << 52) + m);
+    let z = f64::from_bits(((1022 + odd) << 52) + m);
+    let y = guess(u, z, scale(odd));
+    if y >= 1.0 {
+        return (f64::to_bits(y) & FRACTION) | LEADING;
+    }
+    LEADING
+}
+
+// 1 / sqrt(2^odd)
+fn scale(odd: u64) -> f64 {
+    if odd == 0 { 1.0 } else { 0.7071067811865476 }
+}
+
+// A float near the root of z, for 1 <= u < 2 and z = u / (c * c).
+fn guess(u: f64, z: f64, c: f64) -> f64 {
+    // 1 / sqrt(u) to 16 digits
+    let t = u - 1.5;
+    let t2 = t * t;
+    let p = ((0.8165059889303032 - 0.2721851994436597 * t)
+        + (0.1354177558972878 - 0.07496745441416258 * t) * t2)
+        + (0.05092835195673077 - 0.03140391456411872 * t) * (t2 * t2);
+    let g0 = (c * z) * p;
+    let h0 = (0.5 * c) * p;
+    let k = 1.5 - g0 * h0;
+    let g = g0 * k;
+    let h = h0 * k;
+    // g0 to 26 digits: its square is exact, and so are z - w * w and g - w
+    let w = (g0 + 201326592.0) - 201326592.0;
+    g + ((z - w * w) - (g - w) * (g + w)) * h
+}
+
+// a - b
+fn difference(a: u32, b: u32) -> i64
+    ensures { λ r. ⌜ r ≡ minus a b ⌝ }
+{
+    (a as i64) - (b as i64)
+}
+
+// 1 where e is odd, else 0.
+fn odd(e: i64) -> u64
+    requires { ⌜ Exponent e ⌝ }
+    ensures { λ r. ⌜ r ≡ lifted e % 2 ⌝ }
+{
+    (e & 1) as u64
+}
+
+// Half of e, rounded down, with what makes it an exponent's field less one.
+fn halved(e: i64) -> u64
+    requires { ⌜ Exponent e ⌝ }
+    ensures { λ r. ⌜ r ≡ lifted e / 2 ⌝ }
+{
+    ((e >> 1) + 1048) as u64
+}
+
+// The whole number nearest to the root of m * 2^52, digit by digit.
+pub fn nearest_root(m: u64) -> u64
+    requires { ⌜ (2 ^ 52 ≤ m) × (m < 2 ^ 54) ⌝ }
+    ensures { λ r. ⌜ Nearest (m * 2 ^ 52) r ⌝ }
+{
+    let mut rest = 2 * m;
+    let mut q = 0u64;
+    let mut r = 0x20_0000_0000_0000u64;
+    while r != 0 {
+        let t = 2 * q + r;
+        if t <= rest {
+            rest = rest - t;
+            q = q + r;
+        }
+        rest = 2 * rest;
+        r = r >> 1;
+    }
+    // q has 54 digits, the last a half: a root never lies midway between two whole numbers
+    (q >> 1) + (q & 1)
+}
+
+// Whether s is the whole number nearest to the root of m * 2^52: true only if it is.
+// With s = a * 2^26 + b, m * 2^52 - s * s is ((m - a * a) * 2^25 - a * b) * 2^27 - b * b.
+pub fn nearest(m: u64, s: u64) -> bool
+    requires { ⌜ (2 ^ 52 ≤ m) × (m < 2 ^ 54) × (2 ^ 52 ≤ s) × (s < 2 ^ 53) ⌝ }
+    ensures { λ r. ⌜ (r ≡ true → Nearest (m * 2 ^ 52) s) ⌝ }
+{
+    let a = s >> 26;
+    let b = s & 0x3ff_ffff;
+    let high = std::num::wrapping_sub_u64(m, a * a);
+    if high >= 0x4000_0000 {
+        return false;
+    }
+    let d = std::num::wrapping_sub_u64((high << 25) + 0x400_0000, a * b);
+    if d >= 0x4000_0000 {
+        return false;
+    }
+    // t = m * 2^52 - s * s + s + 2^53, to lie in 2^53 + 1 ..= 2^53 + 2 * s
+    let t = (d << 27) + s - b * b;
+    std::num::wrapping_sub_u64(t, 0x20_0000_0000_0001) < 2 * s
+}
