@@ -10,3 +10,5 @@ pub mod Fields
 pub mod Between
 pub mod Monotone
 pub mod Rounding
+pub mod Magnitude
+pub mod Hypots

@@ -2,3 +2,4 @@ pub mod Reals
 pub mod Root
 pub mod Rounding
 pub mod Parts
+pub mod Hypot

@@ -1,19 +1,21 @@
 // The square root of an f64, rounded to the nearest f64.
 ghost use mathlib.Core.Path.{_≡_};
-ghost use mathlib.Core.Bool.{true};
+ghost use mathlib.Core.Bool.{true, false, cond, _||_};
 ghost use Prim.Native.Nat.{_+_, _*_, _/_, _%_, _^_, _≤_, _<_};
 ghost use lib.IntN.{pos, negsuc};
-ghost use lib.Ieee.{fin, minus, binary64, ofBits};
+ghost use lib.Ieee.{nan, inf, fin, minus, binary64, ofBits};
 ghost use lib.Bits.{bitAnd};
-ghost use Rattle.numbers.specs.Reals.{maxOf, minOf, clampUnit};
-ghost use Rattle.numbers.specs.Rounding.{roundDownOf};
-ghost use mathlib.Core.Bool.{false};
+ghost use Rattle.numbers.specs.Reals.{maxOf, minOf, absOf, clampUnit};
+ghost use Rattle.numbers.specs.Rounding.{roundDownOf, roundUpOf};
+ghost use Rattle.numbers.specs.Hypot.{hypotOf, infinite};
 ghost use Rattle.numbers.specs.Root.{Nearest, rootOf};
 ghost use Rattle.numbers.specs.Parts.{Exponent, lifted};
 
 const FRACTION: u64 = 0xf_ffff_ffff_ffff;
 
 const MINUS_ONE: f64 = -1.0;
+
+const MAGNITUDE: u64 = 0x7fff_ffff_ffff_ffff;
 
 const LEADING: u64 = 0x10_0000_0000_0000;
 
@@ -29,6 +31,16 @@ pub fn min(x: f64, y: f64) -> f64
     ensures { λ r. ⌜ r ≡ minOf x y ⌝ }
 {
     if x != x { y } else { if y < x { y } else { x } }
+}
+
+// x without its sign.
+pub fn abs(x: f64) -> f64
+    ensures { λ r. ⌜ r ≡ absOf x ⌝ }
+{
+    if x != x {
+        return x;
+    }
+    f64::from_bits(f64::to_bits(x) & MAGNITUDE)
 }
 
 // x held to 0..1.
@@ -93,6 +105,37 @@ pub fn round_down(x: f64) -> f64
         return f64::from_bits(((bits + ((1u64 << low) - 1)) >> low) << low);
     }
     f64::from_bits((bits >> low) << low)
+}
+
+// The smallest whole number not below x.
+pub fn round_up(x: f64) -> f64
+    ensures { λ r. ⌜ r ≡ roundUpOf x ⌝ }
+{
+    -round_down(-x)
+}
+
+// How far (x, y) lies from (0, 0). Where the sum is no NaN its root is the answer, also of an infinite x or y.
+pub fn hypot(x: f64, y: f64) -> f64
+    ensures { λ r. ⌜ r ≡ hypotOf x y ⌝ }
+{
+    let sum = x * x + y * y;
+    if sum != sum {
+        return hypot_of_nan(x, y);
+    }
+    root(sum)
+}
+
+// The same where x or y is a NaN.
+fn hypot_of_nan(x: f64, y: f64) -> f64
+    ensures { λ r. ⌜ r ≡ cond (infinite x || infinite y) (inf false) nan ⌝ }
+{
+    if abs(x) == 1.0 / 0.0 {
+        return 1.0 / 0.0;
+    }
+    if abs(y) == 1.0 / 0.0 {
+        return 1.0 / 0.0;
+    }
+    0.0 / 0.0
 }
 
 // The same of a magnitude below 1.
