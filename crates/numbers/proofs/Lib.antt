@@ -12,3 +12,5 @@ pub mod Monotone
 pub mod Rounding
 pub mod Magnitude
 pub mod Hypots
+pub mod Counts
+pub mod Places

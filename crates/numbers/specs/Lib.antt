@@ -3,3 +3,4 @@ pub mod Root
 pub mod Rounding
 pub mod Parts
 pub mod Hypot
+pub mod Order

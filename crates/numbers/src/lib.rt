@@ -7,6 +7,7 @@ ghost use lib.Ieee.{nan, inf, fin, minus, binary64, ofBits};
 ghost use lib.Bits.{bitAnd};
 ghost use Rattle.numbers.specs.Reals.{maxOf, minOf, absOf, clampUnit};
 ghost use Rattle.numbers.specs.Rounding.{roundDownOf, roundUpOf};
+ghost use Rattle.numbers.specs.Order.{totalLess};
 ghost use Rattle.numbers.specs.Hypot.{hypotOf, infinite};
 ghost use Rattle.numbers.specs.Root.{Nearest, rootOf};
 ghost use Rattle.numbers.specs.Parts.{Exponent, lifted};
@@ -136,6 +137,25 @@ fn hypot_of_nan(x: f64, y: f64) -> f64
         return 1.0 / 0.0;
     }
     0.0 / 0.0
+}
+
+// Whether x comes before y in the total order.
+pub fn total_less(x: f64, y: f64) -> bool
+    ensures { λ r. ⌜ r ≡ totalLess x y ⌝ }
+{
+    if x < y {
+        return true;
+    }
+    if y < x {
+        return false;
+    }
+    if x != x {
+        return false;
+    }
+    if y != y {
+        return true;
+    }
+    (f64::to_bits(x) >> 63) > (f64::to_bits(y) >> 63)
 }
 
 // The same of a magnitude below 1.
