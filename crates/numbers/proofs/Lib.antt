@@ -14,3 +14,4 @@ pub mod Magnitude
 pub mod Hypots
 pub mod Counts
 pub mod Places
+pub mod Computed

@@ -4,3 +4,4 @@ pub mod Rounding
 pub mod Parts
 pub mod Hypot
 pub mod Order
+pub mod Golden

@@ -8,6 +8,7 @@ ghost use lib.Bits.{bitAnd};
 ghost use Rattle.numbers.specs.Reals.{maxOf, minOf, absOf, clampUnit};
 ghost use Rattle.numbers.specs.Rounding.{roundDownOf, roundUpOf};
 ghost use Rattle.numbers.specs.Order.{totalLess};
+ghost use Rattle.numbers.specs.Golden.{phiOf, phi60Of};
 ghost use Rattle.numbers.specs.Hypot.{hypotOf, infinite};
 ghost use Rattle.numbers.specs.Root.{Nearest, rootOf};
 ghost use Rattle.numbers.specs.Parts.{Exponent, lifted};
@@ -19,6 +20,12 @@ const MINUS_ONE: f64 = -1.0;
 const MAGNITUDE: u64 = 0x7fff_ffff_ffff_ffff;
 
 const LEADING: u64 = 0x10_0000_0000_0000;
+
+// (root 5 - 1) / 2
+pub const PHI: f64 = 0.6180339887498949;
+
+// its 60th power, by 59 multiplications
+pub const PHI_60: f64 = 2.8889603743499235e-13;
 
 // The larger of the two; a NaN yields the other, and of two that compare equal it is the first.
 pub fn max(x: f64, y: f64) -> f64
@@ -137,6 +144,20 @@ fn hypot_of_nan(x: f64, y: f64) -> f64
         return 1.0 / 0.0;
     }
     0.0 / 0.0
+}
+
+// PHI is what the rules compute.
+pub fn phi() -> f64
+    ensures { λ r. ⌜ r ≡ phiOf ⌝ }
+{
+    PHI
+}
+
+// PHI_60 too.
+pub fn phi_60() -> f64
+    ensures { λ r. ⌜ r ≡ phi60Of ⌝ }
+{
+    PHI_60
 }
 
 // Whether x comes before y in the total order.
