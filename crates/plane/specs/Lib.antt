@@ -1,0 +1,3 @@
+pub mod Mesh
+pub mod Contacts
+pub mod Distance

@@ -1,0 +1,196 @@
+// Triangles of the mesh, seen from above: a triangle's box, and plan distances.
+ghost use mathlib.Core.Path.{_≡_};
+ghost use Prim.Native.Nat.{_+_, _*_, _≤_};
+ghost use lib.ListN.{length};
+ghost use Rattle.plane.specs.Mesh.{triangleOf, lowest, highest, topOf, boundsOf};
+ghost use Rattle.plane.specs.Contacts.{takeOf};
+ghost use Rattle.plane.specs.Distance.{nearestT, dist2ToSegment, baryOf, atLeast, edgeDistance, distanceXy};
+
+// The corners a, b and c of a triangle.
+pub struct Triangle {
+    pub ax: f64,
+    pub ay: f64,
+    pub az: f64,
+    pub bx: f64,
+    pub by: f64,
+    pub bz: f64,
+    pub cx: f64,
+    pub cy: f64,
+    pub cz: f64,
+}
+
+// A triangle's box seen from above, and its highest z.
+pub struct Bounds {
+    pub low_x: f64,
+    pub low_y: f64,
+    pub high_x: f64,
+    pub high_y: f64,
+    pub top: f64,
+}
+
+// What the tool meets: nothing, or the triangle at a height.
+pub enum Contact {
+    Nothing,
+    Height(f64),
+}
+
+// How much of each corner a place in plan is made of.
+pub struct Weights {
+    pub u: f64,
+    pub v: f64,
+    pub w: f64,
+}
+
+// A place on a triangle: none where the triangle stands upright.
+pub enum Spot {
+    Flat,
+    At(Weights),
+}
+
+// Triangle i of a mesh.
+pub fn triangle_at(mesh: &[f64], i: usize) -> Triangle
+    requires { ⌜ 9 * i + 9 ≤ length (now mesh) ⌝ }
+    ensures { λ r. ⌜ r ≡ triangleOf (now (mesh .entry)) i ⌝ }
+{
+    let k = 9 * i;
+    Triangle {
+        ax: mesh[k],
+        ay: mesh[k + 1],
+        az: mesh[k + 2],
+        bx: mesh[k + 3],
+        by: mesh[k + 4],
+        bz: mesh[k + 5],
+        cx: mesh[k + 6],
+        cy: mesh[k + 7],
+        cz: mesh[k + 8],
+    }
+}
+
+// The smallest of three numbers.
+fn low(a: f64, b: f64, c: f64) -> f64
+    ensures { λ r. ⌜ r ≡ lowest a b c ⌝ }
+{
+    numbers::min(numbers::min(a, b), c)
+}
+
+// The largest of three numbers.
+fn high(a: f64, b: f64, c: f64) -> f64
+    ensures { λ r. ⌜ r ≡ highest a b c ⌝ }
+{
+    numbers::max(numbers::max(a, b), c)
+}
+
+// The highest z of a triangle.
+pub fn top(t: Triangle) -> f64
+    ensures { λ r. ⌜ r ≡ topOf t ⌝ }
+{
+    high(t.az, t.bz, t.cz)
+}
+
+// The box of a triangle.
+pub fn bounds_of(t: Triangle) -> Bounds
+    ensures { λ r. ⌜ r ≡ boundsOf t ⌝ }
+{
+    Bounds {
+        low_x: low(t.ax, t.bx, t.cx),
+        low_y: low(t.ay, t.by, t.cy),
+        high_x: high(t.ax, t.bx, t.cx),
+        high_y: high(t.ay, t.by, t.cy),
+        top: top(t),
+    }
+}
+
+// The higher of what was met so far and z.
+pub fn take(c: Contact, z: f64) -> Contact
+    ensures { λ r. ⌜ r ≡ takeOf c z ⌝ }
+{
+    match c {
+        Contact::Nothing => Contact::Height(z),
+        Contact::Height(b) => Contact::Height(numbers::max(b, z)),
+    }
+}
+
+// Where along p-q the point nearest to x lies, from 0 to 1.
+fn nearest_t(x0: f64, x1: f64, p0: f64, p1: f64, q0: f64, q1: f64) -> f64
+    ensures { λ r. ⌜ r ≡ nearestT x0 x1 p0 p1 q0 q1 ⌝ }
+{
+    let d0 = q0 - p0;
+    let d1 = q1 - p1;
+    let l2 = d0 * d0 + d1 * d1;
+    if l2 > 0.0 {
+        numbers::clamp_unit(((x0 - p0) * d0 + (x1 - p1) * d1) / l2)
+    } else {
+        0.0
+    }
+}
+
+// The squared distance of x from the segment p-q.
+pub fn dist2_to_segment(x0: f64, x1: f64, p0: f64, p1: f64, q0: f64, q1: f64) -> f64
+    ensures { λ r. ⌜ r ≡ dist2ToSegment x0 x1 p0 p1 q0 q1 ⌝ }
+{
+    let t = nearest_t(x0, x1, p0, p1, q0, q1);
+    let c0 = p0 + t * (q0 - p0) - x0;
+    let c1 = p1 + t * (q1 - p1) - x1;
+    c0 * c0 + c1 * c1
+}
+
+// The weights of (x, y) in a triangle.
+pub fn bary(t: Triangle, x: f64, y: f64) -> Spot
+    ensures { λ r. ⌜ r ≡ baryOf t x y ⌝ }
+{
+    let bx = t.bx - t.ax;
+    let by = t.by - t.ay;
+    let cx = t.cx - t.ax;
+    let cy = t.cy - t.ay;
+    let dx = x - t.ax;
+    let dy = y - t.ay;
+    let det = bx * cy - cx * by;
+    if numbers::abs(det) < 1e-300 {
+        return Spot::Flat;
+    }
+    let l1 = (dx * cy - cx * dy) / det;
+    let l2 = (bx * dy - dx * by) / det;
+    Spot::At(Weights {
+        u: 1.0 - l1 - l2,
+        v: l1,
+        w: l2,
+    })
+}
+
+// Whether each weight is at least `least`.
+pub fn at_least(p: Weights, least: f64) -> bool
+    ensures { λ r. ⌜ r ≡ atLeast p least ⌝ }
+{
+    if p.u >= least {
+        if p.v >= least { p.w >= least } else { false }
+    } else {
+        false
+    }
+}
+
+// The distance of (x, y) from the nearest edge of a triangle.
+fn edge_distance(t: Triangle, x: f64, y: f64) -> f64
+    ensures { λ r. ⌜ r ≡ edgeDistance t x y ⌝ }
+{
+    let none = f64::from_bits(0x7ff0_0000_0000_0000);
+    let ab = numbers::min(none, dist2_to_segment(x, y, t.ax, t.ay, t.bx, t.by));
+    let bc = numbers::min(ab, dist2_to_segment(x, y, t.bx, t.by, t.cx, t.cy));
+    let ca = numbers::min(bc, dist2_to_segment(x, y, t.cx, t.cy, t.ax, t.ay));
+    numbers::root(ca)
+}
+
+// The distance of (x, y) from a triangle, 0 inside.
+pub fn distance_xy(t: Triangle, x: f64, y: f64) -> f64
+    ensures { λ r. ⌜ r ≡ distanceXy t x y ⌝ }
+{
+    match bary(t, x, y) {
+        Spot::Flat => edge_distance(t, x, y),
+        Spot::At(p) => {
+            if at_least(p, 0.0) {
+                0.0
+            } else {
+                edge_distance(t, x, y)
+            }
+        }
+    }
+}
