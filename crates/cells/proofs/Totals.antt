@@ -1,0 +1,122 @@
+-- The number of members, counted triangle by triangle, is that of the cells' lists.
+use mathlib.Core.Bool.{Bool, true, false}
+use mathlib.Core.List.{List, []}
+use mathlib.Core.Logic.{_⊎_, inl, inr}
+use mathlib.Core.Path.{_≡_, refl, ap, sym, _∙_}
+use Prim.Native.Nat.{ℕ, zero, suc, _+_, _-_, _*_, _≤_, _<_, min}
+use native.Mathlib.Nat.{mul-le-mul-right, mul-comm, add-mul, suc-mul}
+use native.Mathlib.Numerals.{add-one}
+use native.Mathlib.Omega.{arith}
+use lib.ListN.{length, length-append}
+use Rattle.cells.specs.declared.Cells.{Cells}
+use Rattle.cells.specs.Cover.{Cover, covers, areaOf, membersOf, listed, startOf, weight}
+use Rattle.cells.specs.Steps.{Set, between, sums}
+use Rattle.cells.proofs.Sets.{Split, by-lt, rowsUnder, row-more, rows-none, rows-all, under-between, in-between, over-between, none-covered, below, above, weight-off}
+use Rattle.cells.proofs.Members.{members-suc}
+
+-- how many of the first k cells are in a set
+abbrev sizeTo : Set → ℕ → ℕ
+sizeTo on k = sums (λ c. weight (on c)) k
+
+module _ where
+  size-none : (on : Set) (k : ℕ) → ((c : ℕ) → weight (on c) ≡ 0) → sizeTo on k ≡ 0
+  unfolding sums
+  size-none on zero h = refl
+  size-none on (suc k) h = omega (arith, size-none on k h, h k)
+
+  size-as : (on on′ : Set) (k : ℕ) → ((c : ℕ) → weight (on c) ≡ weight (on′ c)) → sizeTo on k ≡ sizeTo on′ k
+  unfolding sums
+  size-as on on′ zero h = refl
+  size-as on on′ (suc k) h = omega (arith, size-as on on′ k h, h k)
+
+  size-split : (one two on : Set) (k : ℕ) → Split one two on → sizeTo on k ≡ sizeTo one k + sizeTo two k
+  unfolding sums
+  size-split one two on zero d = omega arith
+  size-split one two on (suc k) d = omega (arith, size-split one two on k d, d k)
+
+  size-between : (a e k : ℕ) → a ≤ e → sizeTo (between a e) k ≡ min k e - min k a
+  unfolding sums
+  size-between a e zero h = omega arith
+  size-between a e (suc k) h =
+      by-lt k a
+      (λ l. omega (arith, size-between a e k h, under-between a e k l))
+      (λ l.
+      by-lt k e
+      (λ m. omega (arith, size-between a e k h, in-between a e k l m))
+      (λ m. omega (arith, size-between a e k h, over-between a e k m)))
+
+-- a box that lies in the grid, row by row
+module _ (columns : ℕ) (b : Cells) (k : ℕ) (right : b .x1 < columns) (some : b .x0 ≤ b .x1) (grid : (b .y1 + 1) * columns ≤ k) where
+  size-rows : (d : ℕ) → b .y0 + d ≤ b .y1 + 1 → sizeTo (rowsUnder columns b (b .y0 + d)) k ≡ d * (b .x1 + 1 - b .x0)
+  size-rows zero h =
+      let e : b .y0 + 0 ≡ b .y0 = omega arith in
+      rw e (size-none (rowsUnder columns b (b .y0)) k (λ c. rows-none columns b (b .y0) c (omega arith)) ∙ omega arith)
+  size-rows (suc d) h =
+      let y = b .y0 + d in
+      let e : b .y0 + suc d ≡ y + 1 = omega arith in
+      let end : y * columns + columns ≤ k = omega (arith, mul-le-mul-right {m = y + 1} {n = b .y1 + 1} columns (omega arith), add-mul y 1 columns) in
+      rw (e, suc-mul d)
+      (omega (
+        arith,
+        size-split (rowsUnder columns b y) (between (y * columns + b .x0) (y * columns + b .x1 + 1)) (rowsUnder columns b (y + 1)) k (row-more columns b y right (omega arith) (omega arith)),
+        size-rows d (omega arith),
+        size-between (y * columns + b .x0) (y * columns + b .x1 + 1) k (omega arith),
+      ))
+
+pub size-box : (columns : ℕ) (b : Cells) (rows : ℕ) → b .x1 < columns → b .y1 < rows → sizeTo (covers columns b) (rows * columns) ≡ areaOf b
+unfolding areaOf
+size-box columns b rows hx hy =
+    let k = rows * columns in
+    by-lt (b .x1) (b .x0)
+    (λ l. size-none (covers columns b) k (λ c. none-covered columns b c l) ∙ (let z : b .x1 + 1 - b .x0 ≡ 0 = omega arith in rw z (omega arith)))
+    (λ l.
+    by-lt (b .y1) (b .y0)
+    (λ m.
+    let z : b .y1 + 1 - b .y0 ≡ 0 = omega arith in
+    size-none (covers columns b) k (λ c. no-rows c m) ∙ (rw (z, mul-comm (b .x1 + 1 - b .x0) 0) (omega arith)))
+    (λ m.
+    let y = b .y0 + (b .y1 + 1 - b .y0) in
+    sym (size-as (rowsUnder columns b y) (covers columns b) k (λ c. rows-all columns b y c (omega arith)))
+    ∙ size-rows columns b k hx l (mul-le-mul-right {m = b .y1 + 1} {n = rows} columns (omega arith)) (b .y1 + 1 - b .y0) (omega arith)
+    ∙ mul-comm (b .y1 + 1 - b .y0) (b .x1 + 1 - b .x0)))
+  where
+    no-rows : (c : ℕ) → b .y1 < b .y0 → weight (covers columns b c) ≡ 0
+    no-rows c m = sym (rows-all columns b (b .y1 + 1) c (omega arith)) ∙ rows-none columns b (b .y1 + 1) c (omega arith)
+
+-- the area of a box with few rows and columns
+pub area-none : (b : Cells) → (b .x1 < b .x0) ⊎ (b .y1 < b .y0) → areaOf b ≡ 0
+unfolding areaOf
+area-none b (inl h) = let z : b .x1 + 1 - b .x0 ≡ 0 = omega arith in rw z (omega arith)
+area-none b (inr h) = let z : b .y1 + 1 - b .y0 ≡ 0 = omega arith in rw (z, mul-comm (b .x1 + 1 - b .x0) 0) (omega arith)
+
+pub area-small : (w h : ℕ) → w ≤ 65536 → h ≤ 65536 → w * h ≤ 4294967296
+area-small w h a b = omega (arith, mul-le-mul-right {m = w} {n = 65536} h a)
+
+-- one triangle more
+module _ (on : Cover) where
+  start-none : (k : ℕ) → startOf on 0 k ≡ 0
+  unfolding startOf listed membersOf
+  start-none zero = refl
+  start-none (suc k) = omega (arith, length-append (listed on 0 k) [], start-none k)
+
+  start-triangle : (n k : ℕ) → startOf on (suc n) k ≡ startOf on n k + sizeTo (on n) k
+  unfolding startOf listed sums
+  start-triangle n zero = omega arith
+  start-triangle n (suc k) =
+      omega
+      (arith, length-append (listed on (suc n) k) (membersOf on (suc n) k), length-append (listed on n k) (membersOf on n k), start-triangle n k, members-suc on n k)
+
+-- all members, triangle by triangle
+module _ (on : Cover) (columns rows : ℕ) (box : ℕ → Cells) (same : (i c : ℕ) → on i c ≡ covers columns (box i) c)
+    (right : (i : ℕ) → box i .x1 < columns) (top : (i : ℕ) → box i .y1 < rows) where
+  pub total-is : (n : ℕ) → sums (λ i. areaOf (box i)) n ≡ startOf on n (rows * columns)
+  unfolding sums
+  total-is zero = sym (start-none on (rows * columns))
+  total-is (suc n) =
+      omega (
+        arith,
+        total-is n,
+        start-triangle on n (rows * columns),
+        size-as (on n) (covers columns (box n)) (rows * columns) (λ c. ap weight (same n c)),
+        size-box columns (box n) rows (right n) (top n),
+      )
