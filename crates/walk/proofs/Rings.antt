@@ -2,8 +2,7 @@
 use mathlib.Core.Bool.{Bool, true, false, not, cond}
 use mathlib.Core.List.{List, [], _∷_, _++_}
 use mathlib.Core.Path.{_≡_, refl, ap, sym, _∙_}
-use Prim.Native.Nat.{ℕ, zero, suc, _+_, _-_, _*_, _^_, _≤_, _<_}
-use native.Mathlib.Nat.{mul-le-mul-right, add-mul}
+use Prim.Native.Nat.{ℕ, zero, suc, _+_, _-_, _^_, _≤_, _<_}
 use native.Mathlib.Numerals.{add-one}
 use native.Mathlib.Omega.{arith}
 use borrow.Author.Tests.{eq-eqb, eqb-true}
@@ -12,7 +11,7 @@ use lib.ListN.{length, getD, set, drop, length-set, drop-of-length-le}
 use lib.Seq.{drop-cons, set-getD}
 use Rattle.numbers.proofs.Branches.{either, taken, left}
 use Rattle.walk.specs.Walk.{Walk, over, fold}
-use Rattle.walk.specs.Steps.{look, strike, struck, unmarked, Room}
+use Rattle.walk.specs.Steps.{look, strike, struck, unmarked, Below, Room}
 
 -- ---- a fold over a list taken apart
 module _ {W : Type 0} (s : W → ℕ → W) where
@@ -117,6 +116,14 @@ module _ (stamp : ℕ) (blocks : ℕ → Bool) where
   stopped (m ∷ ms) w r p i =
       stopped ms w r p (ap (λ (u : Walk Bool). fold (strike stamp blocks) u ms) (left (w .value) w _ w p refl) ∙ i)
 
+-- what every member keeps a list keeps
+pub fold-keeps : {A : Type 0} (stamp : ℕ) (s : Walk A → ℕ → Walk A) → ((w : Walk A) (i : ℕ) → i < length (w .marks) → Kept stamp w (s w i)) → (ms : List ℕ) (w : Walk A) → Below (length (w .marks)) ms → Kept stamp w (fold s w ms)
+unfolding fold
+fold-keeps stamp s one [] w b = kept-same stamp w
+fold-keeps stamp s one (m ∷ ms) w b =
+    let k = one w m (b 0 (omega arith)) in
+    kept-trans k (fold-keeps stamp s one ms (s w m) (λ n h. rw (k .size) (b (suc n) (omega arith))))
+
 -- ---- a ring that began at w₀ with the numbers all before it, and stands at w with the numbers rest left; s is `look stamp step` or `strike stamp blocks`
 pub record Going {A : Type 0} (stamp : ℕ) (s : Walk A → ℕ → Walk A) (w₀ : Walk A) (all : List ℕ) (w : Walk A) (rest : List ℕ) : Type 0 where
   pub same : fold s w rest ≡ fold s w₀ all
@@ -151,8 +158,3 @@ module _ {stamp : ℕ} (blocks : ℕ → Bool) {w₀ : Walk Bool} {all : List �
   pub ring-blocks : (f : ℕ → List ℕ) (a b : ℕ) {w w′ : Walk Bool} → a < b → Going stamp (strike stamp blocks) w₀ all w (over f a (b - a)) → w′ ≡ fold (strike stamp blocks) w (f a) → w′ .value ≡ false → w′ ≡ fold (strike stamp blocks) w₀ all
   ring-blocks f a b {w} {w′} h g e c =
       stopped stamp blocks _ w′ _ c (ring-next (strike stamp blocks) f a b w w′ _ h (g .same) e)
-
--- cell (x, y) is one of the cells
-pub in-grid : (columns x x1 y y1 : ℕ) → x < x1 → x1 ≤ columns → y < y1 → y * columns + x < y1 * columns
-in-grid columns x x1 y y1 hx hc hy =
-    omega (arith, mul-le-mul-right {m = y + 1} {n = y1} columns (omega arith), add-mul y 1 columns)

@@ -1,11 +1,11 @@
 -- What the parts of a question's code promise each other: a walk as the code goes, one member after the other, and what that asks of the tables.
 use mathlib.Core.Bool.{Bool, not, cond}
 use mathlib.Core.List.{List, [], _∷_}
-use Prim.Native.Nat.{ℕ, _+_, _^_, _≤_, _<_}
+use Prim.Native.Nat.{ℕ, _+_, _*_, _^_, _≤_, _<_}
 use lib.Dec.{eqb}
 use lib.Ieee.{Float}
 use lib.ListN.{length, getD, set}
-use Rattle.walk.specs.Walk.{Walk}
+use Rattle.walk.specs.Walk.{Walk, cell}
 use Rattle.walk.specs.declared.Seen.{Seen}
 use Rattle.walk.specs.declared.Verdict.{Verdict}
 
@@ -46,3 +46,8 @@ pub record Stretch (starts members : List ℕ) (c : ℕ) : Type 0 where
   pub inside : c + 1 < length starts
   pub rises : getD starts c 0 ≤ getD starts (c + 1) 0
   pub within : getD starts (c + 1) 0 ≤ length members
+
+-- the cells of columns x0 up to x1 of rows y0 up to y1 can be walked: each stretch lies in the member table, and its numbers are below n
+pub record Walkable (starts members : List ℕ) (n columns x0 x1 y0 y1 : ℕ) : Type 0 where
+  pub stretch : (x y : ℕ) → x0 ≤ x → x < x1 → y0 ≤ y → y < y1 → Stretch starts members (y * columns + x)
+  pub below : (x y : ℕ) → x0 ≤ x → x < x1 → y0 ≤ y → y < y1 → Below n (cell starts members (y * columns + x))
