@@ -1,0 +1,4 @@
+pub mod Counts
+pub mod Heaps
+pub mod Orders
+pub mod Ranking
