@@ -1,8 +1,10 @@
--- What comes out by computing: phi and its power.
+-- What comes out by computing: phi, its power, and the worked examples.
 use mathlib.Core.Path.{_≡_, refl, ap, _∙_}
 use Prim.Native.Nat.{ℕ, zero, suc}
 use lib.Ieee.{size, units, odd, round, ofBits, sum, add, sub, neg, mul, div}
 use Rattle.numbers.specs.Root.{wholeRoot, nearestRoot, rootOfUnits, rootOf}
+use Rattle.numbers.specs.Rounding.{roundDownOf}
+use Rattle.numbers.specs.Worked.{Worked}
 use Rattle.numbers.specs.Golden.{powerOf, phiOf, phi60Of, phi, phi60}
 
 pub phi-is : phi ≡ phiOf
@@ -16,3 +18,7 @@ power-is = refl
 pub phi60-is : phi60 ≡ phi60Of
 unfolding phi60Of
 phi60-is = power-is ∙ ap (λ x. powerOf x 59) phi-is
+
+pub worked : Worked
+unfolding rootOf rootOfUnits nearestRoot wholeRoot size units odd round roundDownOf
+worked = record { nine = refl; smallest = refl; largest = refl; minus-zero = refl; minus-four = refl; infinite = refl; minus-half = refl; stays = refl }

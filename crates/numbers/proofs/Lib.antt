@@ -15,3 +15,5 @@ pub mod Hypots
 pub mod Counts
 pub mod Places
 pub mod Computed
+pub mod Signs
+pub mod Largest

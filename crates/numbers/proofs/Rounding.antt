@@ -28,7 +28,7 @@ up-is n d c z a b =
     low : (n d cd : ℕ) → 0 < d → cd < n + d → cd ≤ n + (d - 1)
     low n d cd z b = omega arith
 
-up-says : (n d : ℕ) → 0 < d → (n ≤ (n + (d - 1)) / d * d) × ((n + (d - 1)) / d * d < n + d)
+pub up-says : (n d : ℕ) → 0 < d → (n ≤ (n + (d - 1)) / d * d) × ((n + (d - 1)) / d * d < n + d)
 up-says n d z =
     let e = div-add-mod' (n + (d - 1)) d in
     let l = mod-lt (n + (d - 1)) z in

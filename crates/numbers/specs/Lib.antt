@@ -5,3 +5,4 @@ pub mod Parts
 pub mod Hypot
 pub mod Order
 pub mod Golden
+pub mod Worked

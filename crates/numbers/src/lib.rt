@@ -13,6 +13,8 @@ ghost use Rattle.numbers.specs.Hypot.{hypotOf, infinite};
 ghost use Rattle.numbers.specs.Root.{Nearest, rootOf};
 ghost use Rattle.numbers.specs.Parts.{Exponent, lifted};
 
+pub mod laws;
+
 const FRACTION: u64 = 0xf_ffff_ffff_ffff;
 
 const MINUS_ONE: f64 = -1.0;

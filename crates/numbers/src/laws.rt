@@ -1,0 +1,45 @@
+// Theorems about the numbers, each the contract of a function so that the check proves it. Nothing calls these.
+ghost use mathlib.Core.Path.{_≡_};
+ghost use mathlib.Core.Bool.{true};
+ghost use lib.Dec.{T};
+ghost use lib.Ieee.{le};
+ghost use lib.Ieee.Positive.{positive};
+ghost use Rattle.numbers.specs.Root.{rootOf, RootBetween};
+ghost use Rattle.numbers.specs.Rounding.{roundDownOf, RoundsDown};
+ghost use Rattle.numbers.specs.Order.{totalLess, TotalOrder};
+ghost use Rattle.numbers.specs.Worked.{Worked};
+
+// The root is the nearest f64: a finite x above zero lies between the squares of what is midway to the root's two neighbours.
+pub fn root_is_nearest(x: f64) -> f64
+    ensures { λ r. ⌜ (r ≡ rootOf x) × (T (positive x) → RootBetween x r) ⌝ }
+{
+    crate::root(x)
+}
+
+// Roots stand in the order of what they are roots of.
+pub fn roots_in_order(x: f64, y: f64) -> bool
+    ensures { λ r. ⌜ (T (positive x) → T (positive y) → T (le x y) → T r) ⌝ }
+{
+    crate::root(x) <= crate::root(y)
+}
+
+// Rounding down gives the largest whole number not above, keeps the order of x and y, and agrees with truncating.
+pub fn round_down_is_largest(x: f64, y: f64) -> f64
+    ensures { λ r. ⌜ (r ≡ roundDownOf x) × RoundsDown x y ⌝ }
+{
+    crate::round_down(x)
+}
+
+// The total order is one: total, antisymmetric and transitive, on all f64.
+pub fn order_is_total(x: f64, y: f64, z: f64) -> bool
+    ensures { λ r. ⌜ (r ≡ totalLess x y) × TotalOrder x y z ⌝ }
+{
+    crate::total_less(x, y)
+}
+
+// Worked examples, which come out by computing the definitions: the root of 9, of the smallest and of the largest f64, and the rounding down of -1/2.
+pub fn worked_examples() -> bool
+    ensures { λ r. ⌜ (r ≡ true) × Worked ⌝ }
+{
+    true
+}
