@@ -1,0 +1,38 @@
+use native.Mathlib.Omega.{arith}
+use borrow.Author.Needs.{needs}
+use denote.Ref.{now}
+use Rattle.job.proofs.Reading.{exactly, refused-is, accepted-is, counts-within, ready}
+use Rattle.job.proofs.read_job.Statement.{statement}
+use Rattle.job.proofs.read_job.Tie as tie
+
+returns : tie.Need-returns
+returns c =
+    let e = refused-is _ _ _ _ (c .before .refusal .ensures) (c .if1 .taken) in
+    (e, exactly _ _ _ _ e)
+
+u32-at-requires : tie.Need-u32-at-requires
+u32-at-requires c κs =
+    let a = c .before .before .before .before .before .args in
+    omega (arith, counts-within _ (now (a .mesh)) (now (a .questions)) _ (c .before .refusal .ensures) (c .if1 .left))
+
+u32-at-requires-2 : tie.Need-u32-at-requires-2
+u32-at-requires-2 c κs =
+    let a = c .before .before .before .before .before .before .args in
+    counts-within _ (now (a .mesh)) (now (a .questions)) _ (c .before .before .refusal .ensures) (c .before .if1 .left)
+
+decoded-requires : tie.Need-decoded-requires
+decoded-requires c κs =
+    let d = c .before .before .before .before in
+    let a = d .before .before .before .before .before .args in
+    ready _ (now (a .mesh)) (now (a .questions)) _ (d .before .refusal .ensures) (d .if1 .left) _ _ (c .before .before .before .u32-at .ensures) (c .before .before .u32-at2 .ensures)
+
+returns-2 : tie.Need-returns-2
+returns-2 c =
+    let d = c .before .before .before .before in
+    let k = d .before .before .before in
+    let b = k .before .before in
+    let e = accepted-is _ _ _ _ (b .before .refusal .ensures) (b .if1 .left) _ _ _ (k .before .u32-at .ensures) (k .u32-at2 .ensures) (d .decoded .ensures) in
+    (e, exactly _ _ _ _ e)
+
+pub read-job-spec : {M : Type 1} → statement M
+read-job-spec = tie.close (tie.spec (λ c κs. tt) returns u32-at-requires u32-at-requires-2 decoded-requires (λ c. search needs) (λ c. search needs) returns-2)

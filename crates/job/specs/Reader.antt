@@ -1,0 +1,113 @@
+-- Document 01, "The job file": which jobs are refused, and what reading one answers and leaves in the lent tables.
+use mathlib.Core.Bool.{Bool, true, false, not, cond}
+use mathlib.Core.Path.{_≡_}
+use mathlib.Core.List.{List, [], _∷_, _++_}
+use Prim.Native.Nat.{ℕ, zero, suc, _+_, _*_, _/_, _≤_, _<_}
+use lib.Dec.{eqb, ltb}
+use lib.Ieee.{Float, nan, inf, fin, binary64, ofBits}
+use lib.ListN.{length, drop}
+use Rattle.numbers.specs.Reals.{f0}
+use Rattle.job.specs.Layout.{value, mark, version, zeroByte, triangles, questions, number, numbers, meshFrom, questionsFrom, bytesOf, headBytes, letters, wide}
+use Rattle.job.specs.declared.Read.{Read}
+use Rattle.job.specs.declared.Place.{Place}
+use Rattle.job.specs.declared.Place.the-variants.{Nowhere, At}
+
+-- number k of a job, from its bits
+unfoldable pub numberOf : List ℕ → ℕ → Float
+numberOf bytes k = ofBits binary64 (value (number wide k) bytes)
+
+-- c numbers of a job from number k on
+unfoldable pub numbersOf : List ℕ → ℕ → ℕ → List Float
+numbersOf bytes k zero = []
+numbersOf bytes k (suc c) = numberOf bytes k ∷ numbersOf bytes (k + 1) c
+
+-- neither an infinity nor a NaN
+unfoldable pub finite : Float → Bool
+finite nan = false
+finite (inf s) = false
+finite (fin s m e) = true
+
+-- the first of c numbers from number k on that is not finite
+unfoldable pub firstBad : List ℕ → ℕ → ℕ → Place
+firstBad bytes k zero = Nowhere
+firstBad bytes k (suc c) = cond (finite (numberOf bytes k)) (firstBad bytes (k + 1) c) (At k)
+
+unfoldable pub somewhere : Place → Bool
+somewhere Nowhere = false
+somewhere (At k) = true
+
+-- ---- refusals: k where the test holds, else the next
+
+unfoldable pub refuse : Bool → ℕ → ℕ → ℕ
+refuse b k next = cond b k next
+
+-- over 65,536 or over the lent room
+unfoldable pub tooMany : ℕ → ℕ → Bool
+tooMany n room = cond (ltb 65536 n) true (ltb room n)
+
+-- 20 a number not finite
+unfoldable pub refusalOfNumbers : List ℕ → ℕ → ℕ
+refusalOfNumbers bytes count = refuse (somewhere (firstBad bytes 0 count)) 20 0
+
+-- 18 n of 0, or n or m over 65,536 or over the lent room; 19 length not 30 + 72n + 40m
+unfoldable pub refusalOfCounts : List ℕ → ℕ → ℕ → ℕ → ℕ → ℕ
+refusalOfCounts bytes n m nroom mroom =
+    refuse (eqb n 0) 18
+    (refuse (tooMany n nroom) 18
+    (refuse (tooMany m mroom) 18
+    (refuse (not (eqb (length bytes) (bytesOf wide n m))) 19
+    (refusalOfNumbers bytes (numbers n m)))))
+
+-- 14 under 30 bytes; 15 mark; 16 version; 17 sixth byte not 0
+unfoldable pub refusalOf : List ℕ → ℕ → ℕ → ℕ
+refusalOf bytes nroom mroom =
+    refuse (ltb (length bytes) (headBytes wide)) 14
+    (refuse (not (eqb (value mark bytes) letters)) 15
+    (refuse (not (eqb (value version bytes) 1)) 16
+    (refuse (not (eqb (value zeroByte bytes) 0)) 17
+    (refusalOfCounts bytes (value triangles bytes) (value questions bytes) nroom mroom))))
+
+-- ---- reading
+
+-- the answer, and both lent tables afterwards
+pub record Outcome : Type 0 where
+  pub answer : Read
+  pub mesh : List Float
+  pub questions : List Float
+
+abbrev pub ended : Read → List Float → List Float → Outcome
+ended a ms qs = record { answer = a; mesh = ms; questions = qs }
+
+-- a refusal leaves both tables as they were
+abbrev pub refusedBy : ℕ → Read
+refusedBy k = record { refusal = k; n = 0; m = 0; floor = f0; radius = f0 }
+
+-- an accepted job's numbers stand first in each table, and the entries beyond them stay
+unfoldable pub acceptedOf : List ℕ → ℕ → ℕ → List Float → List Float → Outcome
+acceptedOf bytes n m mesh qs =
+    ended
+    (record { refusal = 0; n = n; m = m; floor = numberOf bytes 0; radius = numberOf bytes 1 })
+    (numbersOf bytes meshFrom (9 * n) ++ drop (9 * n) mesh)
+    (numbersOf bytes (questionsFrom n) (5 * m) ++ drop (5 * m) qs)
+
+-- room is a table's length over nine or five, rounded down
+unfoldable pub readOf : List ℕ → List Float → List Float → Outcome
+readOf bytes mesh qs =
+    let k = refusalOf bytes (length mesh / 9) (length qs / 5) in
+    cond (eqb k 0) (acceptedOf bytes (value triangles bytes) (value questions bytes) mesh qs) (ended (refusedBy k) mesh qs)
+
+-- ---- the jobs that are accepted: exactly these are
+
+pub record Sound (bytes : List ℕ) (nroom mroom : ℕ) : Type 0 where
+  pub marked : value mark bytes ≡ letters
+  pub first : value version bytes ≡ 1
+  pub clear : value zeroByte bytes ≡ 0
+  pub some : 1 ≤ value triangles bytes
+  pub few : (value triangles bytes ≤ 65536) × (value triangles bytes ≤ nroom)
+  pub few-questions : (value questions bytes ≤ 65536) × (value questions bytes ≤ mroom)
+  pub whole : length bytes ≡ bytesOf wide (value triangles bytes) (value questions bytes)
+  pub finite-all : (k : ℕ) → k < numbers (value triangles bytes) (value questions bytes) → finite (numberOf bytes k) ≡ true
+
+-- k is 0 where the job is sound, and only there
+abbrev pub SoundExactly : List ℕ → ℕ → ℕ → ℕ → Type 0
+SoundExactly bytes nroom mroom k = (k ≡ 0 → Sound bytes nroom mroom) × (Sound bytes nroom mroom → k ≡ 0)
