@@ -1,0 +1,102 @@
+-- Document 01, "Refusal numbers": refusals 1, 3, 2, 4, 5 and 6 in this order, and what the builder answers and leaves in both tables.
+use mathlib.Core.Bool.{Bool, true, false, cond}
+use mathlib.Core.List.{List}
+use Prim.Native.Nat.{ℕ, _+_, _*_, _%_}
+use lib.Dec.{ltb, eqb}
+use lib.ListN.{length}
+use lib.Ieee.{Float}
+use Rattle.numbers.specs.Reals.{f0}
+use Rattle.spans.specs.Mesh.{isCoordinate, isRadius, firstBad}
+use Rattle.spans.specs.declared.Place.{Place}
+use Rattle.spans.specs.declared.Place.the-variants.{Nowhere, At}
+use Rattle.cells.specs.Cover.{startOf, startsOf, membersTable}
+use Rattle.grid.specs.declared.Grid.{Grid}
+use Rattle.grid.specs.declared.Header.{Header}
+use Rattle.grid.specs.declared.Built.{Built}
+use Rattle.grid.specs.Grid.{trianglesIn, gridOf, cellsIn, coverOf}
+use Rattle.grid.specs.Header.{headed}
+
+-- Refusal k where b holds, or where it does not; else the next.
+unfoldable pub refuse : Bool → ℕ → ℕ → ℕ
+refuse b k next = cond b k next
+
+unfoldable pub demand : Bool → ℕ → ℕ → ℕ
+demand b k next = cond b next k
+
+-- No place was found.
+unfoldable pub isNowhere : Place → Bool
+isNowhere Nowhere = true
+isNowhere (At k) = false
+
+-- 2: floor or r outside its range. 4: a coordinate not finite or over 1e6.
+unfoldable pub refusalOfNumbers : List Float → Float → Float → ℕ
+refusalOfNumbers mesh floor r =
+    demand (isCoordinate floor) 2
+    (demand (isRadius r) 2
+    (demand (isNowhere (firstBad mesh)) 4
+    0))
+
+-- 1: mesh not a multiple of 9 or over 65,536 triangles. 3: mesh empty.
+unfoldable pub refusalOfMesh : List Float → Float → Float → ℕ
+refusalOfMesh mesh floor r =
+    demand (eqb (length mesh % 9) 0) 1
+    (refuse (ltb 65536 (trianglesIn mesh)) 1
+    (refuse (eqb (trianglesIn mesh) 0) 3
+    (refusalOfNumbers mesh floor r)))
+
+-- 5: columns or rows over 65,536, cells over 1,048,576, or cells + 1 over the lent starts.
+unfoldable pub refusalOfGrid : ℕ → ℕ → ℕ → ℕ
+refusalOfGrid columns rows lent =
+    refuse (ltb 65536 columns) 5
+    (refuse (ltb 65536 rows) 5
+    (refuse (ltb 1048576 (rows * columns)) 5
+    (refuse (ltb lent (rows * columns + 1)) 5
+    0)))
+
+-- 6: members over 16,777,216 or over the lent room.
+unfoldable pub refusalOfMembers : ℕ → ℕ → ℕ
+refusalOfMembers k lent =
+    refuse (ltb 16777216 k) 6
+    (refuse (ltb lent k) 6
+    0)
+
+-- What the builder leaves: its answer and both tables.
+pub record Outcome : Type 0 where
+  pub built : Built
+  pub starts : List ℕ
+  pub members : List ℕ
+
+abbrev pub outcome : Built → List ℕ → List ℕ → Outcome
+outcome b s m = record { built = b; starts = s; members = m }
+
+-- The answer of a refused build: its number and a header all zero.
+unfoldable pub refusedBy : ℕ → Built
+refusedBy k =
+    record {
+        refusal = k;
+        header = record { n = 0; «origin_x» = f0; «origin_y» = f0; cell = f0; columns = 0; rows = 0; floor = f0; eps = f0; r = f0 }
+    }
+
+unfoldable pub acceptedWith : Header → Built
+acceptedWith h = record { refusal = 0; header = h }
+
+-- Refused by k with both tables untouched; where k is 0, what comes next.
+unfoldable pub unless : ℕ → List ℕ → List ℕ → Outcome → Outcome
+unless k s m next = cond (eqb k 0) next (outcome (refusedBy k) s m)
+
+-- Refusal 6, or the header and both tables.
+unfoldable pub filledOf : List Float → ℕ → Grid → Float → Float → List ℕ → List ℕ → Outcome
+filledOf mesh n g floor r s m =
+    let on = coverOf mesh g in
+    unless (refusalOfMembers (startOf on n (cellsIn g)) (length m)) s m
+    (outcome (acceptedWith (headed mesh n g floor r)) (startsOf on n (cellsIn g) s) (membersTable on n (cellsIn g) m))
+
+-- Refusal 5, then as above.
+unfoldable pub gridded : List Float → ℕ → Grid → Float → Float → List ℕ → List ℕ → Outcome
+gridded mesh n g floor r s m = unless (refusalOfGrid (g .columns) (g .rows) (length s)) s m (filledOf mesh n g floor r s m)
+
+-- The builder: refusals 1, 3, 2 and 4, then as above.
+unfoldable pub buildOf : List Float → Float → Float → List ℕ → List ℕ → Outcome
+buildOf mesh floor r s m =
+    let n = trianglesIn mesh in
+    unless (refusalOfMesh mesh floor r) s m (gridded mesh n (gridOf mesh n r) floor r s m)

@@ -1,0 +1,49 @@
+-- Document 01, "Mesh, grid and marks": what a header records, and its ranges.
+use mathlib.Core.Bool.{Bool, _&&_}
+use mathlib.Core.List.{List}
+use Prim.Native.Nat.{ℕ, _*_}
+use lib.Dec.{leb}
+use lib.Ieee.{Float, lt, le}
+use Rattle.numbers.specs.Reals.{f0, millionth, twoMillion, twoMillionths}
+use Rattle.spans.specs.Mesh.{isCoordinate, isRadius, epsOf}
+use Rattle.cells.specs.Cover.{Cover, isFrom}
+use Rattle.grid.specs.declared.Grid.{Grid}
+use Rattle.grid.specs.declared.Header.{Header}
+use Rattle.grid.specs.Grid.{trianglesIn, gridOf, coverOf}
+
+-- The header of a mesh, with the grid over it, floor and r.
+unfoldable pub headed : List Float → ℕ → Grid → Float → Float → Header
+headed mesh n g floor r =
+    record {
+        n = n;
+        «origin_x» = g .x;
+        «origin_y» = g .y;
+        cell = g .size;
+        columns = g .columns;
+        rows = g .rows;
+        floor = floor;
+        eps = epsOf mesh n;
+        r = r
+    }
+
+unfoldable pub headerOf : List Float → Float → Float → Header
+headerOf mesh floor r = headed mesh (trianglesIn mesh) (gridOf mesh (trianglesIn mesh) r) floor r
+
+-- The grid that a header records.
+abbrev pub gridIn : Header → Grid
+gridIn h = record { x = h .«origin_x»; y = h .«origin_y»; size = h .cell; columns = h .columns; rows = h .rows }
+
+-- Which triangle of a mesh covers which cell of a header's grid.
+abbrev pub coversOf : List Float → Header → Cover
+coversOf mesh h i c = coverOf mesh (gridIn h) i c
+
+-- The header's ranges: n 1 to 65,536; origin and floor as coordinates; cell size 1e-6 to 2e6; columns, rows and cells at least 1 and within
+-- refusal 5; 0 < eps <= 2e-6; r 0 to 1e6.
+unfoldable pub inRanges : Header → Bool
+inRanges h =
+    isFrom 1 65536 (h .n)
+    && (isCoordinate (h .«origin_x») && (isCoordinate (h .«origin_y») && (isCoordinate (h .floor)
+    && ((le millionth (h .cell) && le (h .cell) twoMillion)
+    && (isFrom 1 65536 (h .columns) && (isFrom 1 65536 (h .rows) && (isFrom 1 1048576 (h .rows * h .columns)
+    && ((lt f0 (h .eps) && le (h .eps) twoMillionths)
+    && isRadius (h .r)))))))))

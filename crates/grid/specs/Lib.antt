@@ -1,0 +1,4 @@
+pub mod Grid
+pub mod Header
+pub mod Build
+pub mod Indexed

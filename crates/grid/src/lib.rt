@@ -1,0 +1,269 @@
+// The index of a mesh: a grid over it, and for each cell the triangles that cover it, in two lent tables.
+ghost use mathlib.Core.Path.{_≡_};
+ghost use Prim.Native.Nat.{_+_, _*_, _/_, _^_, _<_, _≤_};
+ghost use lib.ListN.{length};
+ghost use Rattle.cells.specs.Cover.{startsOf, membersTable};
+ghost use Rattle.cells.specs.Steps.{Room, CountedAll, Ready, Filled, Fits};
+ghost use Rattle.grid.specs.Grid.{trianglesIn, gridOf, cellsIn, cellsOf, coverOf, totalOf};
+ghost use Rattle.grid.specs.Header.{headed};
+ghost use Rattle.grid.specs.Build.{refusalOfNumbers, refusalOfMesh, refusalOfGrid, refusalOfMembers, outcome, refusedBy, filledOf, gridded, buildOf};
+ghost use Rattle.grid.specs.Indexed.{Indexed, Gridded};
+
+// Where a grid begins, how large its cells are, and how many there are.
+pub struct Grid {
+    pub x: f64,
+    pub y: f64,
+    pub size: f64,
+    pub columns: usize,
+    pub rows: usize,
+}
+
+// What an index records of its mesh and its grid.
+pub struct Header {
+    pub n: usize,
+    pub origin_x: f64,
+    pub origin_y: f64,
+    pub cell: f64,
+    pub columns: usize,
+    pub rows: usize,
+    pub floor: f64,
+    pub eps: f64,
+    pub r: f64,
+}
+
+// The builder's answer: refusal 0 and the header, or a refusal and a header all zero.
+pub struct Built {
+    pub refusal: u32,
+    pub header: Header,
+}
+
+// The index of a mesh: starts and members hold its tables, and entries that they do not need stay. A refused call changes neither.
+pub fn build(mesh: &[f64], floor: f64, r: f64, starts: &mut [u32], members: &mut [u32]) -> Built
+    ensures { λ b. ⌜ outcome b (now (starts .exit)) (now (members .exit)) ≡ buildOf (now (mesh .entry)) floor r (now (starts .entry)) (now (members .entry)) ⌝ }
+    ensures { λ b. ⌜ (b .refusal ≡ 0 → Indexed (now (mesh .entry)) (b .header) (now (starts .exit)) (now (members .exit))) ⌝ }
+{
+    let k = refusal_of_mesh(mesh, floor, r);
+    if k != 0 {
+        return refused(k);
+    }
+    build_grid(mesh, floor, r, starts, members)
+}
+
+// The answer of a refused call.
+fn refused(k: u32) -> Built
+    ensures { λ b. ⌜ b ≡ refusedBy k ⌝ }
+{
+    let header = Header {
+        n: 0,
+        origin_x: 0.0,
+        origin_y: 0.0,
+        cell: 0.0,
+        columns: 0,
+        rows: 0,
+        floor: 0.0,
+        eps: 0.0,
+        r: 0.0,
+    };
+    Built { refusal: k, header }
+}
+
+// Refusals 1, 3, 2 and 4.
+fn refusal_of_mesh(mesh: &[f64], floor: f64, r: f64) -> u32
+    ensures { λ k. ⌜ k ≡ refusalOfMesh (now (mesh .entry)) floor r ⌝ }
+{
+    if mesh.len() % 9 != 0 {
+        return 1;
+    }
+    let n = mesh.len() / 9;
+    if 65536 < n {
+        return 1;
+    }
+    if n == 0 {
+        return 3;
+    }
+    refusal_of_numbers(mesh, floor, r)
+}
+
+// Refusals 2 and 4.
+fn refusal_of_numbers(mesh: &[f64], floor: f64, r: f64) -> u32
+    ensures { λ k. ⌜ k ≡ refusalOfNumbers (now (mesh .entry)) floor r ⌝ }
+{
+    if !spans::is_coordinate(floor) {
+        return 2;
+    }
+    if !spans::is_radius(r) {
+        return 2;
+    }
+    match spans::first_bad(mesh) {
+        spans::Place::Nowhere => 0,
+        spans::Place::At(_) => 4,
+    }
+}
+
+// The grid over the first n triangles.
+fn grid_of(mesh: &[f64], n: usize, r: f64) -> Grid
+    requires { ⌜ n * 9 ≤ length (now mesh) ⌝ }
+    requires { ⌜ (gridOf (now mesh) n r .columns < 2 ^ 64) × (gridOf (now mesh) n r .rows < 2 ^ 64) ⌝ }
+    ensures { λ g. ⌜ g ≡ gridOf (now (mesh .entry)) n r ⌝ }
+{
+    let e = spans::extent_of(mesh, n);
+    let size = spans::size(n, spans::span(e, r), r);
+    let columns = spans::cells_along(e.left, e.right, size);
+    let rows = spans::cells_along(e.bottom, e.top, size);
+    Grid {
+        x: e.left,
+        y: e.bottom,
+        size,
+        columns,
+        rows,
+    }
+}
+
+// Refusal 5.
+fn refusal_of_grid(columns: usize, rows: usize, lent: usize) -> u32
+    ensures { λ k. ⌜ k ≡ refusalOfGrid columns rows lent ⌝ }
+{
+    if 65536 < columns {
+        return 5;
+    }
+    if 65536 < rows {
+        return 5;
+    }
+    let cells = rows * columns;
+    if 1048576 < cells {
+        return 5;
+    }
+    if lent < cells + 1 {
+        return 5;
+    }
+    0
+}
+
+// Refusal 6.
+fn refusal_of_members(k: usize, lent: usize) -> u32
+    ensures { λ q. ⌜ q ≡ refusalOfMembers k lent ⌝ }
+{
+    if 16777216 < k {
+        return 6;
+    }
+    if lent < k {
+        return 6;
+    }
+    0
+}
+
+// The index of a mesh that refusals 1 to 4 pass.
+fn build_grid(mesh: &[f64], floor: f64, r: f64, starts: &mut [u32], members: &mut [u32]) -> Built
+    requires { ⌜ refusalOfMesh (now mesh) floor r ≡ 0 ⌝ }
+    ensures { λ b. ⌜ outcome b (now (starts .exit)) (now (members .exit)) ≡ gridded (now (mesh .entry)) (trianglesIn (now (mesh .entry))) (gridOf (now (mesh .entry)) (trianglesIn (now (mesh .entry))) r) floor r (now (starts .entry)) (now (members .entry)) ⌝ }
+{
+    let n = mesh.len() / 9;
+    let g = grid_of(mesh, n, r);
+    let k = refusal_of_grid(g.columns, g.rows, starts.len());
+    if k != 0 {
+        return refused(k);
+    }
+    fill_grid(mesh, n, g, floor, r, starts, members)
+}
+
+// The tables of a grid, or refusal 6.
+fn fill_grid(mesh: &[f64], n: usize, g: Grid, floor: f64, r: f64, starts: &mut [u32], members: &mut [u32]) -> Built
+    requires { ⌜ Gridded (now mesh) n g ⌝ }
+    requires { ⌜ cellsIn g + 1 ≤ length (now starts) ⌝ }
+    ensures { λ b. ⌜ outcome b (now (starts .exit)) (now (members .exit)) ≡ filledOf (now (mesh .entry)) n g floor r (now (starts .entry)) (now (members .entry)) ⌝ }
+{
+    let k = refusal_of_members(total(mesh, n, g), members.len());
+    if k != 0 {
+        return refused(k);
+    }
+    tables(mesh, n, g, starts, members);
+    let header = header_of(mesh, n, g, floor, r);
+    Built { refusal: 0, header }
+}
+
+// What is recorded of n triangles under a grid.
+fn header_of(mesh: &[f64], n: usize, g: Grid, floor: f64, r: f64) -> Header
+    requires { ⌜ n * 9 ≤ length (now mesh) ⌝ }
+    ensures { λ h. ⌜ h ≡ headed (now (mesh .entry)) n g floor r ⌝ }
+{
+    let eps = spans::eps(mesh, n);
+    Header {
+        n,
+        origin_x: g.x,
+        origin_y: g.y,
+        cell: g.size,
+        columns: g.columns,
+        rows: g.rows,
+        floor,
+        eps,
+        r,
+    }
+}
+
+// The cells of triangle i.
+fn cells_of(mesh: &[f64], g: Grid, i: usize) -> cells::Cells
+    requires { ⌜ (i * 9 + 9 ≤ length (now mesh)) × (0 < g .columns) × (0 < g .rows) ⌝ }
+    ensures { λ b. ⌜ b ≡ cellsOf (now (mesh .entry)) g i ⌝ }
+{
+    let b = spans::box_of(mesh, i);
+    let x = spans::stretch_of(g.x, g.size, g.columns, b.low_x, b.high_x);
+    let y = spans::stretch_of(g.y, g.size, g.rows, b.low_y, b.high_y);
+    cells::Cells {
+        x0: x.first,
+        x1: x.last,
+        y0: y.first,
+        y1: y.last,
+    }
+}
+
+// How many members n triangles have.
+fn total(mesh: &[f64], n: usize, g: Grid) -> usize
+    requires { ⌜ Gridded (now mesh) n g ⌝ }
+    ensures { λ t. ⌜ t ≡ totalOf (now (mesh .entry)) g n ⌝ }
+{
+    let mut t: usize = 0;
+    for i in 0..n {
+        t += cells::area(cells_of(mesh, g, i));
+    }
+    t
+}
+
+// Both tables of n triangles.
+fn tables(mesh: &[f64], n: usize, g: Grid, starts: &mut [u32], members: &mut [u32])
+    requires { ⌜ Gridded (now mesh) n g ⌝ }
+    requires { ⌜ Fits (coverOf (now mesh) g) n (cellsIn g) (now starts) (now members) ⌝ }
+    ensures { λ _. ⌜ now (starts .exit) ≡ startsOf (coverOf (now (mesh .entry)) g) n (cellsIn g) (now (starts .entry)) ⌝ }
+    ensures { λ _. ⌜ now (members .exit) ≡ membersTable (coverOf (now (mesh .entry)) g) n (cellsIn g) (now (members .entry)) ⌝ }
+{
+    let cells = g.rows * g.columns;
+    cells::clear(starts, cells + 1);
+    count_all(mesh, n, g, starts);
+    cells::sum_up(starts, cells + 1);
+    fill(mesh, n, g, cells, starts, members);
+}
+
+// The number of triangles in each cell, added to its entry.
+fn count_all(mesh: &[f64], n: usize, g: Grid, starts: &mut [u32])
+    requires { ⌜ Gridded (now mesh) n g ⌝ }
+    requires { ⌜ Room (coverOf (now mesh) g) n (now starts) ⌝ }
+    ensures { λ _. ⌜ CountedAll (coverOf (now (mesh .entry)) g) n (now (starts .entry)) (now (starts .exit)) ⌝ }
+{
+    let columns = g.columns;
+    for i in 0..n {
+        cells::count_cells(starts, columns, cells_of(mesh, g, i));
+    }
+}
+
+// Every triangle put in each of its cells, from the last one back: each start goes from its cell's end down to its begin.
+fn fill(mesh: &[f64], n: usize, g: Grid, cells: usize, starts: &mut [u32], members: &mut [u32])
+    requires { ⌜ Gridded (now mesh) n g ⌝ }
+    requires { ⌜ Ready (coverOf (now mesh) g) n cells (now starts) (now members) ⌝ }
+    ensures { λ _. ⌜ Filled (coverOf (now (mesh .entry)) g) n cells 0 (now (starts .entry)) (now (members .entry)) (now (starts .exit)) (now (members .exit)) ⌝ }
+{
+    let columns = g.columns;
+    let mut i = n;
+    while 0 < i {
+        i -= 1;
+        cells::place_cells(starts, members, columns, cells_of(mesh, g, i), i as u32);
+    }
+}

@@ -1,0 +1,86 @@
+-- Truncation where the fraction is all there is, and where the range ends.
+use mathlib.Core.Bool.{Bool, true, false, not, cond, _&&_, _||_}
+use mathlib.Core.Path.{_≡_, refl, ap, sym, _∙_}
+use Prim.Native.Nat.{ℕ, zero, suc, _+_, _-_, _*_, _/_, _^_, _≤_, _<_, min}
+use native.Mathlib.Nat.{one-mul, mul-one, div-eq-of-lt, le-div-iff-mul-le, eq-or-lt-of-le}
+use native.Mathlib.Omega.{arith}
+use borrow.Author.Tests.{ltb-true, ltb-false, eqb-true, eqb-false}
+use lib.Dec.{T, ltb, eqb, lt→ltb}
+use lib.IntN.{ℤ, pos, negsuc}
+use lib.Ieee.{Float, nan, inf, fin, binary64, ofBits, up, down, lt, le, eq, toUnsigned}
+use lib.Ieee.Fits.{down-pos}
+use lib.Pow.{pow-pos}
+use Rattle.numbers.specs.Reals.{f1}
+
+-- 2 ^ 64
+abbrev pub past64 : Float
+past64 = ofBits binary64 0x43f0_0000_0000_0000
+
+pub f1-is : f1 ≡ fin false 1 (pos 0)
+unfolding ofBits
+f1-is = refl
+
+pub past64-is : past64 ≡ fin false 1 (pos 64)
+unfolding ofBits
+past64-is = refl
+
+pub holds : (b : Bool) → b ≡ true → T b
+holds b e = rw e tt
+
+no : true ≡ false → ⊥
+no z = let k : _≡_ {A = ℕ} 0 1 = cc in omega arith
+
+-- the order of two numbers that are not negative, as `le` has it
+above : (a b : ℕ) → (ltb a b || (eqb a b && true)) ≡ false → b < a
+above a b e = by-lt (ltb a b) (eqb a b) (ltb-false a b) (eqb-false a b) e
+  where
+    by-lt : (t u : Bool) → (t ≡ false → b ≤ a) → (u ≡ false → a ≡ b → ⊥) → (t || (u && true)) ≡ false → b < a
+    by-lt true u p q e = absurd (no e)
+    by-lt false true p q e = absurd (no e)
+    by-lt false false p q e = let h = p refl in let k = q refl in omega arith
+
+min-low : (a b : ℕ) → a ≡ 0 → min a b ≡ 0
+min-low a b e = omega arith
+
+min-high : (a b : ℕ) → b ≤ a → min a b ≡ b
+min-high a b h = omega arith
+
+-- a number that is not negative and above zero is not at most one that is negative
+not-level : (a : ℕ) (t : Bool) → 0 < a → (t && eqb a 0) ≡ true → ⊥
+not-level a true h e = let z = eqb-true a 0 e in omega arith
+not-level a false h e = no (sym e)
+
+one-pos : (k : ℤ) → 0 < 1 * down k
+one-pos k = omega (arith, one-mul (down k), down-pos k)
+
+-- below 1 nothing is left
+pub cut-low : (x : Float) → le (fin false 1 (pos 0)) x ≡ false → toUnsigned 64 x ≡ 0
+unfolding toUnsigned le
+cut-low nan e = refl
+cut-low (inf true) e = refl
+cut-low (inf false) e = absurd (no e)
+cut-low (fin true m k) e = refl
+cut-low (fin false m k) e =
+    let h = above (1 * down k) (m * up k * 1) e in
+    min-low (m * up k / down k) (2 ^ 64 - 1) (div-eq-of-lt (omega (arith, one-mul (down k), mul-one (m * up k))))
+
+-- from 2 ^ 64 on it is the largest
+pub cut-high : (x : Float) → le (fin false 1 (pos 0)) x ≡ true → lt x (fin false 1 (pos 64)) ≡ false → toUnsigned 64 x ≡ 2 ^ 64 - 1
+unfolding toUnsigned le lt eq
+cut-high nan e f = absurd (no (sym e))
+cut-high (inf true) e f = absurd (no (sym e))
+cut-high (inf false) e f = refl
+cut-high (fin true m k) e f = absurd (not-level (1 * down k) (eqb (1 * down k) (m * up k * 1)) (one-pos k) e)
+cut-high (fin false m k) e f =
+    let h : 2 ^ 64 * down k ≤ m * up k = omega (arith, ltb-false (m * up k * 1) (2 ^ 64 * down k) f, mul-one (m * up k)) in
+    let g : 2 ^ 64 ≤ m * up k / down k = le-div-iff-mul-le (down-pos k) .1 h in
+    min-high (m * up k / down k) (2 ^ 64 - 1) (omega arith)
+
+-- what the cast asks of a number that is 1 or more
+pub cut-asks : (x : Float) → le (fin false 1 (pos 0)) x ≡ true → T (lt (fin true 1 (pos 0)) x)
+unfolding le lt eq
+cut-asks nan e = absurd (no (sym e))
+cut-asks (inf true) e = absurd (no (sym e))
+cut-asks (inf false) e = tt
+cut-asks (fin true m k) e = absurd (not-level (1 * down k) (eqb (1 * down k) (m * up k * 1)) (one-pos k) e)
+cut-asks (fin false m k) e = lt→ltb 0 (1 * down k + m * up k * 1) (omega (arith, one-pos k))

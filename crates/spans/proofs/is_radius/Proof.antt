@@ -1,0 +1,16 @@
+-- `spans::is_radius` meets its contract.
+use Rattle.numbers.proofs.Branches.{branches}
+use Rattle.spans.specs.Mesh.{isRadius}
+use Rattle.spans.proofs.is_radius.Statement.{statement}
+use Rattle.spans.proofs.is_radius.Tie as tie
+
+returns : tie.Need-returns
+unfolding isRadius
+returns c = search branches
+
+returns-2 : tie.Need-returns-2
+unfolding isRadius
+returns-2 c = search branches
+
+pub is-radius-spec : {M : Type 1} → statement M
+is-radius-spec = tie.close (tie.spec returns returns-2)

@@ -1,0 +1,197 @@
+// Where a mesh lies, how large the cells over it are, and which of them a stretch of an axis covers.
+ghost use mathlib.Core.Path.{_≡_};
+ghost use Prim.Native.Nat.{_+_, _-_, _*_, _^_, _<_, _≤_, min};
+ghost use lib.ListN.{length};
+ghost use Rattle.spans.specs.Mesh.{isCoordinate, isRadius, firstBad, boxOf, widened, extentOf, farther, farthestOf, scaleOf, epsOf};
+ghost use Rattle.spans.specs.Axis.{spanOf, sizeOf, truncated, cellAt, cellsAlong, stretchOf};
+
+const MILLION: f64 = 1e6;
+
+// A place in a mesh, or none.
+pub enum Place {
+    Nowhere,
+    At(usize),
+}
+
+// The extremes of triangles: their x lie from left to right, their y from bottom to top.
+pub struct Extent {
+    pub left: f64,
+    pub bottom: f64,
+    pub right: f64,
+    pub top: f64,
+}
+
+// The first and the last cell of a stretch of an axis.
+pub struct Stretch {
+    pub first: usize,
+    pub last: usize,
+}
+
+// Whether x can be a coordinate or a floor.
+pub fn is_coordinate(x: f64) -> bool
+    ensures { λ a. ⌜ a ≡ isCoordinate x ⌝ }
+{
+    numbers::abs(x) <= MILLION
+}
+
+// Whether r can be an index radius.
+pub fn is_radius(r: f64) -> bool
+    ensures { λ a. ⌜ a ≡ isRadius r ⌝ }
+{
+    r >= 0.0 && r <= MILLION
+}
+
+// The first number that is no coordinate.
+pub fn first_bad(mesh: &[f64]) -> Place
+    ensures { λ p. ⌜ p ≡ firstBad (now (mesh .entry)) ⌝ }
+{
+    let mut k = 0;
+    while k < mesh.len() {
+        if !is_coordinate(mesh[k]) {
+            return Place::At(k);
+        }
+        k += 1;
+    }
+    Place::Nowhere
+}
+
+// The box of triangle i.
+pub fn box_of(mesh: &[f64], i: usize) -> plane::Bounds
+    requires { ⌜ 9 * i + 9 ≤ length (now mesh) ⌝ }
+    ensures { λ b. ⌜ b ≡ boxOf (now (mesh .entry)) i ⌝ }
+{
+    plane::bounds_of(plane::triangle_at(mesh, i))
+}
+
+// The extremes with those of one box more.
+fn widen(e: Extent, b: plane::Bounds) -> Extent
+    ensures { λ w. ⌜ w ≡ widened e b ⌝ }
+{
+    Extent {
+        left: numbers::min(e.left, b.low_x),
+        bottom: numbers::min(e.bottom, b.low_y),
+        right: numbers::max(e.right, b.high_x),
+        top: numbers::max(e.top, b.high_y),
+    }
+}
+
+// The extremes of the first n triangles.
+pub fn extent_of(mesh: &[f64], n: usize) -> Extent
+    requires { ⌜ n * 9 ≤ length (now mesh) ⌝ }
+    ensures { λ e. ⌜ e ≡ extentOf (now (mesh .entry)) n ⌝ }
+{
+    let mut e = Extent {
+        left: 1.0 / 0.0,
+        bottom: 1.0 / 0.0,
+        right: -1.0 / 0.0,
+        top: -1.0 / 0.0,
+    };
+    for i in 0..n {
+        e = widen(e, box_of(mesh, i));
+    }
+    e
+}
+
+// The larger of m and the magnitudes of a corner's numbers.
+fn far(m: f64, x: f64, y: f64, z: f64) -> f64
+    ensures { λ d. ⌜ d ≡ farther m x y z ⌝ }
+{
+    let a = numbers::max(m, numbers::abs(x));
+    let b = numbers::max(a, numbers::abs(y));
+    numbers::max(b, numbers::abs(z))
+}
+
+// The largest magnitude of a triangle's numbers.
+fn farthest(t: plane::Triangle) -> f64
+    ensures { λ d. ⌜ d ≡ farthestOf t ⌝ }
+{
+    let a = far(0.0, t.ax, t.ay, t.az);
+    let b = far(a, t.bx, t.by, t.bz);
+    far(b, t.cx, t.cy, t.cz)
+}
+
+// The scale of the first n triangles.
+fn scale(mesh: &[f64], n: usize) -> f64
+    requires { ⌜ n * 9 ≤ length (now mesh) ⌝ }
+    ensures { λ s. ⌜ s ≡ scaleOf (now (mesh .entry)) n ⌝ }
+{
+    let mut s = 1.0;
+    for i in 0..n {
+        s = numbers::max(s, farthest(plane::triangle_at(mesh, i)));
+    }
+    s
+}
+
+// The eps of the first n triangles.
+pub fn eps(mesh: &[f64], n: usize) -> f64
+    requires { ⌜ n * 9 ≤ length (now mesh) ⌝ }
+    ensures { λ e. ⌜ e ≡ epsOf (now (mesh .entry)) n ⌝ }
+{
+    1e-12 * numbers::max(scale(mesh, n), 1.0)
+}
+
+// The larger extent, at least r.
+pub fn span(e: Extent, r: f64) -> f64
+    ensures { λ s. ⌜ s ≡ spanOf e r ⌝ }
+{
+    numbers::max(numbers::max(e.right - e.left, e.top - e.bottom), r)
+}
+
+// The size of a cell for n triangles over such a span.
+pub fn size(n: usize, span: f64, r: f64) -> f64
+    ensures { λ s. ⌜ s ≡ sizeOf n span r ⌝ }
+{
+    let root = numbers::root(std::num::nearest_u64_to_f64(n as u64));
+    let share = span / numbers::max(root, 1.0);
+    numbers::max(numbers::max(share, r / 4.0), 1e-6)
+}
+
+// Rust's `x as u64`, which has an answer for every x.
+pub fn cut(x: f64) -> u64
+    ensures { λ k. ⌜ k ≡ truncated x ⌝ }
+{
+    if x >= 1.0 {
+        if x < 18446744073709551616.0 {
+            return std::num::truncating_f64_to_u64(x);
+        }
+        return 18446744073709551615;
+    }
+    0
+}
+
+// The cell that x lies in.
+fn cell_at(lo: f64, size: f64, x: f64) -> u64
+    ensures { λ k. ⌜ k ≡ cellAt lo size x ⌝ }
+{
+    cut((x - lo) / size)
+}
+
+// The cells on an axis.
+pub fn cells_along(lo: f64, hi: f64, size: f64) -> usize
+    requires { ⌜ cellsAlong lo hi size < 2 ^ 64 ⌝ }
+    ensures { λ k. ⌜ k ≡ cellsAlong lo hi size ⌝ }
+{
+    cut(numbers::round_down((hi - lo) / size)) as usize + 1
+}
+
+// A cell's number, held to the last of so many.
+fn held(k: u64, count: usize) -> usize
+    requires { ⌜ 0 < count ⌝ }
+    ensures { λ c. ⌜ c ≡ min k (count - 1) ⌝ }
+{
+    let last = count - 1;
+    if k < last as u64 { k as usize } else { last }
+}
+
+// The cells from low to high on an axis of so many cells.
+pub fn stretch_of(lo: f64, size: f64, count: usize, low: f64, high: f64) -> Stretch
+    requires { ⌜ 0 < count ⌝ }
+    ensures { λ s. ⌜ s ≡ stretchOf lo size count low high ⌝ }
+{
+    let first = cell_at(lo, size, low);
+    let last = cell_at(lo, size, high);
+    Stretch {
+        first: first as usize,
+        last: held(last, count),
+    }
+}
