@@ -1,0 +1,316 @@
+//! One oracle: camlib's src/flat.rs as `compare/oracle` wrote it, and around it what flat.rs names of camlib's other files.
+//! The calls of this crate go through `flat::door`.
+#![allow(dead_code, unused_imports, clippy::all)]
+
+pub mod flat;
+
+/// Document 01's numbers, where Rust leaves a result open. (The build "as shipped" does not use them.)
+pub mod numbers {
+    pub trait Numbers {
+        fn max_of(self, other: f64) -> f64;
+        fn min_of(self, other: f64) -> f64;
+        fn hypot_of(self, other: f64) -> f64;
+        fn power_of(self, times: i32) -> f64;
+    }
+
+    impl Numbers for f64 {
+        /// A NaN yields the other operand; if the two compare equal, the first operand.
+        #[inline]
+        fn max_of(self, other: f64) -> f64 {
+            if self.is_nan() || self < other { other } else { self }
+        }
+        #[inline]
+        fn min_of(self, other: f64) -> f64 {
+            if self.is_nan() || other < self { other } else { self }
+        }
+        /// Plus infinity if either is infinite, else the root of the sum of squares.
+        #[inline]
+        fn hypot_of(self, other: f64) -> f64 {
+            if self.is_infinite() || other.is_infinite() {
+                return f64::INFINITY;
+            }
+            (self * self + other * other).sqrt()
+        }
+        /// Multiplied left to right.
+        #[inline]
+        fn power_of(self, times: i32) -> f64 {
+            let mut product = self;
+            for _ in 1..times {
+                product *= self;
+            }
+            product
+        }
+    }
+}
+
+/// What the rules of `compare/oracle` call from inside a plan: the levels as found, and the two refusals that document 01 puts in
+/// the place of `check_memory`.
+pub mod tap {
+    use crate::{facing::TraverseAxis, flat::FlatOperation};
+    use std::cell::RefCell;
+
+    pub type Level = (f64, [f64; 2], [f64; 2]);
+    pub const TOO_MANY_LEVELS: &str = "11";
+    pub const TOO_MANY_SAMPLES: &str = "12";
+
+    thread_local! {
+        static LEVELS: RefCell<Vec<Level>> = const { RefCell::new(vec![]) };
+        static ROOM: RefCell<usize> = const { RefCell::new(0) };
+    }
+
+    pub fn room(levels: usize) {
+        ROOM.with(|room| *room.borrow_mut() = levels);
+    }
+
+    pub fn heard() -> Vec<Level> {
+        LEVELS.with(|levels| levels.borrow().clone())
+    }
+
+    pub fn levels(found: &[Level]) -> Result<(), String> {
+        LEVELS.with(|levels| *levels.borrow_mut() = found.to_vec());
+        if found.len() > ROOM.with(|room| *room.borrow()) {
+            return Err(TOO_MANY_LEVELS.into());
+        }
+        Ok(())
+    }
+
+    pub fn sizes(found: &[Level], r: f64, op: &FlatOperation) -> Result<(), String> {
+        let (along, across) = if op.axis == TraverseAxis::X { (0, 1) } else { (1, 0) };
+        for (_, low, high) in found {
+            let intervals = ((high[across] + r - (low[across] - r)) / op.stepover_mm).ceil();
+            let h = if r < op.stepover_mm { r } else { op.stepover_mm } / 4.;
+            let samples = ((high[along] + r - (low[along] - r)) / h).ceil();
+            if intervals > 65_535. || samples > 65_535. {
+                return Err(TOO_MANY_SAMPLES.into());
+            }
+        }
+        Ok(())
+    }
+}
+
+pub mod facing {
+    #[derive(Clone, Copy, Debug, PartialEq, Eq)]
+    pub enum TraverseAxis {
+        X,
+        Y,
+    }
+}
+
+pub mod pocket {
+    #[derive(Debug)]
+    pub enum ResidualStatus {
+        Pending,
+        Unknown,
+    }
+}
+
+pub mod resources {
+    /// Refusals 5, 6 and 12 stand in its place.
+    pub fn check_memory(_: u128, _: &str) -> Result<(), String> {
+        Ok(())
+    }
+}
+
+pub mod surface {
+    use crate::motion::Vec3;
+    #[derive(Clone, Debug)]
+    pub struct SurfaceMesh {
+        pub triangles: std::sync::Arc<Vec<[Vec3; 3]>>,
+    }
+}
+
+pub mod heights {
+    /// Clearance, retract and feed heights are left behind; a plan's own parameters are tested as camlib tests them.
+    pub struct Heights {
+        pub clearance: f64,
+        pub retract: f64,
+        pub feed: f64,
+    }
+    impl Heights {
+        pub fn resolve(_: f64, _: Option<f64>, _: Option<f64>, _: f64, _: f64) -> Result<Self, String> {
+            Ok(Heights { clearance: 0., retract: 0., feed: 0. })
+        }
+    }
+    pub fn require(what: &str, checks: impl IntoIterator<Item = (bool, String)>) -> Result<(), String> {
+        for (holds, message) in checks {
+            if !holds {
+                return Err(format!("{what}: {message}"));
+            }
+        }
+        Ok(())
+    }
+}
+
+pub mod stock {
+    pub trait CancelSignal {
+        fn is_cancelled(&self) -> bool;
+    }
+    pub struct NeverCancelled;
+    impl CancelSignal for NeverCancelled {
+        fn is_cancelled(&self) -> bool {
+            false
+        }
+    }
+    #[derive(Clone, PartialEq)]
+    pub struct StockSpec {
+        pub min_mm: [f64; 3],
+        pub max_mm: [f64; 3],
+    }
+    impl StockSpec {
+        pub fn grid(&self) -> Result<(), String> {
+            Ok(())
+        }
+    }
+    pub struct Stock;
+    impl Stock {
+        pub fn spec(&self) -> &StockSpec {
+            unreachable!("left behind")
+        }
+        pub fn generation(&self) -> u64 {
+            unreachable!("left behind")
+        }
+    }
+}
+
+pub mod motion {
+    pub type Vec3 = [f64; 3];
+    #[derive(Clone, Copy, Debug)]
+    pub enum Coolant {
+        Off,
+    }
+    pub enum SpindleDirection {
+        Cw,
+    }
+    pub enum MoveKind {
+        Rapid,
+        Plunge,
+        Cut,
+        Retract,
+    }
+    impl Clone for MoveKind {
+        fn clone(&self) -> Self {
+            *self
+        }
+    }
+    impl Copy for MoveKind {}
+    pub enum Curve {
+        Line { start: Vec3, end: Vec3 },
+    }
+    impl Curve {
+        pub fn prepare(&self, _: f64) -> Result<(), String> {
+            Ok(())
+        }
+    }
+    pub struct Motion {
+        pub id: u64,
+        pub operation: String,
+        pub tool: String,
+        pub kind: MoveKind,
+        pub curve: Curve,
+        pub feed_mm_min: Option<f64>,
+    }
+    pub enum Event {
+        WorkOffset { number: u8 },
+        ToolChange { tool: String, number: u32, length_register: u32, position_after_mm: Vec3 },
+        Spindle { rpm: f64, direction: SpindleDirection },
+        Coolant { mode: Coolant },
+    }
+}
+
+pub mod limits {
+    use crate::motion::Curve;
+    #[derive(Clone, Debug)]
+    pub struct Limits;
+    impl Limits {
+        pub fn is_empty(&self) -> bool {
+            true
+        }
+    }
+    pub struct PreparedLimits;
+    impl PreparedLimits {
+        pub fn new(_: &Limits, _: f64, _: f64) -> Result<Self, String> {
+            Ok(PreparedLimits)
+        }
+        pub fn allowed_spans(&self, _: &Curve, _: bool) -> Result<Vec<[f64; 2]>, String> {
+            unreachable!("left behind")
+        }
+    }
+}
+
+pub mod tool {
+    pub fn valid_id(_: &str) -> bool {
+        true
+    }
+    pub enum CutterShape {
+        Flat,
+        Ball,
+        Bull { corner_radius_mm: f64 },
+        Chamfer { tip_diameter_mm: f64, angle: f64 },
+        Drill { angle: f64 },
+    }
+    pub struct Neck {
+        pub length_mm: f64,
+    }
+    pub struct Cutter {
+        pub shape: CutterShape,
+        pub diameter_mm: f64,
+        pub cutting_length_mm: f64,
+        pub center_cutting: bool,
+        pub neck: Option<Neck>,
+    }
+    pub struct PreparedCutter {
+        pub cutter: Cutter,
+    }
+    impl PreparedCutter {
+        pub fn definition(&self) -> &Cutter {
+            &self.cutter
+        }
+        pub fn tip_height_at_radius(&self, _: f64) -> Option<f64> {
+            unreachable!("left behind")
+        }
+    }
+    pub struct HolderSection {
+        pub z_min_mm: f64,
+        pub z_max_mm: f64,
+        pub radius_min_mm: f64,
+        pub radius_max_mm: f64,
+    }
+    pub struct ToolAssembly {
+        pub id: String,
+        pub diameter_mm: f64,
+        pub cutting_length_mm: f64,
+        pub stickout_mm: f64,
+        pub holders: Vec<HolderSection>,
+    }
+    impl ToolAssembly {
+        /// A flat, centre-cutting end mill of this diameter and cutting length.
+        pub fn prepare(&self) -> Result<PreparedAssembly<'_>, String> {
+            let cutter = Cutter {
+                shape: CutterShape::Flat,
+                diameter_mm: self.diameter_mm,
+                cutting_length_mm: self.cutting_length_mm,
+                center_cutting: true,
+                neck: None,
+            };
+            Ok(PreparedAssembly { assembly: self, cutter: PreparedCutter { cutter } })
+        }
+    }
+    pub struct ProfileSlice {
+        pub radius_mm: f64,
+    }
+    pub struct PreparedAssembly<'a> {
+        assembly: &'a ToolAssembly,
+        cutter: PreparedCutter,
+    }
+    impl PreparedAssembly<'_> {
+        pub fn definition(&self) -> &ToolAssembly {
+            self.assembly
+        }
+        pub fn cutter(&self) -> &PreparedCutter {
+            &self.cutter
+        }
+        pub fn radius_at(&self, _: f64) -> Option<ProfileSlice> {
+            unreachable!("left behind")
+        }
+    }
+}
