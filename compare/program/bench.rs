@@ -1,1 +1,384 @@
-pub fn run() {}
+//! One table: nanoseconds a call and how many times the Rust's as shipped. Ours, camlib as shipped and camlib with document 01's
+//! numbers take the same inputs in the same process, in turn, round after round; a cell is the median of the rounds.
+
+use crate::MISSING;
+use crate::doors::{Handed, raw};
+use crate::inputs;
+use crate::rng::Rng;
+use oracle_doc::flat::door as doc;
+use oracle_doc::numbers::Numbers;
+use oracle_shipped::flat::door as shipped;
+use std::hint::black_box;
+use std::time::Instant;
+
+fn used<T>(answer: T) {
+    black_box(answer);
+}
+
+/// One row: each closure makes `calls` calls.
+fn row(name: &str, doors: &[&str], rounds: usize, calls: usize, mut each: [&mut dyn FnMut(); 3]) {
+    if doors.iter().any(|d| MISSING.contains(d)) {
+        return;
+    }
+    let mut times = [vec![], vec![], vec![]];
+    for round in 0..rounds + 1 {
+        for k in 0..3 {
+            let begun = Instant::now();
+            each[k]();
+            // The first round warms up.
+            if round > 0 {
+                times[k].push(begun.elapsed().as_nanos() as f64 / calls as f64);
+            }
+        }
+    }
+    let [ours, as_shipped, doc] = times.map(|mut t| {
+        t.sort_by(f64::total_cmp);
+        t[t.len() / 2]
+    });
+    let shown = |ns: f64| if ns < 1e4 { format!("{ns:.1}") } else { format!("{ns:.0}") };
+    println!(
+        "| {name} | {} | {} | {} | {:.2} | {:.2} |",
+        shown(ours), shown(as_shipped), shown(doc), ours / as_shipped, ours / doc
+    );
+}
+
+/// A plate of 20,000 triangles with bosses on it, and what lies on each side of it.
+struct Bed {
+    mesh: Vec<f64>,
+    handed: Handed,
+    shipped: shipped::Grid,
+    doc: doc::Grid,
+}
+
+const FLOOR: f64 = -1.;
+const RADIUS: f64 = 3.;
+
+/// Squares of side 1, two triangles each, `side` to an axis; every so often a square lies higher, with walls around it.
+fn plate(side: usize, walls: usize) -> Vec<f64> {
+    let mut rng = Rng::new(7, "plate", side as u64);
+    let mut mesh = vec![];
+    for i in 0..side {
+        for j in 0..side {
+            let (x, y, z) = (i as f64, j as f64, if rng.one_in(40) { 1.5 } else { 1. });
+            mesh.extend([x, y, z, x + 1., y, z, x + 1., y + 1., z, x, y, z, x + 1., y + 1., z, x, y + 1., z]);
+        }
+    }
+    for _ in 0..walls {
+        let (x, y) = (rng.below(side as u64) as f64, rng.below(side as u64) as f64);
+        mesh.extend([x, y, 1., x + 1., y, 1., x + 1., y, 1.5, x, y, 1., x, y + 1., 1., x, y + 1., 1.5]);
+    }
+    mesh
+}
+
+fn bed(mesh: Vec<f64>) -> Bed {
+    let (_, handed) = crate::parts::handed(&mesh, FLOOR, RADIUS).unwrap();
+    let shipped = shipped::Grid::new(&shipped::surface(&mesh), FLOOR, RADIUS).unwrap();
+    let doc = doc::Grid::new(&doc::surface(&mesh), FLOOR, RADIUS).unwrap();
+    Bed { mesh, handed, shipped, doc }
+}
+
+/// One question of ours over the bed; `$more` are the question's own arguments.
+macro_rules! ask {
+    ($bed:expr, $door:ident, $marks:expr, $stamp:expr, $($more:expr),*) => {{
+        let h = &$bed.handed;
+        let mut counts = [0u32; 3];
+        unsafe {
+            raw::$door(
+                $bed.mesh.as_ptr(), $bed.mesh.len(), h.measures.as_ptr(), h.sizes.as_ptr(), h.starts.as_ptr(), h.starts.len(),
+                h.members.as_ptr(), h.members.len(), $marks.as_mut_ptr(), $marks.len(), $stamp, $($more,)* counts.as_mut_ptr(),
+            )
+        };
+        counts
+    }};
+}
+
+pub fn run() {
+    println!("Medians of interleaved rounds. Lent tables are not cleared before a call; marks and stamp carry on from call to call.");
+    println!("The height questions' results go to arrays on the stack. camlib's own allocation is in its times, its freeing is not.");
+    println!();
+    println!("| what | ours, ns | camlib as shipped, ns | camlib with document 01's numbers, ns | ours / shipped | ours / document 01's |");
+    println!("|---|---|---|---|---|---|");
+    numbers();
+    contacts();
+    let bed = bed(plate(100, 20));
+    build(&bed);
+    heights(&bed);
+    tools(&bed);
+    plans();
+}
+
+fn numbers() {
+    let mut rng = Rng::new(1, "bench", 0);
+    let xs: Vec<f64> = (0..4096).map(|_| 10f64.powf(rng.between(-6., 6.))).collect();
+    let ys: Vec<f64> = (0..4096).map(|_| rng.between(-100., 100.)).collect();
+    row(
+        "root", &["root"], 400, 4096,
+        [
+            &mut || xs.iter().for_each(|x| used(unsafe { raw::mandrikelo_root(*x) })),
+            &mut || xs.iter().for_each(|x| used(x.sqrt())),
+            &mut || xs.iter().for_each(|x| used(x.sqrt())),
+        ],
+    );
+    row(
+        "hypot", &["hypot"], 400, 4096,
+        [
+            &mut || xs.iter().zip(&ys).for_each(|(x, y)| used(unsafe { raw::mandrikelo_hypot(*x, *y) })),
+            &mut || xs.iter().zip(&ys).for_each(|(x, y)| used(x.hypot(*y))),
+            &mut || xs.iter().zip(&ys).for_each(|(x, y)| used(x.hypot_of(*y))),
+        ],
+    );
+    row(
+        "round down", &["round_down"], 400, 4096,
+        [
+            &mut || ys.iter().for_each(|x| used(unsafe { raw::mandrikelo_round_down(*x) })),
+            &mut || ys.iter().for_each(|x| used(x.floor())),
+            &mut || ys.iter().for_each(|x| used(x.floor())),
+        ],
+    );
+}
+
+/// Triangles and tools that mostly meet.
+fn contacts() {
+    let mut rng = Rng::new(2, "bench", 0);
+    let n = 2048;
+    let f = inputs::Family::Ordinary;
+    let triangles: Vec<[f64; 9]> = (0..n).map(|_| inputs::triangle(&mut rng, f)).collect();
+    let radii: Vec<f64> = (0..n).map(|_| rng.between(0.5, 4.)).collect();
+    let points: Vec<[f64; 2]> = (0..n).map(|i| inputs::point_near(&mut rng, f, &triangles[i], radii[i])).collect();
+    let ends: Vec<[f64; 2]> = (0..n).map(|i| inputs::point_near(&mut rng, f, &triangles[i], radii[i])).collect();
+    let theirs: Vec<_> = triangles.iter().map(shipped::Triangle::new).collect();
+    let docs: Vec<_> = triangles.iter().map(doc::Triangle::new).collect();
+    for (name, ends) in [("capsule, a point", &points), ("capsule, a line", &ends)] {
+        row(
+            name, &["max_in_capsule"], 100, n,
+            [
+                &mut || {
+                    for i in 0..n {
+                        let (p, q, mut z) = (points[i], ends[i], 0.);
+                        let t = triangles[i].as_ptr();
+                        black_box(unsafe { raw::mandrikelo_max_in_capsule(t, p[0], p[1], q[0], q[1], radii[i], 1e-11, &mut z) });
+                        black_box(z);
+                    }
+                },
+                &mut || (0..n).for_each(|i| used(theirs[i].max_in_capsule(points[i], ends[i], radii[i], 1e-11))),
+                &mut || (0..n).for_each(|i| used(docs[i].max_in_capsule(points[i], ends[i], radii[i], 1e-11))),
+            ],
+        );
+    }
+    let low = f64::NEG_INFINITY;
+    row(
+        "bull-nose contact", &["bull_contact"], 20, n,
+        [
+            &mut || {
+                for i in 0..n {
+                    let (p, r, mut z) = (points[i], radii[i], 0.);
+                    let t = triangles[i].as_ptr();
+                    black_box(unsafe { raw::mandrikelo_bull_contact(t, p[0], p[1], r, r / 2., low, &mut z) });
+                    black_box(z);
+                }
+            },
+            &mut || (0..n).for_each(|i| used(theirs[i].bull_contact(points[i], radii[i], radii[i] / 2., low))),
+            &mut || (0..n).for_each(|i| used(docs[i].bull_contact(points[i], radii[i], radii[i] / 2., low))),
+        ],
+    );
+    let sections: Vec<[f64; 4]> = radii.iter().map(|r| [0., r / 2., *r, 1.]).collect();
+    row(
+        "section contact", &["section_contact"], 20, n,
+        [
+            &mut || {
+                for i in 0..n {
+                    let (p, mut z) = (points[i], 0.);
+                    let t = triangles[i].as_ptr();
+                    black_box(unsafe { raw::mandrikelo_section_contact(t, p[0], p[1], sections[i].as_ptr(), &mut z) });
+                    black_box(z);
+                }
+            },
+            &mut || (0..n).for_each(|i| used(theirs[i].section_contact(points[i], sections[i]))),
+            &mut || (0..n).for_each(|i| used(docs[i].section_contact(points[i], sections[i]))),
+        ],
+    );
+}
+
+fn build(bed: &Bed) {
+    let (as_shipped, as_doc) = (shipped::surface(&bed.mesh), doc::surface(&bed.mesh));
+    let (mut starts, mut members) = (vec![0; bed.handed.starts.len()], vec![0; bed.handed.members.len()]);
+    let (mut measures, mut sizes) = ([0.; 6], [0; 3]);
+    let (mut kept, mut kept_doc) = (None, None);
+    row(
+        "build, 20,040 triangles", &["build"], 40, 1,
+        [
+            &mut || {
+                black_box(unsafe {
+                    raw::mandrikelo_build(
+                        bed.mesh.as_ptr(), bed.mesh.len(), FLOOR, RADIUS, starts.as_mut_ptr(), starts.len(),
+                        members.as_mut_ptr(), members.len(), measures.as_mut_ptr(), sizes.as_mut_ptr(),
+                    )
+                });
+            },
+            // What the round before built is freed by the next assignment; that is the price of keeping it out of this one.
+            &mut || {
+                std::mem::forget(kept.take());
+                kept = shipped::Grid::new(&as_shipped, FLOOR, RADIUS).ok();
+            },
+            &mut || {
+                std::mem::forget(kept_doc.take());
+                kept_doc = doc::Grid::new(&as_doc, FLOOR, RADIUS).ok();
+            },
+        ],
+    );
+}
+
+fn heights(bed: &Bed) {
+    let mut rng = Rng::new(3, "bench", 0);
+    let n = 1000;
+    let mut marks = vec![0u32; bed.mesh.len() / 9];
+    let (mut seen, mut seen_doc) = (marks.clone(), marks.clone());
+    let (mut stamp, mut s1, mut s2) = (0, 0, 0);
+    let points: Vec<[f64; 2]> = (0..n).map(|_| [rng.between(0., 100.), rng.between(0., 100.)]).collect();
+    let ends: Vec<[f64; 2]> = points.iter().map(|p| [p[0] + rng.between(-5., 5.), p[1] + rng.between(-5., 5.)]).collect();
+    for (name, ends) in [("height at a point", &points), ("height along a line", &ends)] {
+        row(
+            name, &["max_height"], 40, n,
+            [
+                &mut || {
+                    for i in 0..n {
+                        let (p, q, mut z) = (points[i], ends[i], 0.);
+                        let counts = ask!(bed, mandrikelo_max_height, marks, stamp, p[0], p[1], q[0], q[1], RADIUS, &mut z);
+                        stamp = counts[1];
+                        black_box(z);
+                    }
+                },
+                &mut || (0..n).for_each(|i| used(bed.shipped.max_height(points[i], ends[i], RADIUS, &mut seen, &mut s1))),
+                &mut || (0..n).for_each(|i| used(bed.doc.max_height(points[i], ends[i], RADIUS, &mut seen_doc, &mut s2))),
+            ],
+        );
+    }
+}
+
+fn tools(bed: &Bed) {
+    let mut rng = Rng::new(4, "bench", 0);
+    let n = 200;
+    let mut marks = vec![0u32; bed.mesh.len() / 9];
+    let (mut seen, mut seen_doc) = (marks.clone(), marks.clone());
+    let (mut stamp, mut s1, mut s2) = (0, 0, 0);
+    let points: Vec<[f64; 2]> = (0..n).map(|_| [rng.between(0., 100.), rng.between(0., 100.)]).collect();
+    let ends: Vec<[f64; 2]> = points.iter().map(|p| [p[0] + rng.between(-5., 5.), p[1] + rng.between(-5., 5.)]).collect();
+    let table = [0., 1., 2., 1., 4., 2.5, 2.5, 0., 12., 3., 5., 2.];
+    let (tool, tool_doc) = (shipped::Tool::new(&table), doc::Tool::new(&table));
+    row(
+        "max_bull", &["max_bull"], 20, n,
+        [
+            &mut || {
+                for p in &points {
+                    let mut z = 0.;
+                    stamp = ask!(bed, mandrikelo_max_bull, marks, stamp, p[0], p[1], RADIUS, 1., &mut z)[1];
+                    black_box(z);
+                }
+            },
+            &mut || points.iter().for_each(|p| used(bed.shipped.max_bull(*p, RADIUS, 1., &mut seen, &mut s1))),
+            &mut || points.iter().for_each(|p| used(bed.doc.max_bull(*p, RADIUS, 1., &mut seen_doc, &mut s2))),
+        ],
+    );
+    row(
+        "max_sections, three", &["max_sections"], 10, n,
+        [
+            &mut || {
+                for p in &points {
+                    let mut z = 0.;
+                    stamp = ask!(bed, mandrikelo_max_sections, marks, stamp, p[0], p[1], table.as_ptr(), table.len(), &mut z)[1];
+                    black_box(z);
+                }
+            },
+            &mut || points.iter().for_each(|p| used(bed.shipped.max_sections(*p, &tool, &mut seen, &mut s1))),
+            &mut || points.iter().for_each(|p| used(bed.doc.max_sections(*p, &tool_doc, &mut seen_doc, &mut s2))),
+        ],
+    );
+    // Just over the plate: blocked by a boss, or clear after a look at all of them; and high over it, where no triangle counts.
+    for (name, z) in [("bull_chord_clear, low", 1.25), ("bull_chord_clear, high", 3.)] {
+        let of = |i: usize| ([points[i][0], points[i][1], z], [ends[i][0], ends[i][1], z]);
+        row(
+            name, &["bull_chord_clear"], 8, n,
+            [
+                &mut || {
+                    for i in 0..n {
+                        let (a, b) = of(i);
+                        stamp = ask!(
+                            bed, mandrikelo_bull_chord_clear, marks, stamp, a[0], a[1], a[2], b[0], b[1], b[2], RADIUS, 1., 0.
+                        )[2];
+                    }
+                },
+                &mut || {
+                    (0..n).for_each(|i| {
+                        used(bed.shipped.bull_chord_clear(of(i).0, of(i).1, RADIUS, 1., 0., &mut seen, &mut s1))
+                    })
+                },
+                &mut || {
+                    (0..n).for_each(|i| {
+                        used(bed.doc.bull_chord_clear(of(i).0, of(i).1, RADIUS, 1., 0., &mut seen_doc, &mut s2))
+                    })
+                },
+            ],
+        );
+    }
+    for (name, z) in [("sections_chord_clear, low", 1.25), ("sections_chord_clear, high", 3.)] {
+        let n = 50;
+        let of = |i: usize| ([points[i][0], points[i][1], z], [ends[i][0], ends[i][1], z]);
+        row(
+            name, &["sections_chord_clear"], 6, n,
+            [
+                &mut || {
+                    for i in 0..n {
+                        let (a, b) = of(i);
+                        stamp = ask!(
+                            bed, mandrikelo_sections_chord_clear, marks, stamp, a[0], a[1], a[2], b[0], b[1], b[2], 0.,
+                            table.as_ptr(), table.len()
+                        )[2];
+                    }
+                },
+                &mut || {
+                    (0..n).for_each(|i| {
+                        used(bed.shipped.sections_chord_clear(of(i).0, of(i).1, &tool, 0., &mut seen, &mut s1))
+                    })
+                },
+                &mut || {
+                    (0..n).for_each(|i| {
+                        used(bed.doc.sections_chord_clear(of(i).0, of(i).1, &tool_doc, 0., &mut seen_doc, &mut s2))
+                    })
+                },
+            ],
+        );
+    }
+}
+
+/// Plans over plates of several sizes, so that the growth with triangles, rows and samples shows.
+fn plans() {
+    for (side, stepover) in [(20, 3.), (20, 1.5), (40, 3.), (80, 3.)] {
+        let bed = bed(plate(side, 4));
+        let (as_shipped, as_doc) = (shipped::surface(&bed.mesh), doc::surface(&bed.mesh));
+        let parameters = [1e-3, 1e-3, stepover, 0., FLOOR, 2., 10.];
+        let mut marks = vec![0u32; bed.mesh.len() / 9];
+        let (mut levels, mut runs) = (vec![0.; 500], vec![0.; 100_000]);
+        let mut lengths = [0.; 2];
+        let name = format!("plan, {} triangles, stepover {stepover}", bed.mesh.len() / 9);
+        row(
+            &name, &["plan"], 5, 1,
+            [
+                &mut || {
+                    let (l, r) = (levels.as_mut_ptr(), runs.as_mut_ptr());
+                    let h = &bed.handed;
+                    let mut counts = [0u32; 3];
+                    black_box(unsafe {
+                        raw::mandrikelo_plan(
+                            bed.mesh.as_ptr(), bed.mesh.len(), h.measures.as_ptr(), h.sizes.as_ptr(), h.starts.as_ptr(),
+                            h.starts.len(), h.members.as_ptr(), h.members.len(), marks.as_mut_ptr(), marks.len(),
+                            parameters.as_ptr(), 0, l, 500, r, 100_000, lengths.as_mut_ptr(), counts.as_mut_ptr(),
+                        )
+                    });
+                },
+                // camlib's plan builds its index too; ours takes one that is built.
+                &mut || used(shipped::plan(&as_shipped, FLOOR, RADIUS, &parameters, 0, 100).refusal),
+                &mut || used(doc::plan(&as_doc, FLOOR, RADIUS, &parameters, 0, 100).refusal),
+            ],
+        );
+    }
+}

@@ -52,12 +52,6 @@ impl Case {
             _ => panic!("{name} holds no bytes"),
         }
     }
-    pub fn f_mut(&mut self, name: &str) -> &mut Vec<f64> {
-        match &mut self.tables.iter_mut().find(|(n, _)| *n == name).unwrap().1 {
-            Table::Floats(t) => t,
-            _ => panic!("{name} holds no floats"),
-        }
-    }
     pub fn u_mut(&mut self, name: &str) -> &mut Vec<u32> {
         match &mut self.tables.iter_mut().find(|(n, _)| *n == name).unwrap().1 {
             Table::Words(t) => t,

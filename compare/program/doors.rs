@@ -109,10 +109,6 @@ impl<T: Word> Lent<T> {
     pub fn get(&self) -> &[T] {
         &self.0[WIDE..self.0.len() - WIDE]
     }
-    pub fn get_mut(&mut self) -> &mut [T] {
-        let end = self.0.len() - WIDE;
-        &mut self.0[WIDE..end]
-    }
     pub fn len(&self) -> usize {
         self.0.len() - 2 * WIDE
     }

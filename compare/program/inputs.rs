@@ -33,7 +33,10 @@ pub fn any(rng: &mut Rng) -> f64 {
         // A subnormal of any length.
         7 => f64::from_bits(rng.bits() >> (12 + rng.below(52)) | rng.below(2) << 63),
         // An exponent's first and last values.
-        8 => neighbour(rng, f64::from_bits(rng.below(0x1000) << 52)),
+        8 => {
+            let x = f64::from_bits(rng.below(0x1000) << 52);
+            neighbour(rng, x)
+        }
         _ => f64::from_bits(rng.bits()),
     }
 }

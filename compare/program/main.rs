@@ -11,7 +11,7 @@ mod inputs;
 mod model;
 mod parts;
 mod rng;
-include!("missing.rs");
+include!(concat!(env!("OUT"), "/missing.rs"));
 
 use case::Case;
 use parts::{PARTS, Part, Tally};

@@ -1,0 +1,131 @@
+/* Mandrikelo: the flat-area planner, for C, C++ and Rust. Link target/staticlib/libdesk.a (`rt staticlib desk`).
+ *
+ * Every call on every input ends, stays inside its buffers and keeps nothing: there is no state, no heap, no error number. All
+ * functions may be called from several threads at once, as long as no lent buffer is shared. What a function answers is proved;
+ * docs/READING.md leads to the statements.
+ *
+ * A table is a pointer and its number of entries; a table of 0 entries needs a pointer that is not null. Fixed arrays have the
+ * length that stands in the brackets. `const` tables are read only; the others are lent and written as said at each function.
+ * No two tables of one call may overlap, unless both are `const`.
+ *
+ * A mesh is 9 numbers a triangle: x, y, z of its three corners. A section is 4 numbers: z0, r0, r1, rise.
+ *
+ * The functions that answer uint32_t answer 0, or a refusal number. A refusal leaves lent tables untouched (exceptions: 10 to 13)
+ * and sets fixed results to zero, the stamp to the one handed:
+ *
+ *    1  the mesh's length is no multiple of 9 or over 65,536 triangles; in questions and plan: marks_len is not the mesh's n
+ *    2  a question's number, r or floor outside its range (points 3e6, radii 0 to 1e6, lift and floor 1e6 in magnitude)
+ *    3  the mesh is empty
+ *    4  a coordinate is not finite, or its magnitude is over 1e6
+ *    5  columns or rows over 65,536, cells over 1,048,576, or cells + 1 over starts_len
+ *    6  members over 16,777,216 or over members_len
+ *    7  measures, sizes and tables are not an index of this mesh, as far as the call looks; or a mark lies above the stamp
+ *    8  no section, not four numbers each, over 32, an invalid one; or the corner radius is not within 0 to r
+ *    9  a parameter of the plan
+ *   10  a level lies above the stock's top, or deeper than the cutting length less 16 tolerances
+ *   11  more levels than room
+ *   12  over 65,535 intervals or samples on a level
+ *   13  more joined runs than room
+ *   14  the job has under 30 bytes               15  its mark is not "FTM"           16  its version is not 1
+ *   17  its sixth byte is not 0                  18  no triangle, or too many triangles or questions
+ *   19  its length is not what its counts ask    20  a number in it is not finite
+ *
+ * 10 to 13 leave levels, runs and marks all zero.
+ */
+#ifndef MANDRIKELO_H
+#define MANDRIKELO_H
+
+#include <stdbool.h>
+#include <stddef.h>
+#include <stdint.h>
+
+#ifdef __cplusplus
+extern "C" {
+#endif
+
+/* The index of a mesh. `starts` gets cells + 1 entries and `members` the triangle numbers of cell after cell; entries beyond those
+ * keep what they held. */
+uint32_t mandrikelo_build(const double *mesh, size_t mesh_len, double floor, double r,
+    uint32_t *starts, size_t starts_len, uint32_t *members, size_t members_len,
+    double measures[6] /* origin x, origin y, cell, floor, eps, r */, uint32_t sizes[3] /* n, columns, rows */);
+
+/* Questions to an index that mandrikelo_build made of the same mesh. `marks` has one entry a triangle, all 0 before the first
+ * question, and is carried with the stamp (0 at first) from question to question; a call sets the marks of the triangles that it
+ * looked at to the new stamp. counts: the number of triangles looked at, the stamp afterwards. */
+
+/* The highest point under the disk of radius r swept from (px, py) to (qx, qy), at least the floor. */
+uint32_t mandrikelo_max_height(const double *mesh, size_t mesh_len, const double measures[6], const uint32_t sizes[3],
+    const uint32_t *starts, size_t starts_len, const uint32_t *members, size_t members_len,
+    uint32_t *marks, size_t marks_len, uint32_t stamp,
+    double px, double py, double qx, double qy, double r,
+    double height[1], uint32_t counts[2] /* count, stamp afterwards */);
+
+/* The highest tip of a bull-nose cutter of radius r and corner radius rc over (px, py), at least the floor. */
+uint32_t mandrikelo_max_bull(const double *mesh, size_t mesh_len, const double measures[6], const uint32_t sizes[3],
+    const uint32_t *starts, size_t starts_len, const uint32_t *members, size_t members_len,
+    uint32_t *marks, size_t marks_len, uint32_t stamp,
+    double px, double py, double r, double rc,
+    double height[1], uint32_t counts[2]);
+
+/* The highest tip of a tool of sections over (px, py), at least the floor. */
+uint32_t mandrikelo_max_sections(const double *mesh, size_t mesh_len, const double measures[6], const uint32_t sizes[3],
+    const uint32_t *starts, size_t starts_len, const uint32_t *members, size_t members_len,
+    uint32_t *marks, size_t marks_len, uint32_t stamp,
+    double px, double py, const double *sections, size_t sections_len,
+    double height[1], uint32_t counts[2]);
+
+/* Whether the tool, lifted by `lift`, stays above every triangle on its way from tip a to tip b. Blocked before any walk (count 0,
+ * stamp and marks as handed) if an end lies under the floor + lift. */
+uint32_t mandrikelo_bull_chord_clear(const double *mesh, size_t mesh_len, const double measures[6], const uint32_t sizes[3],
+    const uint32_t *starts, size_t starts_len, const uint32_t *members, size_t members_len,
+    uint32_t *marks, size_t marks_len, uint32_t stamp,
+    double ax, double ay, double az, double bx, double by, double bz, double r, double rc, double lift,
+    uint32_t counts[3] /* 0 none, 1 clear, 2 blocked; count; stamp afterwards */);
+
+uint32_t mandrikelo_sections_chord_clear(const double *mesh, size_t mesh_len, const double measures[6], const uint32_t sizes[3],
+    const uint32_t *starts, size_t starts_len, const uint32_t *members, size_t members_len,
+    uint32_t *marks, size_t marks_len, uint32_t stamp,
+    double ax, double ay, double az, double bx, double by, double bz, double lift,
+    const double *sections, size_t sections_len,
+    uint32_t counts[3]);
+
+/* The flat runs. `levels` (z, low x, low y, high x, high y) and `runs` (ax, ay, bx, by, z) hold five numbers each, and zeros where
+ * they are not used. `marks` is one entry a triangle, whatever it holds, and all zero afterwards. */
+uint32_t mandrikelo_plan(const double *mesh, size_t mesh_len, const double measures[6], const uint32_t sizes[3],
+    const uint32_t *starts, size_t starts_len, const uint32_t *members, size_t members_len,
+    uint32_t *marks, size_t marks_len,
+    const double parameters[7] /* tolerance, level tolerance, stepover, stock to leave, stock bottom, stock top, cutting length */,
+    uint32_t axis /* 0 X, 1 Y, else 9 */,
+    double *levels, size_t levels_len, double *runs, size_t runs_len,
+    double lengths[2] /* cut, dropped */, uint32_t counts[3] /* levels, rows, runs */);
+
+/* A job file (docs: "The job file"). `mesh` gets 9 numbers a triangle, `questions` 5 each (px, py, qx, qy, r); entries beyond those
+ * keep what they held. */
+uint32_t mandrikelo_read_job(const uint8_t *bytes, size_t bytes_len, double *mesh, size_t mesh_len,
+    double *questions, size_t questions_len, double measures[2] /* floor, radius */, uint32_t sizes[2] /* n, m */);
+
+/* The numbers that everything rests on. */
+double mandrikelo_root(double x);                 /* the nearest f64 to the square root */
+double mandrikelo_round_down(double x);           /* the largest whole number not above x */
+double mandrikelo_round_up(double x);
+double mandrikelo_max(double x, double y);        /* a NaN yields the other; if the two compare equal, the first */
+double mandrikelo_min(double x, double y);
+double mandrikelo_clamp_unit(double x);           /* held to 0..1; -0.0 and NaN stay */
+double mandrikelo_hypot(double x, double y);
+bool mandrikelo_total_less(double x, double y);   /* before in the total order */
+
+/* One triangle. A contact answers whether there is one, and its height (0 if not). */
+double mandrikelo_dist2_to_segment(double x0, double x1, double p0, double p1, double q0, double q1);
+double mandrikelo_distance_xy(const double triangle[9], double x, double y);
+bool mandrikelo_max_in_capsule(const double triangle[9], double px, double py, double qx, double qy, double r, double eps,
+    double height[1]);
+double mandrikelo_bull_profile(double d, double r, double rc);
+/* Edges that cannot exceed `floor` are skipped; -INFINITY skips none. */
+bool mandrikelo_bull_contact(const double triangle[9], double px, double py, double r, double rc, double floor, double height[1]);
+bool mandrikelo_section_contact(const double triangle[9], double px, double py, const double section[4], double height[1]);
+
+#ifdef __cplusplus
+}
+#endif
+
+#endif
