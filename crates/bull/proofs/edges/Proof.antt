@@ -1,0 +1,10 @@
+use Rattle.bull.specs.Bull.{bullEdges}
+use Rattle.bull.proofs.edges.Statement.{statement}
+use Rattle.bull.proofs.edges.Tie as tie
+
+returns : tie.Need-returns
+unfolding bullEdges
+returns c = cc
+
+pub edges-spec : {M : Type 1} → statement M
+edges-spec = tie.close (tie.spec (λ c κs. tt) (λ c κs. tt) (λ c κs. tt) (λ c κs. tt) (λ c κs. tt) (λ c κs. tt) returns)

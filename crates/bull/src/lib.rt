@@ -1,0 +1,201 @@
+// A bull-nose cutter: its profile, and its contact with one triangle.
+ghost use mathlib.Core.Path.{_≡_};
+ghost use Rattle.golden.specs.Search.{rises, goldenStart, goldenStep, goldenMax};
+ghost use Rattle.bull.specs.Bull.{bullProfile, bullOver, bullVertex, bullVertices, bullAt, bullStretch, bestSoFar, tooLow, bullEdge, bullEdges, bullSloped, bullRest, bullFacet, bullContactAbove, bullContact};
+use golden::Golden;
+use plane::Contact;
+use plane::Triangle;
+use touch::Edge;
+use touch::Facing;
+use touch::Gradient;
+use touch::Rest;
+use touch::Stretch;
+
+const MINUS_ONE: f64 = -1.0;
+
+// A bull-nose cutter of the radius r and the corner radius rc, its axis at (x, y).
+pub struct Bull {
+    pub x: f64,
+    pub y: f64,
+    pub r: f64,
+    pub rc: f64,
+}
+
+// The tip's height where the cutter rests on the triangle.
+pub fn bull_contact(t: Triangle, k: Bull) -> Contact
+    ensures { λ c. ⌜ c ≡ bullContact t k ⌝ }
+{
+    bull_contact_above(t, k, MINUS_ONE / 0.0)
+}
+
+// The same, without the edges that cannot exceed the floor.
+pub fn bull_contact_above(t: Triangle, k: Bull, floor: f64) -> Contact
+    ensures { λ c. ⌜ c ≡ bullContactAbove t k floor ⌝ }
+{
+    let c = edges(k, floor, t, vertices(k, t));
+    touch::offer(c, facet(k, t, touch::facing_of(t)))
+}
+
+// The cutter's height over its tip at the distance d from its axis.
+pub fn bull_profile(d: f64, r: f64, rc: f64) -> f64
+    ensures { λ h. ⌜ h ≡ bullProfile d r rc ⌝ }
+{
+    let s = d - (r - rc);
+    if s <= 0.0 {
+        0.0
+    } else {
+        rc - numbers::root(numbers::max(rc * rc - s * s, 0.0))
+    }
+}
+
+// The vertices' candidates.
+fn vertices(k: Bull, t: Triangle) -> Contact
+    ensures { λ c. ⌜ c ≡ bullVertices k t ⌝ }
+{
+    let a = touch::offer(Contact::Nothing, vertex(k, t.ax, t.ay, t.az));
+    let b = touch::offer(a, vertex(k, t.bx, t.by, t.bz));
+    touch::offer(b, vertex(k, t.cx, t.cy, t.cz))
+}
+
+// The candidate of a vertex.
+fn vertex(k: Bull, x: f64, y: f64, z: f64) -> Contact
+    ensures { λ c. ⌜ c ≡ bullVertex k x y z ⌝ }
+{
+    over(k, z, numbers::hypot(x - k.x, y - k.y))
+}
+
+// The candidate of a point at the distance d from the axis.
+fn over(k: Bull, z: f64, d: f64) -> Contact
+    ensures { λ c. ⌜ c ≡ bullOver k z d ⌝ }
+{
+    if d <= k.r {
+        Contact::Height(z - bull_profile(d, k.r, k.rc))
+    } else {
+        Contact::Nothing
+    }
+}
+
+// The contact c with the edges' candidates.
+fn edges(k: Bull, floor: f64, t: Triangle, c: Contact) -> Contact
+    ensures { λ r. ⌜ r ≡ bullEdges k floor t c ⌝ }
+{
+    let ab = edge(k, floor, c, touch::edge_ab(t));
+    let bc = edge(k, floor, ab, touch::edge_bc(t));
+    edge(k, floor, bc, touch::edge_ca(t))
+}
+
+// The contact c with the candidate of an edge, unless the edge cannot exceed the floor or c.
+fn edge(k: Bull, floor: f64, c: Contact, e: Edge) -> Contact
+    ensures { λ r. ⌜ r ≡ bullEdge k floor c e ⌝ }
+{
+    if too_low(floor, c, e) {
+        return c;
+    }
+    touch::offer(c, stretch_of(k, e, touch::reached(e, k.x, k.y, k.r)))
+}
+
+// Whether an edge's higher end is not above the floor and the best so far.
+fn too_low(floor: f64, c: Contact, e: Edge) -> bool
+    ensures { λ r. ⌜ r ≡ tooLow floor c e ⌝ }
+{
+    numbers::max(e.az, e.bz) <= numbers::max(floor, best_so_far(c))
+}
+
+// The best height so far.
+fn best_so_far(c: Contact) -> f64
+    ensures { λ r. ⌜ r ≡ bestSoFar c ⌝ }
+{
+    match c {
+        Contact::Nothing => MINUS_ONE / 0.0,
+        Contact::Height(z) => z,
+    }
+}
+
+// The best of an edge's stretch.
+fn stretch_of(k: Bull, e: Edge, s: Stretch) -> Contact
+    ensures { λ c. ⌜ c ≡ bullStretch k e s ⌝ }
+{
+    match s {
+        Stretch::Nowhere => Contact::Nothing,
+        Stretch::Between(t0, t1) => Contact::Height(search(k, e, t0, t1)),
+    }
+}
+
+// The largest tip's height between two places of an edge.
+fn search(k: Bull, e: Edge, lo: f64, hi: f64) -> f64
+    ensures { λ r. ⌜ r ≡ goldenMax (bullAt k e) lo hi 40 ⌝ }
+{
+    let mut g = start(k, e, lo, hi);
+    for n in 0..40usize {
+        g = step(k, e, g);
+    }
+    golden::best(at(k, e, lo), at(k, e, hi), g.f1, g.f2)
+}
+
+// The search's first bracket.
+fn start(k: Bull, e: Edge, lo: f64, hi: f64) -> Golden
+    ensures { λ g. ⌜ g ≡ goldenStart (bullAt k e) lo hi ⌝ }
+{
+    let u = golden::lower_point(lo, hi);
+    let v = golden::upper_point(lo, hi);
+    golden::start(lo, hi, at(k, e, u), at(k, e, v))
+}
+
+// A step of the search.
+fn step(k: Bull, e: Edge, g: Golden) -> Golden
+    ensures { λ r. ⌜ r ≡ goldenStep rises (bullAt k e) g ⌝ }
+{
+    let left = golden::drops_low(g);
+    let p = golden::probe(left, g);
+    golden::narrowed(left, g, p, at(k, e, p))
+}
+
+// The tip's height over the edge's point at t.
+fn at(k: Bull, e: Edge, t: f64) -> f64
+    ensures { λ z. ⌜ z ≡ bullAt k e t ⌝ }
+{
+    let z = e.az + t * (e.bz - e.az);
+    let r = k.r;
+    let rc = k.rc;
+    let d = numbers::min(touch::distance_at(e, k.x, k.y, t), r);
+    z - bull_profile(d, r, rc)
+}
+
+// The candidate of the facet.
+fn facet(k: Bull, t: Triangle, f: Facing) -> Contact
+    ensures { λ c. ⌜ c ≡ bullFacet k t f ⌝ }
+{
+    match f {
+        Facing::Upright => Contact::Nothing,
+        Facing::Leaning(g) => touch::facet_height(t, rest(k, g)),
+    }
+}
+
+// Where the cutter rests on a plane.
+fn rest(k: Bull, g: Gradient) -> Rest
+    ensures { λ r. ⌜ r ≡ bullRest k g ⌝ }
+{
+    let steep = g.steep;
+    if steep < 1e-15 {
+        Rest {
+            x: k.x,
+            y: k.y,
+            drop: 0.0,
+        }
+    } else {
+        sloped(k, g, numbers::root(1.0 + steep * steep))
+    }
+}
+
+// Where the cutter rests on a plane that is not level; root is that of 1 and the slope's square.
+fn sloped(k: Bull, g: Gradient, root: f64) -> Rest
+    ensures { λ r. ⌜ r ≡ bullSloped k g root ⌝ }
+{
+    touch::rest_at(
+        g,
+        k.x,
+        k.y,
+        k.r - k.rc + k.rc * g.steep / root,
+        k.rc - k.rc / root,
+    )
+}
