@@ -1,0 +1,16 @@
+use borrow.Author.Needs.{needs}
+use mathlib.Core.Path.{_≡_, refl, ap, sym, _∙_}
+use Rattle.section.specs.Section.{sectionUnder}
+use Rattle.section.proofs.under.Statement.{statement}
+use Rattle.section.proofs.under.Tie as tie
+
+returns : tie.Need-returns
+unfolding sectionUnder
+returns c = ap (sectionUnder _) (sym (c .enum-told .given .1))
+
+returns-2 : tie.Need-returns-2
+unfolding sectionUnder
+returns-2 c = ap (sectionUnder _) (sym (c .before .h .given .1))
+
+pub under-spec : {M : Type 1} → statement M
+under-spec = tie.close (tie.spec (λ c. search needs) (λ c. search needs) returns returns-2)

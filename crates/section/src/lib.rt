@@ -1,0 +1,241 @@
+// A section of a tool: its profile, its validity, and its contact with one triangle.
+ghost use mathlib.Core.Path.{_≡_};
+ghost use Rattle.golden.specs.Search.{rises, goldenStart, goldenStep, goldenMax, goldenMaxBound};
+ghost use Rattle.section.specs.Section.{within, positiveReach, validSection, profileOf, heightOver, sectionUnder, sectionVertex, sectionVertices, sectionAt, lipschitzOf, sectionStretch, sectionEdge, sectionEdges, reachOf, sectionSloped, sectionRest, sectionFacet, sectionContact};
+use golden::Golden;
+use plane::Contact;
+use plane::Triangle;
+use touch::Edge;
+use touch::Facing;
+use touch::Gradient;
+use touch::Rest;
+use touch::Stretch;
+
+// A part of a tool seen from below: level to r0 at z0 over the tip, then rising to r1.
+pub struct Section {
+    pub z0: f64,
+    pub r0: f64,
+    pub r1: f64,
+    pub rise: f64,
+}
+
+// The height of a section's surface over the tip: none beyond r1.
+pub enum Surface {
+    Beyond,
+    Over(f64),
+}
+
+// Whether a section is valid.
+pub fn valid(s: Section) -> bool
+    ensures { λ b. ⌜ b ≡ validSection s ⌝ }
+{
+    let r1 = s.r1;
+    let rise = s.rise;
+    let r0 = s.r0;
+    if !within_range(s.z0, 1e6) {
+        return false;
+    }
+    if !within_range(r0, r1) {
+        return false;
+    }
+    positive(r1, rise)
+}
+
+// Whether r1 is above 0 and in its range, and rise in its range.
+fn positive(r1: f64, rise: f64) -> bool
+    ensures { λ b. ⌜ b ≡ positiveReach r1 rise ⌝ }
+{
+    if 0.0 < r1 {
+        if r1 <= 1e6 {
+            within_range(rise, 1e9)
+        } else {
+            false
+        }
+    } else {
+        false
+    }
+}
+
+// Whether x is from 0 to `high`.
+fn within_range(x: f64, high: f64) -> bool
+    ensures { λ b. ⌜ b ≡ within x high ⌝ }
+{
+    if 0.0 <= x { x <= high } else { false }
+}
+
+// The tip's height where the section, its axis at (x, y), rests on the triangle: an upper bound.
+pub fn section_contact(t: Triangle, x: f64, y: f64, s: Section) -> Contact
+    ensures { λ c. ⌜ c ≡ sectionContact t x y s ⌝ }
+{
+    let c = edges(s, x, y, t, vertices(s, x, y, t));
+    touch::offer(c, facet(s, x, y, t, touch::facing_of(t)))
+}
+
+// The height of the lower surface over the tip at the distance d from the axis.
+pub fn profile(s: Section, d: f64) -> Surface
+    ensures { λ h. ⌜ h ≡ profileOf s d ⌝ }
+{
+    if d <= s.r0 {
+        return Surface::Over(s.z0);
+    }
+    if d <= s.r1 {
+        return Surface::Over(s.z0 + (d - s.r0) * s.rise);
+    }
+    Surface::Beyond
+}
+
+// The same as a number: infinite beyond r1.
+fn height_over(h: Surface) -> f64
+    ensures { λ r. ⌜ r ≡ heightOver h ⌝ }
+{
+    match h {
+        Surface::Beyond => 1.0 / 0.0,
+        Surface::Over(z) => z,
+    }
+}
+
+// The candidate of a point at the height z under the surface.
+fn under(z: f64, h: Surface) -> Contact
+    ensures { λ c. ⌜ c ≡ sectionUnder z h ⌝ }
+{
+    match h {
+        Surface::Beyond => Contact::Nothing,
+        Surface::Over(d) => Contact::Height(z - d),
+    }
+}
+
+// The candidate of a vertex.
+fn vertex(s: Section, x: f64, y: f64, vx: f64, vy: f64, vz: f64) -> Contact
+    ensures { λ c. ⌜ c ≡ sectionVertex s x y vx vy vz ⌝ }
+{
+    under(vz, profile(s, numbers::hypot(vx - x, vy - y)))
+}
+
+// The vertices' candidates.
+fn vertices(s: Section, x: f64, y: f64, t: Triangle) -> Contact
+    ensures { λ c. ⌜ c ≡ sectionVertices s x y t ⌝ }
+{
+    let a = touch::offer(Contact::Nothing, vertex(s, x, y, t.ax, t.ay, t.az));
+    let b = touch::offer(a, vertex(s, x, y, t.bx, t.by, t.bz));
+    touch::offer(b, vertex(s, x, y, t.cx, t.cy, t.cz))
+}
+
+// The contact c with the edges' candidates.
+fn edges(s: Section, x: f64, y: f64, t: Triangle, c: Contact) -> Contact
+    ensures { λ r. ⌜ r ≡ sectionEdges s x y t c ⌝ }
+{
+    let ab = touch::offer(c, edge(s, x, y, touch::edge_ab(t)));
+    let bc = touch::offer(ab, edge(s, x, y, touch::edge_bc(t)));
+    touch::offer(bc, edge(s, x, y, touch::edge_ca(t)))
+}
+
+// The candidate of an edge.
+fn edge(s: Section, x: f64, y: f64, e: Edge) -> Contact
+    ensures { λ c. ⌜ c ≡ sectionEdge s x y e ⌝ }
+{
+    stretch_of(s, x, y, e, touch::reached(e, x, y, s.r1))
+}
+
+// The bound over an edge's stretch.
+fn stretch_of(s: Section, x: f64, y: f64, e: Edge, part: Stretch) -> Contact
+    ensures { λ c. ⌜ c ≡ sectionStretch s x y e part ⌝ }
+{
+    match part {
+        Stretch::Nowhere => Contact::Nothing,
+        Stretch::Between(t0, t1) => Contact::Height(bounded(s, x, y, e, t0, t1)),
+    }
+}
+
+// The bound between two places of an edge.
+fn bounded(s: Section, x: f64, y: f64, e: Edge, lo: f64, hi: f64) -> f64
+    ensures { λ r. ⌜ r ≡ goldenMaxBound (sectionAt s x y e) lo hi (lipschitzOf s e) ⌝ }
+{
+    golden::bound(search(s, x, y, e, lo, hi), lo, hi, lipschitz(s, e))
+}
+
+// How much the tip's height changes at most along an edge.
+fn lipschitz(s: Section, e: Edge) -> f64
+    ensures { λ r. ⌜ r ≡ lipschitzOf s e ⌝ }
+{
+    let ex = e.bx - e.ax;
+    let ey = e.by - e.ay;
+    let rise = s.rise;
+    let steep = numbers::abs(e.bz - e.az);
+    steep + rise * numbers::root(ex * ex + ey * ey)
+}
+
+// The largest tip's height between two places of an edge.
+fn search(s: Section, x: f64, y: f64, e: Edge, lo: f64, hi: f64) -> f64
+    ensures { λ r. ⌜ r ≡ goldenMax (sectionAt s x y e) lo hi 60 ⌝ }
+{
+    let mut g = start(s, x, y, e, lo, hi);
+    for n in 0..60usize {
+        g = step(s, x, y, e, g);
+    }
+    golden::best(at(s, x, y, e, lo), at(s, x, y, e, hi), g.f1, g.f2)
+}
+
+// The search's first bracket.
+fn start(s: Section, x: f64, y: f64, e: Edge, lo: f64, hi: f64) -> Golden
+    ensures { λ g. ⌜ g ≡ goldenStart (sectionAt s x y e) lo hi ⌝ }
+{
+    let u = golden::lower_point(lo, hi);
+    let v = golden::upper_point(lo, hi);
+    golden::start(lo, hi, at(s, x, y, e, u), at(s, x, y, e, v))
+}
+
+// A step of the search.
+fn step(s: Section, x: f64, y: f64, e: Edge, g: Golden) -> Golden
+    ensures { λ r. ⌜ r ≡ goldenStep rises (sectionAt s x y e) g ⌝ }
+{
+    let left = golden::drops_low(g);
+    let p = golden::probe(left, g);
+    golden::narrowed(left, g, p, at(s, x, y, e, p))
+}
+
+// The tip's height over the edge's point at t.
+fn at(s: Section, x: f64, y: f64, e: Edge, t: f64) -> f64
+    ensures { λ z. ⌜ z ≡ sectionAt s x y e t ⌝ }
+{
+    let z = e.az + t * (e.bz - e.az);
+    let r1 = s.r1;
+    let d = numbers::min(touch::distance_at(e, x, y, t), r1);
+    z - height_over(profile(s, d))
+}
+
+// The candidate of the facet.
+fn facet(s: Section, x: f64, y: f64, t: Triangle, f: Facing) -> Contact
+    ensures { λ c. ⌜ c ≡ sectionFacet s x y t f ⌝ }
+{
+    match f {
+        Facing::Upright => Contact::Nothing,
+        Facing::Leaning(g) => touch::facet_height(t, rest(s, x, y, g)),
+    }
+}
+
+// Where the section rests on a plane.
+fn rest(s: Section, x: f64, y: f64, g: Gradient) -> Rest
+    ensures { λ r. ⌜ r ≡ sectionRest s x y g ⌝ }
+{
+    let steep = g.steep;
+    let drop = s.z0;
+    if steep < 1e-15 {
+        Rest { x, y, drop }
+    } else {
+        sloped(s, x, y, g, reach_of(s, steep))
+    }
+}
+
+// How far from the axis the section rests on a plane that is not level.
+fn reach_of(s: Section, steep: f64) -> f64
+    ensures { λ r. ⌜ r ≡ reachOf s steep ⌝ }
+{
+    if steep <= s.rise { s.r0 } else { s.r1 }
+}
+
+// Where the section rests on a plane that is not level.
+fn sloped(s: Section, x: f64, y: f64, g: Gradient, reach: f64) -> Rest
+    ensures { λ r. ⌜ r ≡ sectionSloped s x y g reach ⌝ }
+{
+    touch::rest_at(g, x, y, reach, height_over(profile(s, reach)))
+}
