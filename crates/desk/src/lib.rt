@@ -75,7 +75,14 @@ pub extern "C" fn mandrikelo_total_less(x: f64, y: f64) -> bool
 
 // The squared distance in plan from x to the segment from p to q.
 #[no_mangle]
-pub extern "C" fn mandrikelo_dist2_to_segment(x0: f64, x1: f64, p0: f64, p1: f64, q0: f64, q1: f64) -> f64
+pub extern "C" fn mandrikelo_dist2_to_segment(
+    x0: f64,
+    x1: f64,
+    p0: f64,
+    p1: f64,
+    q0: f64,
+    q1: f64,
+) -> f64
     ensures { λ r. ⌜ r ≡ dist2ToSegment x0 x1 p0 p1 q0 q1 ⌝ }
 {
     plane::dist2_to_segment(x0, x1, p0, p1, q0, q1)

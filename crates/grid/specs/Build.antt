@@ -73,8 +73,8 @@ outcome b s m = record { built = b; starts = s; members = m }
 unfoldable pub refusedBy : ℕ → Built
 refusedBy k =
     record {
-        refusal = k;
-        header = record { n = 0; «origin_x» = f0; «origin_y» = f0; cell = f0; columns = 0; rows = 0; floor = f0; eps = f0; r = f0 }
+      refusal = k;
+      header = record { n = 0; «origin_x» = f0; «origin_y» = f0; cell = f0; columns = 0; rows = 0; floor = f0; eps = f0; r = f0 };
     }
 
 unfoldable pub acceptedWith : Header → Built

@@ -21,11 +21,11 @@ gridOf mesh n r =
     let e = extentOf mesh n in
     let size = sizeOf n (spanOf e r) r in
     record {
-        x = e .left;
-        y = e .bottom;
-        size = size;
-        columns = cellsAlong (e .left) (e .right) size;
-        rows = cellsAlong (e .bottom) (e .top) size
+      x = e .left;
+      y = e .bottom;
+      size = size;
+      columns = cellsAlong (e .left) (e .right) size;
+      rows = cellsAlong (e .bottom) (e .top) size;
     }
 
 -- How many cells a grid has.

@@ -15,15 +15,15 @@ use Rattle.grid.specs.Grid.{trianglesIn, gridOf, coverOf}
 unfoldable pub headed : List Float → ℕ → Grid → Float → Float → Header
 headed mesh n g floor r =
     record {
-        n = n;
-        «origin_x» = g .x;
-        «origin_y» = g .y;
-        cell = g .size;
-        columns = g .columns;
-        rows = g .rows;
-        floor = floor;
-        eps = epsOf mesh n;
-        r = r
+      n = n;
+      «origin_x» = g .x;
+      «origin_y» = g .y;
+      cell = g .size;
+      columns = g .columns;
+      rows = g .rows;
+      floor = floor;
+      eps = epsOf mesh n;
+      r = r;
     }
 
 unfoldable pub headerOf : List Float → Float → Float → Header

@@ -167,7 +167,15 @@ fn build_grid(mesh: &[f64], floor: f64, r: f64, starts: &mut [u32], members: &mu
 }
 
 // The tables of a grid, or refusal 6.
-fn fill_grid(mesh: &[f64], n: usize, g: Grid, floor: f64, r: f64, starts: &mut [u32], members: &mut [u32]) -> Built
+fn fill_grid(
+    mesh: &[f64],
+    n: usize,
+    g: Grid,
+    floor: f64,
+    r: f64,
+    starts: &mut [u32],
+    members: &mut [u32],
+) -> Built
     requires { ⌜ Gridded (now mesh) n g ⌝ }
     requires { ⌜ cellsIn g + 1 ≤ length (now starts) ⌝ }
     ensures { λ b. ⌜ outcome b (now (starts .exit)) (now (members .exit)) ≡ filledOf (now (mesh .entry)) n g floor r (now (starts .entry)) (now (members .entry)) ⌝ }

@@ -9,7 +9,7 @@ use lib.Dec.{T, leb, eqb, leb→le, nleb→lt, eqb→eq, T-not, lit<}
 use lib.Arith.{lt-of-le-ne}
 use lib.Pow.{pow-add, pow-pos, pow-mono, shl-lt}
 use lib.Count.{leadingZeros, leading-top}
-use lib.Ieee.{Float, nan, inf, fin, binary64, up, minus, ofFields}
+use lib.Ieee.{Float, nan, inf, fin, binary64, up, minus, ofFields, ofBits, div}
 use lib.Ieee.Digits.{minus-val}
 use lib.Ieee.Fits.{down-pos, eq→eqb}
 use lib.Ieee.Exact.{HasValue}
@@ -26,6 +26,14 @@ root-negative (inf s) a c p h = absurd h
 root-negative (fin false m e) a c p h = absurd (false≢true (h .0))
 root-negative (fin true zero e) a c p h = absurd (lt-irrefl 0 (subst (λ (n : ℕ). 0 < n) (sym (h .1) ∙ ap (λ (n : ℕ). n * c) (zero-mul (up e)) ∙ zero-mul c) (mul-pos p (down-pos e))))
 root-negative (fin true (suc m) e) a c p h = refl
+
+pub not-a-number : div binary64 (ofBits binary64 0) (ofBits binary64 0) ≡ nan
+unfolding div ofBits
+not-a-number = refl
+
+pub root-nan : (x : Float) → x ≡ nan → x ≡ rootOf x
+unfolding rootOf
+root-nan x e = e ∙ ap rootOf (sym e)
 
 pub root-zero : (s : Bool) → ofFields binary64 s 0 0 ≡ rootOf (ofFields binary64 s 0 0)
 unfolding rootOf ofFields
@@ -44,16 +52,26 @@ unfolding rootOf
 minus-special true = refl
 minus-special false = refl
 
-pub root-minus-low : (f : ℕ) → 0 < f → rootOf (ofFields binary64 true 0 f) ≡ nan
+root-minus-low : (f : ℕ) → 0 < f → rootOf (ofFields binary64 true 0 f) ≡ nan
 root-minus-low f p = root-negative (ofFields binary64 true 0 f) f (2 ^ 1074) p (subnormal-value true f)
 
-pub root-minus : (e f : ℕ) → (e ≡ 0 → ⊥) → e < 2 ^ 11 → rootOf (ofFields binary64 true e f) ≡ nan
+root-minus : (e f : ℕ) → (e ≡ 0 → ⊥) → e < 2 ^ 11 → rootOf (ofFields binary64 true e f) ≡ nan
 root-minus zero f n h = absurd (n refl)
 root-minus (suc e) f n h = go (eqb (suc e) 2047) (eqb→eq (suc e) 2047) (λ k. lt-of-le-ne (le-of-suc-le-suc h) (λ p. T-not (eqb (suc e) 2047) k (eq→eqb p)))
   where
     go : (b : Bool) → (T b → suc e ≡ 2047) → (T (not b) → suc e < 2047) → rootOf (ofFields binary64 true (suc e) f) ≡ nan
     go true p q = ap (λ (n : ℕ). rootOf (ofFields binary64 true n f)) (p tt) ∙ ap rootOf (special true f) ∙ minus-special (eqb f 0)
     go false p q = root-negative (ofFields binary64 true (suc e) f) ((2 ^ 52 + f) * 2 ^ e) (2 ^ 1074) (mul-pos (lt-of-lt-of-le (lit< tt) (le-add-right (2 ^ 52) f)) (pow-pos e)) (normal-value true e f (le-of-suc-le-suc (q tt)))
+
+pub root-minus-any : (e f : ℕ) → e < 2 ^ 11 → (e ≡ 0 → f ≡ 0 → ⊥) → rootOf (ofFields binary64 true e f) ≡ nan
+root-minus-any zero f h n = root-minus-low f (some f (n refl))
+  where
+    some : (f : ℕ) → (f ≡ 0 → ⊥) → 0 < f
+    some f n = omega arith
+root-minus-any (suc e) f h n = root-minus (suc e) f (λ z. no e z) h
+  where
+    no : (e : ℕ) → suc e ≡ 0 → ⊥
+    no e z = omega arith
 
 -- ---- a number above zero
 pub root-low : (f : ℕ) → 0 < f → rootOf (fin false f (negsuc 1073)) ≡ rootOf (ofFields binary64 false 0 f)

@@ -17,3 +17,4 @@ pub mod Places
 pub mod Computed
 pub mod Signs
 pub mod Largest
+pub mod LeastNormal

@@ -90,3 +90,17 @@ le-of-signed (fin z m e) (fin w n g) s a c t b d C D h k o =
     go false true o = (vanish (m * up e) (down e) a c (h .1) C (o .0), vanish (n * up g) (down g) b d (k .1) D (o .1))
     go true false o = omega arith
     go true true o = transfer (n * up g) (m * up e) (down g) (down e) b a d c D C (k .1) (h .1) o
+
+pub under-of-le : (x y : Float) (s : Bool) (a c : ℕ) (t : Bool) (b d : ℕ) → 0 < c → 0 < d → HasValue x s a c → HasValue y t b d → T (le x y) → Under s a c t b d
+under-of-le nan y s a c t b d C D h k l = absurd h
+under-of-le (inf z) y s a c t b d C D h k l = absurd h
+under-of-le (fin z m e) nan s a c t b d C D h k l = absurd k
+under-of-le (fin z m e) (inf w) s a c t b d C D h k l = absurd k
+under-of-le (fin z m e) (fin w n g) s a c t b d C D h k l =
+    go s t (le→under s m e t n g (subst (λ (v : Bool). T (le (fin s m e) (fin v n g))) (k .0) (subst (λ (v : Bool). T (le (fin v m e) (fin w n g))) (h .0) l)))
+  where
+    go : (s t : Bool) → Under s (m * up e) (down e) t (n * up g) (down g) → Under s a c t b d
+    go false false o = transfer a b c d (m * up e) (n * up g) (down e) (down g) (down-pos e) (down-pos g) (sym (h .1)) (sym (k .1)) o
+    go false true o = (vanish a c (m * up e) (down e) (sym (h .1)) (down-pos e) (o .0), vanish b d (n * up g) (down g) (sym (k .1)) (down-pos g) (o .1))
+    go true false o = omega arith
+    go true true o = transfer b a d c (n * up g) (m * up e) (down g) (down e) (down-pos g) (down-pos e) (sym (k .1)) (sym (h .1)) o

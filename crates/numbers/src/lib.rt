@@ -3,7 +3,7 @@ ghost use mathlib.Core.Path.{_≡_};
 ghost use mathlib.Core.Bool.{true, false, cond, _||_};
 ghost use Prim.Native.Nat.{_+_, _*_, _/_, _%_, _^_, _≤_, _<_};
 ghost use lib.IntN.{pos, negsuc};
-ghost use lib.Ieee.{nan, inf, fin, minus, binary64, ofBits};
+ghost use lib.Ieee.{nan, inf, fin, minus, binary64, ofBits, le};
 ghost use lib.Bits.{bitAnd};
 ghost use Rattle.numbers.specs.Reals.{maxOf, minOf, absOf, clampUnit};
 ghost use Rattle.numbers.specs.Rounding.{roundDownOf, roundUpOf};
@@ -11,11 +11,13 @@ ghost use Rattle.numbers.specs.Order.{totalLess};
 ghost use Rattle.numbers.specs.Golden.{phiOf, phi60Of};
 ghost use Rattle.numbers.specs.Hypot.{hypotOf, infinite};
 ghost use Rattle.numbers.specs.Root.{Nearest, rootOf};
-ghost use Rattle.numbers.specs.Parts.{Exponent, lifted};
+ghost use Rattle.numbers.specs.Parts.{Exponent, lifted, leastNormal};
 
 pub mod laws;
 
 const FRACTION: u64 = 0xf_ffff_ffff_ffff;
+
+const LEAST_NORMAL: f64 = 2.2250738585072014e-308;
 
 const MINUS_ONE: f64 = -1.0;
 
@@ -64,33 +66,22 @@ pub fn clamp_unit(t: f64) -> f64
     }
 }
 
-// The root of x. The bits of x are taken apart into sign, exponent and fraction.
+// The root of x. Of what is not below the least normal number the sign is clear, so the bits are taken apart into exponent and fraction.
 pub fn root(x: f64) -> f64
     ensures { λ r. ⌜ r ≡ rootOf x ⌝ }
 {
-    if x != x {
-        return x;
-    }
-    let bits = f64::to_bits(x);
-    let sign = bits >> 63;
-    let exponent = (bits >> 52) & 0x7ff;
-    let fraction = bits & FRACTION;
-    if exponent == 0 {
-        if fraction == 0 {
+    if x >= LEAST_NORMAL {
+        let bits = f64::to_bits(x);
+        let exponent = bits >> 52;
+        if exponent == 0x7ff {
             return x;
         }
-        if sign != 0 {
-            return 0.0 / 0.0;
-        }
-        return root_of_subnormal(fraction);
+        return root_of(
+            (bits & FRACTION) | LEADING,
+            difference(exponent as u32, 1075),
+        );
     }
-    if sign != 0 {
-        return 0.0 / 0.0;
-    }
-    if exponent == 0x7ff {
-        return x;
-    }
-    root_of(fraction | LEADING, difference(exponent as u32, 1075))
+    root_below_normal(x)
 }
 
 // The largest whole number not above x. Of an x from 1 on `low` digits of the fraction stand behind the point; they are cut off.
@@ -195,6 +186,25 @@ fn round_down_small(x: f64, bits: u64) -> f64
     0.0
 }
 
+// The root of what lies below the least normal number, or is a NaN: the bits are taken apart into sign and fraction.
+fn root_below_normal(x: f64) -> f64
+    requires { ⌜ le leastNormal x ≡ false ⌝ }
+    ensures { λ r. ⌜ r ≡ rootOf x ⌝ }
+{
+    if x != x {
+        return x;
+    }
+    let bits = f64::to_bits(x);
+    let fraction = bits & FRACTION;
+    if bits & MAGNITUDE == 0 {
+        return x;
+    }
+    if bits >> 63 != 0 {
+        return 0.0 / 0.0;
+    }
+    root_of_subnormal(fraction)
+}
+
 // The root of f * 2^-1074: f is shifted up by its count of leading zeros, to 53 digits.
 fn root_of_subnormal(f: u64) -> f64
     requires { ⌜ (0 < f) × (f < 2 ^ 52) ⌝ }
@@ -226,41 +236,29 @@ fn significand(m: u64, odd: u64) -> u64
     nearest_root(n)
 }
 
-// A number that is most often the nearest. Its digits are those of a float near the root of z = m * 2^odd / 2^52; nothing is proved of how near.
+// A number that is most often the nearest: the digits of a float near the root of z = m * 2^-odd / 2^52, which are those of the root asked for.
 fn candidate(m: u64, odd: u64) -> u64
     requires { ⌜ (2 ^ 52 ≤ m) × (m < 2 ^ 53) × (odd < 2) ⌝ }
     ensures { λ r. ⌜ (2 ^ 52 ≤ r) × (r < 2 ^ 53) ⌝ }
 {
-    let u = f64::from_bits((1022u64 << 52) + m);
-    let z = f64::from_bits(((1022 + odd) << 52) + m);
-    let y = guess(u, z, scale(odd));
-    if y >= 1.0 {
+    let bits = ((1022 - odd) << 52) + m;
+    let y = guess(f64::from_bits(bits), seeds::chord((bits >> 46) & 0x7f));
+    if y >= 0.5 {
         return (f64::to_bits(y) & FRACTION) | LEADING;
     }
     LEADING
 }
 
-// 1 / sqrt(2^odd)
-fn scale(odd: u64) -> f64 {
-    if odd == 0 { 1.0 } else { 0.7071067811865476 }
-}
-
-// A float near the root of z, for 1 <= u < 2 and z = u / (c * c).
-fn guess(u: f64, z: f64, c: f64) -> f64 {
-    // 1 / sqrt(u) to 16 digits
-    let t = u - 1.5;
-    let t2 = t * t;
-    let p = ((0.8165059889303032 - 0.2721851994436597 * t)
-        + (0.1354177558972878 - 0.07496745441416258 * t) * t2)
-        + (0.05092835195673077 - 0.03140391456411872 * t) * (t2 * t2);
-    let g0 = (c * z) * p;
-    let h0 = (0.5 * c) * p;
+// A float near the root of z, for z from 1/2 to 2. The line gives 1 / sqrt(z) to 16 digits, a step of Newton's doubles them, and so does the last line, in which
+// z less the square of w and what follows are exact: w is g0 to 26 digits.
+fn guess(z: f64, line: seeds::Line) -> f64 {
+    let p = line.start - line.fall * z;
+    let g0 = z * p;
+    let h0 = 0.5 * p;
     let k = 1.5 - g0 * h0;
     let g = g0 * k;
-    let h = h0 * k;
-    // g0 to 26 digits: its square is exact, and so are z - w * w and g - w
-    let w = (g0 + 201326592.0) - 201326592.0;
-    g + ((z - w * w) - (g - w) * (g + w)) * h
+    let w = (g0 + 100663296.0) - 100663296.0;
+    g + ((z - w * w) - (g - w) * (g + w)) * (h0 * k)
 }
 
 // a - b

@@ -64,10 +64,10 @@ module _ (l : List ℕ) (a b : ℕ) (ha : a < length l) (hb : b < length l) wher
             ⊎-elim
             (λ (s : p ≡ a). ap P (ap (λ (k : ℕ). getD (swapped l a b) k 0) s ∙ swapped-at-a) ∙ all b lb)
             (λ (na : p ≡ a → ⊥).
-              ⊎-elim
-              (λ (s : p ≡ b). ap P (ap (λ (k : ℕ). getD (swapped l a b) k 0) s ∙ swapped-at-b) ∙ all a la)
-              (λ (nb : p ≡ b → ⊥). ap P (swapped-else p na nb) ∙ all p h)
-              (same-or-not p b))
+            ⊎-elim
+            (λ (s : p ≡ b). ap P (ap (λ (k : ℕ). getD (swapped l a b) k 0) s ∙ swapped-at-b) ∙ all a la)
+            (λ (nb : p ≡ b → ⊥). ap P (swapped-else p na nb) ∙ all p h)
+            (same-or-not p b))
             (same-or-not p a);
         rest = λ p h. swapped-else p (λ s. omega arith) (λ s. omega arith);
       }

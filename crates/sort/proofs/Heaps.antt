@@ -50,42 +50,42 @@ module _ (less : ℕ → ℕ → Bool) (s : Strict less) where
   later-is l i e d h eq =
       ⊎-elim
       (λ (t : ltb (2 * i + 1 + 1) e ≡ true).
-        ⊎-elim
-        (λ (u : less (getD l (2 * i + 1) 0) (getD l (2 * i + 1 + 1) 0) ≡ true).
-          let w : d ≡ 2 * i + 1 + 1 = rw (t, u) at eq in
-          let v : 2 * i + 1 + 1 < e = ltb-true _ _ t in
-          record {
-            low = omega arith;
-            high = omega arith;
-            inside = omega arith;
-            last = λ j a b c.
-                ⊎-elim
-                (λ (n : j ≡ d). rw n (s .never _))
-                (λ (n : j ≡ d → ⊥). let k : j ≡ 2 * i + 1 = omega arith in rw (k, w) (s .one-way _ _ u))
-                (same-or-not j d);
-          })
-        (λ (u : less (getD l (2 * i + 1) 0) (getD l (2 * i + 1 + 1) 0) ≡ false).
-          let w : d ≡ 2 * i + 1 = rw (t, u) at eq in
-          record {
-            low = omega arith;
-            high = omega arith;
-            inside = omega arith;
-            last = λ j a b c.
-                ⊎-elim
-                (λ (n : j ≡ d). rw n (s .never _))
-                (λ (n : j ≡ d → ⊥). let k : j ≡ 2 * i + 1 + 1 = omega arith in rw (k, w) u)
-                (same-or-not j d);
-          })
-        (on-or-off _))
+      ⊎-elim
+      (λ (u : less (getD l (2 * i + 1) 0) (getD l (2 * i + 1 + 1) 0) ≡ true).
+      let w : d ≡ 2 * i + 1 + 1 = rw (t, u) at eq in
+      let v : 2 * i + 1 + 1 < e = ltb-true _ _ t in
+      record {
+        low = omega arith;
+        high = omega arith;
+        inside = omega arith;
+        last = λ j a b c.
+            ⊎-elim
+            (λ (n : j ≡ d). rw n (s .never _))
+            (λ (n : j ≡ d → ⊥). let k : j ≡ 2 * i + 1 = omega arith in rw (k, w) (s .one-way _ _ u))
+            (same-or-not j d);
+      })
+      (λ (u : less (getD l (2 * i + 1) 0) (getD l (2 * i + 1 + 1) 0) ≡ false).
+      let w : d ≡ 2 * i + 1 = rw (t, u) at eq in
+      record {
+        low = omega arith;
+        high = omega arith;
+        inside = omega arith;
+        last = λ j a b c.
+            ⊎-elim
+            (λ (n : j ≡ d). rw n (s .never _))
+            (λ (n : j ≡ d → ⊥). let k : j ≡ 2 * i + 1 + 1 = omega arith in rw (k, w) u)
+            (same-or-not j d);
+      })
+      (on-or-off _))
       (λ (t : ltb (2 * i + 1 + 1) e ≡ false).
-        let w : d ≡ 2 * i + 1 = rw t at eq in
-        let v : e ≤ 2 * i + 1 + 1 = ltb-false _ _ t in
-        record {
-          low = omega arith;
-          high = omega arith;
-          inside = omega arith;
-          last = λ j a b c. let k : j ≡ d = omega arith in rw k (s .never _);
-        })
+      let w : d ≡ 2 * i + 1 = rw t at eq in
+      let v : e ≤ 2 * i + 1 + 1 = ltb-false _ _ t in
+      record {
+        low = omega arith;
+        high = omega arith;
+        inside = omega arith;
+        last = λ j a b c. let k : j ≡ d = omega arith in rw k (s .never _);
+      })
       (on-or-off _)
 
   module _ (r e : ℕ) (l₀ : List ℕ) where
@@ -135,12 +135,12 @@ module _ (less : ℕ → ℕ → Bool) (s : Strict less) where
                 ⊎-elim
                 (λ (m : p ≡ i). rw m (under-i j (omega arith) (omega arith) f))
                 (λ (m : p ≡ i → ⊥).
-                  ⊎-elim
-                  (λ (k : j ≡ i). rw k (over-i p a (omega arith) (omega arith)))
-                  (λ (k : j ≡ i → ⊥).
-                    rw (elsewhere p m n, elsewhere j k (λ q. m (omega (arith, t .low, t .high))))
-                    (g .heap p j a m b c f))
-                  (same-or-not j i))
+                ⊎-elim
+                (λ (k : j ≡ i). rw k (over-i p a (omega arith) (omega arith)))
+                (λ (k : j ≡ i → ⊥).
+                rw (elsewhere p m n, elsewhere j k (λ q. m (omega (arith, t .low, t .high))))
+                (g .heap p j a m b c f))
+                (same-or-not j i))
                 (same-or-not p i);
             across = λ p j a b c f h k.
                 let m : p ≡ i = omega (arith, t .low, t .high) in
@@ -182,7 +182,7 @@ module _ (less : ℕ → ℕ → Bool) (s : Strict less) where
       rw (r .rest b y)
       (⊎-elim
       (λ (u : ltb a e ≡ true).
-        not-off _ (r .inside (λ v. not (less (getD l b 0) v)) (λ p h. not-on _ (t p b (omega arith) y z)) a (ltb-true a e u)))
+      not-off _ (r .inside (λ v. not (less (getD l b 0) v)) (λ p h. not-on _ (t p b (omega arith) y z)) a (ltb-true a e u)))
       (λ (u : ltb a e ≡ false). rw (r .rest a (ltb-false a e u)) (t a b x y z))
       (on-or-off (ltb a e)))
 
@@ -195,8 +195,8 @@ module _ (less : ℕ → ℕ → Bool) (s : Strict less) where
     swap-tail a b x y z =
         ⊎-elim
         (λ (u : b ≡ m).
-          rw (u, swapped-at-b l 0 m (omega arith) room)
-          (not-off _ (swapped-all .inside (λ v. not (less (getD l 0 0) v)) (λ p q. not-on _ (top-is-last (m + 1) l h p q)) a (omega arith))))
+        rw (u, swapped-at-b l 0 m (omega arith) room)
+        (not-off _ (swapped-all .inside (λ v. not (less (getD l 0 0) v)) (λ p q. not-on _ (top-is-last (m + 1) l h p q)) a (omega arith))))
         (λ (u : b ≡ m → ⊥). tail-kept (m + 1) k l _ swapped-all t a b x (omega arith) z)
         (same-or-not b m)
 

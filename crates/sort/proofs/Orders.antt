@@ -37,6 +37,7 @@ module _ (less : ℕ → ℕ → Bool) (s : Strict less) where
       front : (b : ℕ) → b < suc (suc (length js)) → less (getD (i ∷ j ∷ js) b 0) x ≡ false
       front zero h = e
       front (suc b) h = a b (omega arith)
+
       back : After less x (insert less i js) → (b : ℕ) → b < suc (length (insert less i js)) → less (getD (j ∷ insert less i js) b 0) x ≡ false
       back r zero h = a zero (omega arith)
       back r (suc b) h = r b (omega arith)
@@ -115,11 +116,11 @@ module _ (less : ℕ → ℕ → Bool) (s : Strict less) where
   sorted-is k l l′ room r t =
       let rest : drop k l′ ≡ drop k l = ext-getD 0 (drop k l′) (drop k l) (simp length-drop (rw (r .size))) (λ i h. rw (getD-drop k l′ i 0, getD-drop k l i 0) (r .rest (k + i) (omega arith))) in
       let rises : Rising less (take k l′) = tail-rises (take k l′) (λ a b h q.
-              let q′ : b < k = omega (arith, rw (length-take k l′) at q) in
-              rw (getD-take k l′ b 0 q′, getD-take k l′ a 0 (omega arith)) (t a b h (omega arith) q′)) in
+      let q′ : b < k = omega (arith, rw (length-take k l′) at q) in
+      rw (getD-take k l′ b 0 q′, getD-take k l′ a 0 (omega arith)) (t a b h (omega arith) q′)) in
       let same : take k l′ ≡ sortedBy less (take k l) =
-              one-sorted (take k l′) (sortedBy less (take k l)) rises (sorted-rises (take k l))
-              (λ x. omega (arith, sorted-counts x (take k l), r .same x, counted x l, counted x l′, ap (count x) rest)) in
+      one-sorted (take k l′) (sortedBy less (take k l)) rises (sorted-rises (take k l))
+      (λ x. omega (arith, sorted-counts x (take k l), r .same x, counted x l, counted x l′, ap (count x) rest)) in
       sym (take-append-drop k l′) ∙ (rw (same, rest))
     where
       counted : (x : ℕ) (m : List ℕ) → count x (take k m) + count x (drop k m) ≡ count x m

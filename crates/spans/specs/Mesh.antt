@@ -36,10 +36,10 @@ boxOf mesh i = boundsOf (triangleOf mesh i)
 unfoldable pub widened : Extent → Bounds → Extent
 widened e b =
     record {
-        left = minOf (e .left) (b .«low_x»);
-        bottom = minOf (e .bottom) (b .«low_y»);
-        right = maxOf (e .right) (b .«high_x»);
-        top = maxOf (e .top) (b .«high_y»)
+      left = minOf (e .left) (b .«low_x»);
+      bottom = minOf (e .bottom) (b .«low_y»);
+      right = maxOf (e .right) (b .«high_x»);
+      top = maxOf (e .top) (b .«high_y»);
     }
 
 unfoldable pub extentOf : List Float → ℕ → Extent
