@@ -1,0 +1,3 @@
+pub mod Patches
+pub mod Testing
+pub mod Using

@@ -1,0 +1,54 @@
+-- Loops over a test that must hold of each: what is left of the range or the list gives what the whole gave.
+use mathlib.Core.Bool.{Bool, true, false, not, _&&_}
+use mathlib.Core.List.{List, [], _∷_}
+use mathlib.Core.Path.{_≡_, refl, ap, sym, _∙_}
+use Prim.Native.Nat.{ℕ, zero, suc, _+_, _-_, _*_, _≤_, _<_}
+use native.Mathlib.Nat.{mul-le-mul-right, add-mul}
+use native.Mathlib.Numerals.{add-one}
+use native.Mathlib.Omega.{arith}
+use borrow.Author.Tests.{not-true, not-false}
+use lib.ListN.{length, getD, drop, drop-of-length-le}
+use lib.Seq.{drop-cons}
+use Rattle.query.specs.Usable.{every, each}
+
+-- a test that a call made, whose answer was negated
+pub failed : (r t : Bool) → r ≡ t → not r ≡ true → t ≡ false
+failed r t e h = sym e ∙ not-true r h
+
+pub passed : (r t : Bool) → r ≡ t → not r ≡ false → t ≡ true
+passed r t e h = sym e ∙ not-false r h
+
+-- ---- a range: a number that fails, one that passes, the end
+module _ (test : ℕ → Bool) (a b : ℕ) (r : Bool) where
+  next : a < b → every test a (b - a) ≡ (test a && every test (a + 1) (b - (a + 1)))
+  unfolding every
+  next h = let e : b - a ≡ suc (b - (a + 1)) = omega arith in rw e
+
+  pub every-stops : a < b → test a ≡ false → every test a (b - a) ≡ r → false ≡ r
+  every-stops h t i = (rw t at (sym (next h))) ∙ i
+
+  pub every-goes : a < b → test a ≡ true → every test a (b - a) ≡ r → every test (a + 1) (b - (a + 1)) ≡ r
+  every-goes h t i = (rw t at (sym (next h))) ∙ i
+
+  pub every-ends : b ≤ a → every test a (b - a) ≡ r → true ≡ r
+  unfolding every
+  every-ends h i = let e : b - a ≡ 0 = omega arith in rw e at i
+
+-- ---- a list, at its number j
+module _ (test : ℕ → Bool) (ms : List ℕ) (j : ℕ) where
+  pub each-stops : j < length ms → test (getD ms j 0) ≡ false → each test (drop j ms) ≡ each test ms → false ≡ each test ms
+  unfolding each
+  each-stops h t i = (rw (drop-cons ms j 0 h, t)) ∙ i
+
+  pub each-goes : j < length ms → test (getD ms j 0) ≡ true → each test (drop j ms) ≡ each test ms → each test (drop (j + 1) ms) ≡ each test ms
+  unfolding each
+  each-goes h t i = rw (add-one j) (rw (drop-cons ms j 0 h, t) at i)
+
+  pub each-ends : length ms ≤ j → each test (drop j ms) ≡ each test ms → true ≡ each test ms
+  unfolding each
+  each-ends h i = rw (drop-of-length-le ms h) at i
+
+-- row y lies before row y1
+pub in-rows : (columns x1 y y1 : ℕ) → x1 ≤ columns → y < y1 → y * columns + x1 ≤ y1 * columns
+in-rows columns x1 y y1 hc hy =
+    omega (arith, mul-le-mul-right {m = y + 1} {n = y1} columns (omega arith), add-mul y 1 columns)

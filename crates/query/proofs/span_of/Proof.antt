@@ -1,0 +1,11 @@
+use Rattle.query.specs.Patch.{spanOf}
+use Rattle.query.proofs.span_of.Statement.{statement}
+use Rattle.query.proofs.span_of.Tie as tie
+
+returns : tie.Need-returns
+unfolding spanOf
+returns c = cc
+
+pub span-of-spec : {M : Type 1} → statement M
+span-of-spec =
+    tie.close (tie.spec (λ c κs. tt) (λ c κs. tt) (λ c κs. tt) (λ c κs. tt) (λ c κs. tt) returns)

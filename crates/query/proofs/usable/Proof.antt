@@ -1,0 +1,25 @@
+use mathlib.Core.Path.{sym, _∙_}
+use native.Mathlib.Omega.{arith}
+use Rattle.numbers.proofs.Branches.{branches, bool-called}
+use Rattle.header.proofs.Ranges.{headed-is}
+use Rattle.query.specs.Usable.{usable}
+use Rattle.query.proofs.Using.{rows-room}
+use Rattle.query.proofs.usable.Statement.{statement}
+use Rattle.query.proofs.usable.Tie as tie
+
+cells-usable-requires : tie.Need-cells-usable-requires
+cells-usable-requires c κs =
+    let s = c .before .before .before .before .before .before in
+    let d = headed-is _ _ _ (sym (c .before .head-usable .ensures) ∙ c .if1 .taken) in
+    (d .nine, omega (arith, d .nine, s .pre .0), s .pre .1, rows-room _ _ _ _ d (s .pre .2))
+
+returns : tie.Need-returns
+unfolding usable
+returns c = search (branches, bool-called)
+
+returns-2 : tie.Need-returns-2
+unfolding usable
+returns-2 c = search (branches, bool-called)
+
+pub usable-spec : {M : Type 1} → statement M
+usable-spec = tie.close (tie.spec (λ c κs. tt) cells-usable-requires returns returns-2)

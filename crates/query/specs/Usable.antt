@@ -1,0 +1,55 @@
+-- Document 01, refusal 7: what a header and its tables must be, so that a question can be answered from them. Nothing is written by these tests.
+use mathlib.Core.Bool.{Bool, true, _&&_}
+use mathlib.Core.List.{List, [], _∷_}
+use Prim.Native.Nat.{ℕ, zero, suc, _+_, _-_, _*_}
+use lib.Dec.{eqb, ltb, leb}
+use lib.Ieee.{Float}
+use lib.ListN.{length, getD}
+use Rattle.numbers.specs.Reals.{num}
+use Rattle.spans.specs.Mesh.{isCoordinate}
+use Rattle.walk.specs.Walk.{cell}
+use Rattle.grid.specs.declared.Header.{Header}
+use Rattle.header.specs.Head.{headUsable}
+use Rattle.query.specs.declared.Patch.{Patch}
+
+-- the test holds of a, a + 1, .. n of them
+unfoldable pub every : (ℕ → Bool) → ℕ → ℕ → Bool
+every test a zero = true
+every test a (suc n) = test a && every test (a + 1) n
+
+-- the test holds of each number of a list
+unfoldable pub each : (ℕ → Bool) → List ℕ → Bool
+each test [] = true
+each test (i ∷ is) = test i && each test is
+
+-- No coordinate of triangle i is one that 4 would refuse.
+unfoldable pub triangleUsable : List Float → ℕ → Bool
+triangleUsable mesh i = every (λ k. isCoordinate (num mesh k)) (9 * i) 9
+
+-- A member of a question's cells is below n, its coordinates pass, and its mark is not above the handed stamp.
+unfoldable pub memberUsable : List Float → ℕ → List ℕ → ℕ → ℕ → Bool
+memberUsable mesh n marks stamp i = ltb i n && (triangleUsable mesh i && leb (getD marks i 0) stamp)
+
+-- The stretch of cell c: its start is not above its end, its end not beyond members, and the test holds of each member.
+unfoldable pub cellUsable : (ℕ → Bool) → List ℕ → List ℕ → ℕ → Bool
+cellUsable test starts members c =
+    leb (getD starts c 0) (getD starts (c + 1) 0)
+    && (leb (getD starts (c + 1) 0) (length members) && each test (cell starts members c))
+
+-- Every cell of columns x0 up to x1 of row y; every one of a question's cells.
+unfoldable pub rowUsable : (ℕ → Bool) → List ℕ → List ℕ → ℕ → ℕ → ℕ → ℕ → Bool
+rowUsable test starts members columns x0 x1 y = every (λ x. cellUsable test starts members (y * columns + x)) x0 (x1 - x0)
+
+unfoldable pub cellsUsable : (ℕ → Bool) → List ℕ → List ℕ → ℕ → Patch → Bool
+cellsUsable test starts members columns p = every (rowUsable test starts members columns (p .x0) (p .x1)) (p .y0) (p .y1 - p .y0)
+
+-- What refusal 7 tests of a question with the cells p.
+unfoldable pub usable : List Float → Header → List ℕ → List ℕ → List ℕ → ℕ → Patch → Bool
+usable mesh h starts members marks stamp p =
+    headUsable mesh h starts && cellsUsable (memberUsable mesh (h .n) marks stamp) starts members (h .columns) p
+
+-- What it tests of the plan: every cell and every triangle, and no mark.
+unfoldable pub usableWhole : List Float → Header → List ℕ → List ℕ → Bool
+usableWhole mesh h starts members =
+    headUsable mesh h starts
+    && (every (triangleUsable mesh) 0 (h .n) && every (cellUsable (λ i. ltb i (h .n)) starts members) 0 (h .rows * h .columns))

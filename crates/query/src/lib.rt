@@ -1,0 +1,211 @@
+// A question's cells, and what refusal 7 tests of a header and its tables. These functions read and never write.
+ghost use mathlib.Core.Path.{_≡_};
+ghost use Prim.Native.Nat.{_+_, _*_, _≤_, _<_, min};
+ghost use lib.Dec.{ltb};
+ghost use lib.ListN.{length};
+ghost use Rattle.query.specs.Patch.{heldTo, spanOf, patchOf};
+ghost use Rattle.query.specs.Usable.{each, triangleUsable, memberUsable, cellUsable, rowUsable, cellsUsable, usable, usableWhole};
+use grid::Header;
+
+// The cells on one axis, from the first up to the one past the last.
+pub struct Span {
+    pub first: usize,
+    pub past: usize,
+}
+
+// A question's cells: columns x0 up to x1 of rows y0 up to y1.
+pub struct Patch {
+    pub x0: usize,
+    pub x1: usize,
+    pub y0: usize,
+    pub y1: usize,
+}
+
+// The cells from lo to hi on an axis of so many.
+fn held(count: usize, lo: f64, hi: f64) -> Span
+    ensures { λ s. ⌜ s ≡ heldTo count lo hi ⌝ }
+{
+    if hi < 0.0 {
+        return Span {
+            first: 0,
+            past: 0,
+        };
+    }
+    let first = spans::cut(lo) as usize;
+    if count <= first {
+        return Span {
+            first: 0,
+            past: 0,
+        };
+    }
+    Span {
+        first,
+        past: one_past(count, spans::cut(hi) as usize),
+    }
+}
+
+// One past the last, held to the count.
+fn one_past(count: usize, last: usize) -> usize
+    ensures { λ r. ⌜ r ≡ min (last + 1) count ⌝ }
+{
+    if last < count { last + 1 } else { count }
+}
+
+// The cells on an axis of a question from a to b.
+fn span_of(a: f64, b: f64, reach: f64, origin: f64, cell: f64, count: usize) -> Span
+    ensures { λ s. ⌜ s ≡ spanOf a b reach origin cell count ⌝ }
+{
+    let lo = numbers::round_down((numbers::min(a, b) - reach - origin) / cell);
+    let hi = numbers::round_down((numbers::max(a, b) + reach - origin) / cell);
+    held(count, lo, hi)
+}
+
+// The cells of a question from p to q.
+pub fn patch_of(h: Header, px: f64, py: f64, qx: f64, qy: f64, reach: f64) -> Patch
+    ensures { λ p. ⌜ p ≡ patchOf h px py qx qy reach ⌝ }
+{
+    let x = span_of(px, qx, reach, h.origin_x, h.cell, h.columns);
+    let y = span_of(py, qy, reach, h.origin_y, h.cell, h.rows);
+    Patch {
+        x0: x.first,
+        x1: x.past,
+        y0: y.first,
+        y1: y.past,
+    }
+}
+
+// What refusal 7 tests of a question with the cells p.
+pub fn usable(
+    mesh: &[f64],
+    h: Header,
+    starts: &[u32],
+    members: &[u32],
+    marks: &[u32],
+    stamp: u32,
+    p: Patch,
+) -> bool
+    requires { ⌜ (length (now mesh) ≡ length (now marks) * 9) × (p .x1 ≤ h .columns) × (p .y1 ≤ h .rows) ⌝ }
+    ensures { λ r. ⌜ r ≡ usable (now (mesh .entry)) h (now (starts .entry)) (now (members .entry)) (now (marks .entry)) stamp p ⌝ }
+{
+    let n = h.n;
+    let columns = h.columns;
+    if header::head_usable(mesh, h, starts) {
+        cells_usable(mesh, n, starts, members, marks, stamp, columns, p)
+    } else {
+        false
+    }
+}
+
+// Whether no coordinate of triangle i is one that 4 would refuse.
+pub fn triangle_usable(mesh: &[f64], i: usize) -> bool
+    requires { ⌜ 9 * i + 9 ≤ length (now mesh) ⌝ }
+    ensures { λ r. ⌜ r ≡ triangleUsable (now (mesh .entry)) i ⌝ }
+{
+    for k in 9 * i..9 * i + 9 {
+        if !spans::is_coordinate(mesh[k]) {
+            return false;
+        }
+    }
+    true
+}
+
+// Whether member i of a question's cells can be looked at.
+fn member_usable(mesh: &[f64], n: usize, marks: &[u32], stamp: u32, i: usize) -> bool
+    requires { ⌜ (length (now mesh) ≡ n * 9) × (length (now marks) ≡ n) ⌝ }
+    ensures { λ r. ⌜ r ≡ memberUsable (now (mesh .entry)) n (now (marks .entry)) stamp i ⌝ }
+{
+    if i < n {
+        if triangle_usable(mesh, i) { marks[i] <= stamp } else { false }
+    } else {
+        false
+    }
+}
+
+// Whether each number of one cell can be looked at.
+fn members_usable(mesh: &[f64], n: usize, marks: &[u32], stamp: u32, part: &[u32]) -> bool
+    requires { ⌜ (length (now mesh) ≡ n * 9) × (length (now marks) ≡ n) ⌝ }
+    ensures { λ r. ⌜ r ≡ each (memberUsable (now (mesh .entry)) n (now (marks .entry)) stamp) (now (part .entry)) ⌝ }
+{
+    for j in 0..part.len() {
+        if !member_usable(mesh, n, marks, stamp, part[j] as usize) {
+            return false;
+        }
+    }
+    true
+}
+
+// Whether the stretch of cell c lies in the member table, and each of its numbers can be looked at.
+fn cell_usable(
+    mesh: &[f64],
+    n: usize,
+    starts: &[u32],
+    members: &[u32],
+    marks: &[u32],
+    stamp: u32,
+    c: usize,
+) -> bool
+    requires { ⌜ (length (now mesh) ≡ n * 9) × (length (now marks) ≡ n) × (c + 1 < length (now starts)) ⌝ }
+    ensures { λ r. ⌜ r ≡ cellUsable (memberUsable (now (mesh .entry)) n (now (marks .entry)) stamp) (now (starts .entry)) (now (members .entry)) c ⌝ }
+{
+    let a = starts[c] as usize;
+    let e = starts[c + 1] as usize;
+    if a <= e {
+        if e <= members.len() {
+            members_usable(mesh, n, marks, stamp, &members[a..e])
+        } else {
+            false
+        }
+    } else {
+        false
+    }
+}
+
+// The same of columns x0 up to x1 of row y.
+fn row_usable(
+    mesh: &[f64],
+    n: usize,
+    starts: &[u32],
+    members: &[u32],
+    marks: &[u32],
+    stamp: u32,
+    columns: usize,
+    x0: usize,
+    x1: usize,
+    y: usize,
+) -> bool
+    requires { ⌜ (length (now mesh) ≡ n * 9) × (length (now marks) ≡ n) × (y * columns + x1 < length (now starts)) ⌝ }
+    ensures { λ r. ⌜ r ≡ rowUsable (memberUsable (now (mesh .entry)) n (now (marks .entry)) stamp) (now (starts .entry)) (now (members .entry)) columns x0 x1 y ⌝ }
+{
+    for x in x0..x1 {
+        if !cell_usable(mesh, n, starts, members, marks, stamp, y * columns + x) {
+            return false;
+        }
+    }
+    true
+}
+
+// The same of each of a question's cells.
+fn cells_usable(
+    mesh: &[f64],
+    n: usize,
+    starts: &[u32],
+    members: &[u32],
+    marks: &[u32],
+    stamp: u32,
+    columns: usize,
+    p: Patch,
+) -> bool
+    requires { ⌜ (length (now mesh) ≡ n * 9) × (length (now marks) ≡ n) × (p .x1 ≤ columns) × (p .y1 * columns < length (now starts)) ⌝ }
+    ensures { λ r. ⌜ r ≡ cellsUsable (memberUsable (now (mesh .entry)) n (now (marks .entry)) stamp) (now (starts .entry)) (now (members .entry)) columns p ⌝ }
+{
+    let x0 = p.x0;
+    let x1 = p.x1;
+    let y0 = p.y0;
+    let y1 = p.y1;
+    for y in y0..y1 {
+        if !row_usable(mesh, n, starts, members, marks, stamp, columns, x0, x1, y) {
+            return false;
+        }
+    }
+    true
+}
