@@ -16,7 +16,7 @@ fn used<T>(answer: T) {
 }
 
 /// One row: each closure makes `calls` calls.
-fn row(name: &str, doors: &[&str], rounds: usize, calls: usize, mut each: [&mut dyn FnMut(); 3]) {
+fn row(name: &str, doors: &[&str], rounds: usize, calls: usize, each: [&mut dyn FnMut(); 3]) {
     if doors.iter().any(|d| MISSING.contains(d)) {
         return;
     }

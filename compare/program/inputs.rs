@@ -49,7 +49,12 @@ pub fn neighbour(rng: &mut Rng, x: f64) -> f64 {
 
 /// Every exponent's first and last values, all subnormal lengths and the marked numbers with their neighbours: the numbers that a
 /// run always tries.
-pub fn fixed() -> Vec<f64> {
+pub fn fixed() -> &'static [f64] {
+    static FIXED: std::sync::OnceLock<Vec<f64>> = std::sync::OnceLock::new();
+    FIXED.get_or_init(all_fixed)
+}
+
+fn all_fixed() -> Vec<f64> {
     let mut out = vec![f64::NAN, f64::INFINITY, f64::NEG_INFINITY];
     for exponent in 0..=0x7feu64 {
         for fraction in [0, 1, 0xf_ffff_ffff_fffe, 0xf_ffff_ffff_ffff] {
@@ -268,8 +273,15 @@ pub fn plate(rng: &mut Rng, most: usize) -> Vec<f64> {
     for _ in 0..rng.below(3) {
         let size = side as f64 * pitch;
         let (x0, y0) = (x + rng.between(0., size), y + rng.between(0., size));
-        let to = z + rng.pick(&[1., 0.25, 1e-3, 2e-3, 0.1, -0.5]);
+        let to = z + rng.pick(&[1., 0.25, 1e-3, 2e-3, 0.1, -0.5, 0.05, 0.02, 5e-3]);
         boss(&mut out, x0, y0, x0 + size / 5., y0 + size / 4., z, to);
+    }
+    // Ribs, also such as a level's tolerance takes for flat and a run's does not.
+    for _ in 0..rng.pick(&[0, 0, 1, 2]) {
+        let size = side as f64 * pitch;
+        let a = [x + rng.between(0., size), y + rng.between(0., size)];
+        let b = if rng.one_in(2) { [a[0], a[1] + size / 6.] } else { [a[0] + rng.between(-1., 1.), a[1] + rng.between(-1., 1.)] };
+        wall(&mut out, a, b, z, z + rng.pick(&[0.05, 0.02, 5e-3, 1e-3, 1e-4, 0.3]));
     }
     if out.is_empty() {
         rectangle(&mut out, x, y, x + pitch, y + pitch, z);

@@ -90,7 +90,10 @@ fn compared(part: &Part, wanted: &Wanted) -> (Tally, u64) {
     let begun = Instant::now();
     let mut tally = Tally::default();
     let mut differences = 0;
-    for i in 0..units.div_ceil(part.batch) {
+    for i in 0.. {
+        if tally.units >= units {
+            break;
+        }
         let mut rng = Rng::new(wanted.seed, part.name, i);
         let damage = wanted.damage || rng.one_in(6);
         let case = (part.make)(&mut rng, i, damage);
@@ -112,6 +115,7 @@ fn compared(part: &Part, wanted: &Wanted) -> (Tally, u64) {
         }
     }
     let told: Vec<String> = tally.told.iter().map(|(what, n)| format!("{n} {what}")).collect();
-    println!("{:15} {units} {}, {:.1} s: {}", part.name, part.unit, begun.elapsed().as_secs_f64(), told.join(", "));
+    let spent = begun.elapsed().as_secs_f64();
+    println!("{:15} {} {}, {spent:.1} s: {}", part.name, tally.units, part.unit, told.join(", "));
     (tally, differences)
 }

@@ -13,6 +13,8 @@ use std::collections::BTreeMap;
 #[derive(Default)]
 pub struct Tally {
     pub answers: u64,
+    /// How much of what `--cases` counts.
+    pub units: u64,
     pub told: BTreeMap<String, u64>,
 }
 
@@ -20,6 +22,9 @@ impl Tally {
     fn add(&mut self, what: &str, n: u64) {
         self.answers += n;
         self.note(what, n);
+    }
+    fn unit(&mut self) {
+        self.units += 1;
     }
     fn note(&mut self, what: &str, n: u64) {
         *self.told.entry(what.into()).or_default() += n;
@@ -37,9 +42,8 @@ pub struct Part {
     pub compare: fn(&Case, &mut Tally) -> Verdict,
     /// What can be left out of a case, and in which steps.
     pub widths: &'static [(&'static str, usize)],
-    /// What `--cases` counts, how many stand in one case, and how many are tried for each thousand of `--cases` in a run of all.
+    /// What `--cases` counts, and how many of them are tried for each 10,000 of `--cases` in a run of all parts.
     pub unit: &'static str,
-    pub batch: u64,
     pub share: u64,
 }
 
@@ -53,7 +57,6 @@ pub const PARTS: &[Part] = &[
         compare: compare_numbers,
         widths: &[("pairs", 2)],
         unit: "pairs of numbers",
-        batch: 1024,
         share: 10_000,
     },
     Part {
@@ -63,7 +66,6 @@ pub const PARTS: &[Part] = &[
         compare: compare_plane,
         widths: &[("asked", 13)],
         unit: "triangles and points",
-        batch: 256,
         share: 1_000,
     },
     Part {
@@ -73,7 +75,6 @@ pub const PARTS: &[Part] = &[
         compare: compare_capsule,
         widths: &[("asked", 15)],
         unit: "triangles and capsules",
-        batch: 256,
         share: 5_000,
     },
     Part {
@@ -83,7 +84,6 @@ pub const PARTS: &[Part] = &[
         compare: compare_bull_contact,
         widths: &[("asked", 14)],
         unit: "triangles and bull-nose cutters",
-        batch: 64,
         share: 1_000,
     },
     Part {
@@ -93,7 +93,6 @@ pub const PARTS: &[Part] = &[
         compare: compare_section_contact,
         widths: &[("asked", 15)],
         unit: "triangles and sections",
-        batch: 64,
         share: 1_000,
     },
     Part {
@@ -103,7 +102,6 @@ pub const PARTS: &[Part] = &[
         compare: compare_build,
         widths: &[("mesh", 9)],
         unit: "meshes",
-        batch: 1,
         share: 200,
     },
     Part {
@@ -113,7 +111,6 @@ pub const PARTS: &[Part] = &[
         compare: compare_height,
         widths: &[("damage", 4), ("questions", 5), ("mesh", 9)],
         unit: "questions",
-        batch: ASKED,
         share: 1_000,
     },
     Part {
@@ -123,7 +120,6 @@ pub const PARTS: &[Part] = &[
         compare: compare_max_bull,
         widths: &[("damage", 4), ("questions", 4), ("mesh", 9)],
         unit: "questions",
-        batch: ASKED,
         share: 200,
     },
     Part {
@@ -133,7 +129,6 @@ pub const PARTS: &[Part] = &[
         compare: compare_max_sections,
         widths: &[("damage", 4), ("questions", 2), ("sections", 4), ("mesh", 9)],
         unit: "questions",
-        batch: ASKED,
         share: 100,
     },
     Part {
@@ -143,7 +138,6 @@ pub const PARTS: &[Part] = &[
         compare: compare_bull_chord,
         widths: &[("damage", 4), ("questions", 9), ("mesh", 9)],
         unit: "questions",
-        batch: ASKED,
         share: 100,
     },
     Part {
@@ -153,7 +147,6 @@ pub const PARTS: &[Part] = &[
         compare: compare_sections_chord,
         widths: &[("damage", 4), ("questions", 7), ("sections", 4), ("mesh", 9)],
         unit: "questions",
-        batch: ASKED,
         share: 50,
     },
     Part {
@@ -163,7 +156,6 @@ pub const PARTS: &[Part] = &[
         compare: compare_plan,
         widths: &[("damage", 4), ("mesh", 9)],
         unit: "plans",
-        batch: 1,
         share: 20,
     },
     Part {
@@ -173,7 +165,6 @@ pub const PARTS: &[Part] = &[
         compare: compare_job,
         widths: &[("bytes", 1)],
         unit: "jobs",
-        batch: 1,
         share: 2_000,
     },
 ];
@@ -244,7 +235,7 @@ fn compare_numbers(case: &Case, tally: &mut Tally) -> Verdict {
                 tally.add("answers", 1);
             }
         }
-        tally.note("pairs", 1);
+        tally.unit();
     }
     Ok(())
 }
@@ -282,6 +273,7 @@ fn compare_plane(case: &Case, tally: &mut Tally) -> Verdict {
             agree("dist2_to_segment", ours, door::dist2_to_segment(v, p, q))?;
         }
         tally.add("distances", 4);
+        tally.unit();
     }
     Ok(())
 }
@@ -307,6 +299,7 @@ fn compare_capsule(case: &Case, tally: &mut Tally) -> Verdict {
         let theirs = Triangle::new(&t).max_in_capsule([q[0], q[1]], [q[2], q[3]], q[4], q[5]);
         agree_contact("max_in_capsule", doors::max_in_capsule(&t, q), theirs)?;
         tally.add("contacts", 1);
+        tally.unit();
         tally.note("with a height", theirs.is_some() as u64);
     }
     Ok(())
@@ -339,7 +332,9 @@ fn compare_bull_contact(case: &Case, tally: &mut Tally) -> Verdict {
         agree_contact("bull_contact", doors::bull_contact(&t, q), theirs)?;
         let d = (q[0] - t[0]).hypot_of(q[1] - t[1]);
         agree("bull_profile", unsafe { raw::mandrikelo_bull_profile(d, q[2], q[3]) }, door::bull_profile(d, q[2], q[3]))?;
-        tally.add("contacts", 2);
+        tally.add("contacts", 1);
+        tally.add("profiles", 1);
+        tally.unit();
         tally.note("with a height", theirs.is_some() as u64);
     }
     Ok(())
@@ -366,6 +361,7 @@ fn compare_section_contact(case: &Case, tally: &mut Tally) -> Verdict {
         let theirs = Triangle::new(&t).section_contact([p[0], p[1]], s);
         agree_contact("section_contact", doors::section_contact(&t, p, &s), theirs)?;
         tally.add("contacts", 1);
+        tally.unit();
         tally.note("with a height", theirs.is_some() as u64);
     }
     Ok(())
@@ -435,6 +431,7 @@ fn compare_build(case: &Case, tally: &mut Tally) -> Verdict {
     let refusal = expected.as_ref().err().copied().unwrap_or(0);
     tally.note(&format!("refusal {refusal}"), 1);
     tally.add("builds", 1);
+    tally.unit();
     if built.refusal != refusal {
         return Err(format!("build: refusal {} where document 01 has {refusal}", built.refusal));
     }
@@ -730,6 +727,7 @@ fn compare_questions(case: &Case, tally: &mut Tally, width: usize, asked: Questi
         let refusal = model::question(&mesh, &h, &marks, stamp, &a);
         let answer = ours(&mesh, &h, &mut lent, stamp, q);
         tally.add("questions", 1);
+        tally.unit();
         tally.note(&format!("refusal {refusal}"), 1);
         let at = |what: &str| format!("question {q:?} at stamp {stamp}: {what}");
         if !answer.intact {
@@ -837,57 +835,68 @@ fn compare_sections_chord(case: &Case, tally: &mut Tally) -> Verdict {
 
 // The plan
 
-fn make_plan(rng: &mut Rng, _: u64, damage: bool) -> Case {
-    let most = rng.pick(&[8, 40, 100]);
-    let mesh = if rng.one_in(6) { inputs::mesh(rng, 12) } else { inputs::plate(rng, most) };
-    let lowest = mesh.chunks_exact(3).map(|v| v[2]).fold(f64::INFINITY, f64::min);
-    let highest = mesh.chunks_exact(3).map(|v| v[2]).fold(f64::NEG_INFINITY, f64::max);
-    let size = mesh.chunks_exact(3).flat_map(|v| [v[0], v[1]]).fold(1f64, |m, v| m.max(v.abs()));
+/// A strip whose rows or samples come to about 65,535: x long, y short, radius 1.
+fn make_strip(rng: &mut Rng) -> Case {
+    let rows = rng.one_in(2);
+    let pitch = if rows { 2. } else { 0.25 };
+    let long = (65_533 + rng.below(5)) as f64 * pitch - 2. + rng.pick(&[0., 1e-9, -1e-9]);
+    let mesh = vec![0., 0., 1., long, 0., 1., long, 1., 1., 0., 0., 1., long, 1., 1., 0., 1., 1.];
+    Case::new("plan")
+        .floats("mesh", mesh)
+        .floats("place", vec![0., 1.])
+        .words("damage", vec![])
+        .floats("parameters", vec![1e-3, 1e-3, 2., 0., 0., 2., 10.])
+        .words("axis", vec![rows as u32])
+        .words("room", vec![10, 400_000])
+}
+
+fn make_plan(rng: &mut Rng, case: u64, damage: bool) -> Case {
+    if case % 1000 == 999 {
+        return make_strip(rng);
+    }
+    let most = rng.pick(&[8, 8, 30, 60]);
+    let mesh = if rng.one_in(8) { inputs::mesh(rng, 10) } else { inputs::plate(rng, most) };
+    let z = || mesh.chunks_exact(3).map(|v| v[2]);
+    let (lowest, highest) = (z().fold(f64::INFINITY, f64::min), z().fold(f64::NEG_INFINITY, f64::max));
+    let across = |k: usize| {
+        let at = || mesh.chunks_exact(3).map(|v| v[k]);
+        at().fold(f64::NEG_INFINITY, f64::max) - at().fold(f64::INFINITY, f64::min)
+    };
+    let size = across(0).max(across(1)).max(1e-3);
     let floor = match rng.below(4) {
         0 => lowest,
         1 => rng.pick(&[0., -0., -1.]),
         _ => (lowest - 1.).max(-1e6),
     };
-    let r = match rng.below(4) {
-        0 => rng.pick(&[1., 2., 0.5]),
-        1 => size / 3.,
-        _ => rng.between(0.5, 3.) * (size / 12.).max(0.5),
-    }
-    .min(1e6);
-    let tolerance = rng.pick(&[1e-3, 1e-3, 1e-7, 0.01, 1e-5]);
-    let level = rng.pick(&[tolerance, 0.1, 2e-3_f64.max(tolerance), tolerance * 2.]).min(0.1);
-    let stepover = match rng.below(5) {
-        0 => 2. * r,
-        1 => r,
-        2 => 16. * tolerance + 1e-9,
-        _ => r * rng.between(0.3, 2.),
-    };
-    // Rows and samples for a moment's work, unless refusal 12 is wanted.
-    let wanted = rng.one_in(40);
-    let stepover = if wanted { stepover } else { stepover.max(size / 40.).min(2. * r) };
-    let leave = rng.pick(&[0., 0., -0., 0.1, 1e-3]);
+    // Rows and samples for a moment's work.
+    let r = (size * rng.pick(&[0.125, 0.2, 0.25, 0.5])).clamp(0.03, 1e6);
+    let tolerance: f64 = rng.pick(&[1e-3, 1e-3, 1e-7, 0.01, 1e-5]);
+    let level = rng.pick(&[tolerance, 0.1, 0.1, 0.05, 2e-3, tolerance * 2.]).clamp(tolerance, 0.1);
+    let stepover = (r * rng.pick(&[2., 1., 0.75, 1.25, 0.5])).max(16. * tolerance + 1e-9).min(2. * r);
+    let leave = rng.pick(&[0., 0., -0., 0.1, 1e-3, 0.02]);
     let bottom = rng.pick(&[floor, (floor - 1.).max(-1e6)]);
-    let top = match rng.below(8) {
+    let top = match rng.below(10) {
         0 => highest.max(floor + 1.),
         1 => (highest - 1e-3).max(floor + 1e-3),
         _ => (highest + 1.).max(floor + 1.),
     }
     .min(1e6);
-    let cutting = match rng.below(8) {
+    let cutting = match rng.below(10) {
         0 => top - lowest,
         1 => 16. * tolerance + rng.between(0., 2.),
         _ => (top - lowest + 1.).min(1e6),
     };
     let (mut parameters, mut axis) = (vec![tolerance, level, stepover, leave, bottom, top, cutting], rng.below(2) as u32);
-    // Room for levels and runs, in numbers; 100,000 is plenty.
-    let mut room = vec![100_000, 100_000];
+    // Room for levels and runs, in numbers; 20,000 is plenty.
+    let mut room = vec![2_000, 20_000];
     let mut harm = vec![];
     if damage {
         match rng.below(6) {
             0 | 1 => {
                 let i = rng.below(7) as usize;
-                parameters[i] = match rng.below(2) {
+                parameters[i] = match rng.below(3) {
                     0 => inputs::neighbour(rng, parameters[i]),
+                    1 => edge(rng, i, floor, r, tolerance),
                     _ => inputs::bad(rng, parameters[i]),
                 };
             }
@@ -910,6 +919,19 @@ fn make_plan(rng: &mut Rng, _: u64, damage: bool) -> Case {
         .words("room", room)
 }
 
+/// A bound of parameter i, or a neighbour of it.
+fn edge(rng: &mut Rng, i: usize, floor: f64, r: f64, tolerance: f64) -> f64 {
+    let bound = match i {
+        0 => rng.pick(&[1e-7, 0.01]),
+        1 => rng.pick(&[tolerance, 0.1]),
+        2 => rng.pick(&[16. * tolerance, 2. * r]),
+        3 => rng.pick(&[0., -0.]),
+        4 | 5 => floor,
+        _ => 16. * tolerance,
+    };
+    inputs::neighbour(rng, bound)
+}
+
 fn compare_plan(case: &Case, tally: &mut Tally) -> Verdict {
     let mut mesh = case.f("mesh").to_vec();
     let (floor, r) = (case.f("place")[0], case.f("place")[1]);
@@ -927,6 +949,7 @@ fn compare_plan(case: &Case, tally: &mut Tally) -> Verdict {
     let (mut levels, mut runs) = (Lent::new(&levels_before), Lent::new(&runs_before));
     let ours = doors::plan(&mesh, &h, &mut marks, &parameters, axis, &mut levels, &mut runs);
     tally.add("plans", 1);
+    tally.unit();
     if !ours.intact {
         return Err("a guard word was changed".into());
     }
@@ -1084,6 +1107,7 @@ fn compare_job(case: &Case, tally: &mut Tally) -> Verdict {
     let (mut mesh, mut questions) = (Lent::new(&mesh_before), Lent::new(&questions_before));
     let ours = doors::read_job(bytes, &mut mesh, &mut questions);
     tally.add("jobs", 1);
+    tally.unit();
     if !ours.intact {
         return Err("a guard word was changed".into());
     }
