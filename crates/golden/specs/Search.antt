@@ -1,17 +1,10 @@
 -- Document 01, rows `golden_max`, `golden_argmin` and `golden_max_bound`: the golden-section search over any objective f, a function of one number.
 use mathlib.Core.Bool.{Bool, cond}
 use Prim.Native.Nat.{ℕ, zero, suc}
-use lib.Ieee.{Float, binary64, ofBits, lt}
+use lib.Ieee.{Float, lt}
 use Rattle.numbers.specs.Reals.{_⊕_, _⊖_, _⊗_, _⊘_, f2, maxOf}
+use Rattle.numbers.specs.Golden.{phi, phi60}
 use Rattle.golden.specs.declared.Golden.{Golden}
-
--- phi, (root 5 - 1) / 2
-abbrev pub phi : Float
-phi = ofBits binary64 0x3fe3_c6ef_372f_e950
-
--- phi to the 60th: 59 multiplications, left to right
-abbrev pub phi60 : Float
-phi60 = ofBits binary64 0x3d54_5449_d10d_e112
 
 -- The two inner points of a bracket a..b.
 abbrev pub lower : Float → Float → Float

@@ -4,11 +4,7 @@ ghost use mathlib.Core.Bool.{_&&_};
 ghost use Rattle.golden.specs.Search.{lower, upper, rises, falls, probeOf, narrowedOf, startOf, bestOf, boundOf};
 ghost use Rattle.golden.specs.Upper.{finiteOf, heldOf, allLow, outerOf, fromA, fromB, secantsOf, upperFrom, upperOf};
 
-const PHI: f64 = 0.6180339887498949;
-
 const MINUS_ONE: f64 = -1.0;
-
-const PHI_60: f64 = 2.8889603743499235e-13;
 
 // A bracket a..b, its two inner points and the values there.
 pub struct Golden {
@@ -31,14 +27,14 @@ pub struct Bracket {
 pub fn lower_point(a: f64, b: f64) -> f64
     ensures { λ r. ⌜ r ≡ lower a b ⌝ }
 {
-    b - PHI * (b - a)
+    b - numbers::PHI * (b - a)
 }
 
 // The upper inner point of a bracket.
 pub fn upper_point(a: f64, b: f64) -> f64
     ensures { λ r. ⌜ r ≡ upper a b ⌝ }
 {
-    a + PHI * (b - a)
+    a + numbers::PHI * (b - a)
 }
 
 // The bracket lo..hi, with the values at its inner points.
@@ -118,7 +114,7 @@ pub fn best(va: f64, vb: f64, v1: f64, v2: f64) -> f64
 pub fn bound(best: f64, lo: f64, hi: f64, lipschitz: f64) -> f64
     ensures { λ r. ⌜ r ≡ boundOf best lo hi lipschitz ⌝ }
 {
-    best + lipschitz * ((hi - lo) * PHI_60)
+    best + lipschitz * ((hi - lo) * numbers::PHI_60)
 }
 
 // The bracket with its ends' values, once the search has gone on to g.
