@@ -224,3 +224,40 @@ rearranged-more e m l l′ h r =
           (on-or-off (ltb p m));
       rest = λ p q. r .rest p (omega arith);
     }
+
+-- a heap of the first e entries, and behind it, up to k, what has been sorted
+pub record Sorting (less : ℕ → ℕ → Bool) (k : ℕ) (l₀ l : List ℕ) (e : ℕ) : Type 0 where
+  pub moved : Rearranged k l₀ l
+  pub heap : Heap less 0 e l
+  pub tail : Tail less e k l
+  pub few : e ≤ k
+
+pub sorting-starts : (less : ℕ → ℕ → Bool) (k : ℕ) (l : List ℕ) → Heap less 0 k l → Rearranged k l l → Sorting less k l l k
+sorting-starts less k l h r = record { moved = r; heap = h; tail = λ a b x y z. absurd (omega arith); few = omega arith }
+
+-- the first of the heap put behind it, and the rest made a heap again
+module _ (less : ℕ → ℕ → Bool) (s : Strict less) (n k : ℕ) (l₀ l l₁ : List ℕ) (e m : ℕ) (w : Within n k l₀) (g : Sorting less k l₀ l e) (q : e ≡ m + 1) (sw : l₁ ≡ swapped l 0 m) where
+  inside : m < length l
+  inside = omega (arith, g .few, g .moved .size, w .table)
+
+  apart : Rearranged k l l₁
+  apart = rw sw (swap-rearranges l 0 m (omega (arith, inside)) inside k (omega (arith, g .few)) (omega (arith, g .few)))
+
+  heaped : Heap less 0 (m + 1) l
+  heaped p j a b c d = g .heap p j a b c (omega arith)
+
+  ended : Tail less (m + 1) k l
+  ended a b x y z = g .tail a b x (omega arith) z
+
+  pub sorting-ready : Within n m l₁ × Heap less 1 m l₁
+  sorting-ready =
+      (within-less n k m l₁ (omega (arith, g .few)) (within-kept n k l₀ l₁ w (rearranged-twice k l₀ l l₁ (g .moved) apart)), rw sw (swap-heap less s m k l inside heaped ended))
+
+  pub sorting-goes : (l′ : List ℕ) → Rearranged m l₁ l′ → Heap less 0 m l′ → Sorting less k l₀ l′ m
+  sorting-goes l′ r h =
+      record {
+        moved = rearranged-twice k l₀ l l′ (g .moved) (rearranged-twice k l l₁ l′ apart (rearranged-more k m l₁ l′ (omega (arith, g .few)) r));
+        heap = h;
+        tail = tail-kept less s m k l₁ l′ r (rw sw (swap-tail less s m k l inside heaped ended));
+        few = omega (arith, g .few);
+      }

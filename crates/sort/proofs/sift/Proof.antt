@@ -27,7 +27,7 @@ abbrev μ-loop : tie.MeasureT-loop
 loop-holds : tie.Need-loop-holds Inv-loop μ-loop
 loop-holds c =
     let s = c .before .before in
-    sifting-starts _ (before-strict _) _ _ _ (s .pre .1 .0 .1) (s .pre .1 .1) (rearranged-none _ _)
+    sifting-starts _ (before-strict _ (c .before .shared-slice-known .given)) _ _ _ (s .pre .1 .0 .1) (s .pre .1 .1) (rearranged-none _ _)
 
 later-requires : tie.Need-later-requires Inv-loop μ-loop
 later-requires c κs =
@@ -35,7 +35,7 @@ later-requires c κs =
     (s .pre .0, (within-kept _ _ _ _ (s .pre .1 .0 .0) (c .before .before .loop .inv .moved), c .before .loop-test .taken))
 
 next : (c : tie.After-later Inv-loop μ-loop) → Later (before (c .before .before .before .before .before .before .args .mesh .now)) (c .before .before .before .loop .list) (c .before .before .before .loop .i) (c .before .before .before .before .before .before .args .e) (c .later .result)
-next c = later-is _ (before-strict _) _ _ _ _ (c .before .before .loop-test .taken) (c .later .ensures)
+next c = later-is _ (before-strict _ (c .before .before .before .before .before .shared-slice-known .given)) _ _ _ _ (c .before .before .loop-test .taken) (c .later .ensures)
 
 stands-before-requires : tie.Need-stands-before-requires Inv-loop μ-loop
 stands-before-requires c κs =
@@ -50,7 +50,7 @@ same-length c = c .before .before .before .before .before .before .loop .inv .mo
 returns : tie.Need-returns Inv-loop μ-loop
 returns c =
     let l = c .before .before .before .before .before .before .loop .inv in
-    (l .moved, sifting-rests _ (before-strict _) _ _ _ _ _ _ l (next (c .before .before .before)) (bool-called _ _ _ (c .before .stands-before .ensures) (not-true _ (c .if1 .taken))))
+    (l .moved, sifting-rests _ (before-strict _ (c .before .before .before .before .before .before .before .before .shared-slice-known .given)) _ _ _ _ _ _ l (next (c .before .before .before)) (bool-called _ _ _ (c .before .stands-before .ensures) (not-true _ (c .if1 .taken))))
 
 swap-requires : tie.Need-swap-requires Inv-loop μ-loop
 swap-requires c κs =
@@ -66,7 +66,7 @@ loop-again c =
     let l = c .before .before .before .before .before .before .before .before .before .before .loop .inv in
     let w = within-kept _ _ _ _ (c .before .before .before .before .before .before .before .before .before .before .before .before .before .pre .1 .0 .0) (l .moved) in
     rw (c .before .before .swap .ensures)
-    (sifting-goes _ (before-strict _) _ _ _ _ _ _ (w .table) l (next (c .before .before .before .before .before .before .before)) (bool-called _ _ _ (c .before .before .before .before .before .stands-before .ensures) (not-false _ (c .before .before .before .before .if1 .left))))
+    (sifting-goes _ (before-strict _ (c .before .before .before .before .before .before .before .before .before .before .before .before .shared-slice-known .given)) _ _ _ _ _ _ (w .table) l (next (c .before .before .before .before .before .before .before)) (bool-called _ _ _ (c .before .before .before .before .before .stands-before .ensures) (not-false _ (c .before .before .before .before .if1 .left))))
 
 same-length-2 : tie.Need-same-length-2 Inv-loop μ-loop
 same-length-2 c = c .before .loop .inv .moved .size
@@ -74,7 +74,7 @@ same-length-2 c = c .before .loop .inv .moved .size
 returns-2 : tie.Need-returns-2 Inv-loop μ-loop
 returns-2 c =
     let l = c .before .loop in
-    (l .inv .moved, sifting-ends _ (before-strict _) _ _ _ _ _ (l .inv) (c .loop-test .left))
+    (l .inv .moved, sifting-ends _ (before-strict _ (c .before .before .before .shared-slice-known .given)) _ _ _ _ _ (l .inv) (c .loop-test .left))
 
 pub sift-spec : {M : Type 1} → statement M
 sift-spec =
