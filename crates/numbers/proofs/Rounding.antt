@@ -3,16 +3,17 @@ use mathlib.Core.Path.{_≡_, refl, sym, ap, _∙_, subst}
 use mathlib.Core.Logic.{_⊎_, inl, inr}
 use mathlib.Core.Bool.{Bool, true, false, not, cond}
 use Prim.Native.Nat.{ℕ, zero, suc, _+_, _-_, _*_, _/_, _%_, _^_, _≤_, _<_}
-use native.Mathlib.Nat.{le-antisymm, le-of-eq, le-of-suc-le-suc, lt-of-lt-of-le, lt-of-le-of-lt, le-trans, eq-or-lt-of-le, mul-comm, mul-assoc, mul-right-comm, mul-one, one-mul, mul-pos, mul-le-mul-right, mul-lt-mul-of-pos-right, le-of-mul-le-mul-right, lt-of-mul-lt-mul-right, add-mul, add-mul-div-right, div-lt-iff-lt-mul, le-div-iff-mul-le, div-one, add-zero, le-add-right, le-of-lt, mod-eq-of-lt, div-mul-le-self, suc-mul, mod-lt, div-add-mod', add-comm, add-assoc, zero-add, div-eq-of-lt}
+use native.Mathlib.Nat.{le-antisymm, le-of-eq, le-of-suc-le-suc, lt-of-lt-of-le, lt-of-le-of-lt, le-trans, eq-or-lt-of-le, mul-comm, mul-assoc, mul-right-comm, mul-one, mul-zero, one-mul, mul-pos, mul-le-mul-right, mul-lt-mul-of-pos-right, le-of-mul-le-mul-right, lt-of-mul-lt-mul-right, add-mul, add-mul-div-right, div-lt-iff-lt-mul, le-div-iff-mul-le, div-one, add-zero, le-add-right, le-of-lt, mod-eq-of-lt, div-mul-le-self, suc-mul, mod-lt, div-add-mod', add-comm, add-assoc, zero-add, div-eq-of-lt}
 use native.Mathlib.Omega.{arith}
 use lib.Dec.{T, eqb, lit<, lit≤}
+use lib.Bits.{bitAnd, and-mask}
 use lib.Pow.{pow-add, pow-pos, pow-mono, shl-lt}
 use lib.Ieee.{Float, nan, inf, fin, binary64, up, down, round, ofFields, ofBits, nanBits}
 use lib.Ieee.Fits.{down-pos}
 use lib.Ieee.Exact.{HasValue}
 use lib.Ieee.Nearest.{div-same}
 use Rattle.numbers.specs.Rounding.{sizeDown, roundDownOf}
-use Rattle.numbers.proofs.Patterns.{normal, normal-value, subnormal-value, special}
+use Rattle.numbers.proofs.Patterns.{normal, normal-value, subnormal-value, special, apart-bits, exponentOf, fractionOf, fraction-lt, sign-clear, sign-set, fields-clear, fields-set}
 use Rattle.numbers.proofs.Significands.{in-range, odd-enough, round-units, round-pattern}
 
 -- ---- the size, by the value
@@ -192,11 +193,66 @@ cut-set (suc k) low f b j o l F q =
     sum : (k f z : ℕ) → 2 ^ 63 + (suc k * 2 ^ 52 + f) + z ≡ (2048 + k) * 2 ^ 52 + (2 ^ 52 + f + z)
     sum k f z = omega arith
 
-pub grown-fits : (e low f b : ℕ) → e < 1075 → low ≤ 52 → f < 2 ^ 52 → b ≡ 2 ^ 63 + (e * 2 ^ 52 + f) → grown b low < 2 ^ 64
-grown-fits e low f b E l F q = subst (λ (n : ℕ). b + (n - 1) < 2 ^ 64) (sym (one-shifted low l)) (go (2 ^ low) (pow-mono l))
+-- ---- both at once, as code has it: what is added is times the sign, and the low digits are masked off
+abbrev pub behind : ℕ → ℕ
+behind low = 1 * 2 ^ low % 2 ^ 64 - 1
+
+abbrev pub stepped : ℕ → ℕ → ℕ
+stepped b low = b + behind low * (b / 2 ^ 63)
+
+pub behind-is : (low : ℕ) → low ≤ 52 → (1 ≤ 1 * 2 ^ low % 2 ^ 64) × (behind low < 2 ^ 52)
+behind-is low l = subst (λ (n : ℕ). (1 ≤ n) × (n - 1 < 2 ^ 52)) (sym (one-shifted low l)) (pow-pos low, go (2 ^ low) (pow-pos low) (pow-mono l))
   where
-    go : (n : ℕ) → n ≤ 2 ^ 52 → b + (n - 1) < 2 ^ 64
-    go n h = omega arith
+    go : (n : ℕ) → 1 ≤ n → n ≤ 2 ^ 52 → n - 1 < 2 ^ 52
+    go n h l = omega arith
+
+masked : (t low : ℕ) → t < 2 ^ 64 → low ≤ 52 → cutOff t low ≡ t - bitAnd t (behind low)
+masked t low h l =
+    mod-eq-of-lt (lt-of-le-of-lt (div-mul-le-self t (2 ^ low)) h)
+    ∙ rest (t / 2 ^ low * 2 ^ low) (t % 2 ^ low) t (div-add-mod' t (2 ^ low))
+    ∙ ap (λ (n : ℕ). t - n) (sym (ap (λ (n : ℕ). bitAnd t (n - 1)) (one-shifted low l) ∙ and-mask t low))
+  where
+    rest : (q r t : ℕ) → q + r ≡ t → q ≡ t - r
+    rest q r t e = omega arith
+
+abbrev pub Stepped : ℕ → ℕ → Type 0
+Stepped b low = (stepped b low < 2 ^ 64) × Cut (stepped b low - bitAnd (stepped b low) (behind low)) (ofBits binary64 b)
+
+-- t is the pattern stepped, by its sign
+of-cut : (b low t : ℕ) (x : Float) → low ≤ 52 → stepped b low ≡ t → t < 2 ^ 64 → ofBits binary64 b ≡ x → Cut (cutOff t low) x → Stepped b low
+of-cut b low t x l e h p c =
+    subst (λ (n : ℕ). (n < 2 ^ 64) × Cut (n - bitAnd n (behind low)) (ofBits binary64 b)) (sym e)
+    (h, subst (λ (n : ℕ). Cut n (ofBits binary64 b)) (masked t low h l) (subst (Cut (cutOff t low)) (sym p) c))
+
+pub cut-any : (b low : ℕ) → b < 2 ^ 64 → low + exponentOf b ≡ 1075 → 1 ≤ low → low ≤ 52 → Stepped b low
+cut-any b low h j o l = go (b / 2 ^ 63) refl (bit b h)
+  where
+    bit : (b : ℕ) → b < 2 ^ 64 → b / 2 ^ 63 < 2
+    bit b h = omega arith
+
+    go : (n : ℕ) → b / 2 ^ 63 ≡ n → n < 2 → Stepped b low
+    go zero e k =
+        of-cut b low b (ofFields binary64 false (exponentOf b) (fractionOf b)) l
+        (ap (λ (n : ℕ). b + behind low * n) e ∙ ap (λ (n : ℕ). b + n) (mul-zero (behind low)) ∙ add-zero b) h
+        (apart-bits b false (sign-clear b e))
+        (cut-clear (exponentOf b) low (fractionOf b) b j o l (fraction-lt b) (fields-clear b h e))
+    go (suc zero) e k =
+        let n : b / 2 ^ 63 ≡ 0 → ⊥ = λ z. one 0 (sym e ∙ z) in
+        of-cut b low (grown b low) (ofFields binary64 true (exponentOf b) (fractionOf b)) l
+        (ap (λ (n : ℕ). b + behind low * n) e ∙ ap (λ (n : ℕ). b + n) (mul-one (behind low)))
+        (subst (λ (n : ℕ). n + behind low < 2 ^ 64) (sym (fields-set b h n)) (sum (exponentOf b) (fractionOf b) (behind low) j (fraction-lt b) (behind-is low l .1)))
+        (apart-bits b true (sign-set b n))
+        (cut-set (exponentOf b) low (fractionOf b) b j o l (fraction-lt b) (fields-set b h n))
+      where
+        one : (n : ℕ) → suc n ≡ 0 → ⊥
+        one n z = omega arith
+
+        sum : (e f z : ℕ) → low + e ≡ 1075 → f < 2 ^ 52 → z < 2 ^ 52 → 2 ^ 63 + (e * 2 ^ 52 + f) + z < 2 ^ 64
+        sum e f z j F Z = omega arith
+    go (suc (suc n)) e k = absurd (no n k)
+      where
+        no : (n : ℕ) → suc (suc n) < 2 → ⊥
+        no n k = omega arith
 
 -- ---- a number without digits behind the point, or an infinity
 itself : (s b : Bool) → cond b (inf s) nan ≡ roundDownOf (cond b (inf s) nan)

@@ -84,7 +84,7 @@ pub fn root(x: f64) -> f64
     root_below_normal(x)
 }
 
-// The largest whole number not above x. Of an x from 1 on `low` digits of the fraction stand behind the point; they are cut off.
+// The largest whole number not above x. Of an x from 1 on `low` digits of the fraction stand behind the point; they are masked off.
 // A negative one grows first by all of them: a carry out of the fraction goes to the exponent.
 pub fn round_down(x: f64) -> f64
     ensures { λ r. ⌜ r ≡ roundDownOf x ⌝ }
@@ -101,11 +101,9 @@ pub fn round_down(x: f64) -> f64
     if exponent < 1023 {
         return round_down_small(x, bits);
     }
-    let low = 1075 - exponent;
-    if sign != 0 {
-        return f64::from_bits(((bits + ((1u64 << low) - 1)) >> low) << low);
-    }
-    f64::from_bits((bits >> low) << low)
+    let behind = (1u64 << (1075 - exponent)) - 1;
+    let grown = bits + behind * sign;
+    f64::from_bits(grown - (grown & behind))
 }
 
 // The smallest whole number not below x.
