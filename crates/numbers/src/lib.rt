@@ -1,4 +1,5 @@
-// The square root of an f64, rounded to the nearest f64.
+// Document 01, "Numbers": what the planner does with one or two f64s beside +, -, *, / and comparing. Each function is equal to its definition in specs/, on every
+// f64. `laws` holds theorems on them.
 ghost use mathlib.Core.Path.{_≡_};
 ghost use mathlib.Core.Bool.{true, false, cond, _||_};
 ghost use Prim.Native.Nat.{_+_, _*_, _/_, _%_, _^_, _≤_, _<_};
@@ -15,37 +16,39 @@ ghost use Rattle.numbers.specs.Parts.{Exponent, lifted, leastNormal};
 
 pub mod laws;
 
+// The parts of an f64's bits: all but the sign, the fraction's 52 digits, and the digit before them, which a normal number leaves out.
+const MAGNITUDE: u64 = 0x7fff_ffff_ffff_ffff;
+
 const FRACTION: u64 = 0xf_ffff_ffff_ffff;
 
+const LEADING: u64 = 0x10_0000_0000_0000;
+
+// 2^-1022
 const LEAST_NORMAL: f64 = 2.2250738585072014e-308;
 
 const MINUS_ONE: f64 = -1.0;
 
-const MAGNITUDE: u64 = 0x7fff_ffff_ffff_ffff;
-
-const LEADING: u64 = 0x10_0000_0000_0000;
-
-// (root 5 - 1) / 2
+// phi, (root 5 - 1) / 2
 pub const PHI: f64 = 0.6180339887498949;
 
-// its 60th power, by 59 multiplications
+// phi to the 60th, by 59 multiplications
 pub const PHI_60: f64 = 2.8889603743499235e-13;
 
-// The larger of the two; a NaN yields the other, and of two that compare equal it is the first.
+// The larger; x if they compare equal, and where one is a NaN the other.
 pub fn max(x: f64, y: f64) -> f64
     ensures { λ r. ⌜ r ≡ maxOf x y ⌝ }
 {
     if x != x { y } else { if x < y { y } else { x } }
 }
 
-// The smaller of the two; a NaN yields the other, and of two that compare equal it is the first.
+// The smaller; x if they compare equal, and where one is a NaN the other.
 pub fn min(x: f64, y: f64) -> f64
     ensures { λ r. ⌜ r ≡ minOf x y ⌝ }
 {
     if x != x { y } else { if y < x { y } else { x } }
 }
 
-// x without its sign.
+// x with its sign cleared, also that of -0.0.
 pub fn abs(x: f64) -> f64
     ensures { λ r. ⌜ r ≡ absOf x ⌝ }
 {
@@ -55,7 +58,7 @@ pub fn abs(x: f64) -> f64
     f64::from_bits(f64::to_bits(x) & MAGNITUDE)
 }
 
-// x held to 0..1.
+// t held to 0..1; -0.0 and a NaN stay.
 pub fn clamp_unit(t: f64) -> f64
     ensures { λ r. ⌜ r ≡ clampUnit t ⌝ }
 {
@@ -66,7 +69,8 @@ pub fn clamp_unit(t: f64) -> f64
     }
 }
 
-// The root of x. Of what is not below the least normal number the sign is clear, so the bits are taken apart into exponent and fraction.
+// The root of x, correctly rounded. The bits are taken apart into sign, exponent and fraction; one test at the start settles all normal numbers above zero, whose
+// sign is clear and whose fraction has a leading digit.
 pub fn root(x: f64) -> f64
     ensures { λ r. ⌜ r ≡ rootOf x ⌝ }
 {
@@ -84,8 +88,8 @@ pub fn root(x: f64) -> f64
     root_below_normal(x)
 }
 
-// The largest whole number not above x. Of an x from 1 on `low` digits of the fraction stand behind the point; they are masked off.
-// A negative one grows first by all of them: a carry out of the fraction goes to the exponent.
+// The largest whole number not above x. Where the magnitude is 1 or more, `behind` masks the digits that stand behind the point. A negative number grows by all of them
+// before they are masked off, so that it moves away from zero unless it is whole; a carry out of the fraction goes to the exponent, as it should.
 pub fn round_down(x: f64) -> f64
     ensures { λ r. ⌜ r ≡ roundDownOf x ⌝ }
 {
@@ -106,14 +110,14 @@ pub fn round_down(x: f64) -> f64
     f64::from_bits(grown - (grown & behind))
 }
 
-// The smallest whole number not below x.
+// The smallest whole number not below x. What lies between -1 and 0 gives -0.0.
 pub fn round_up(x: f64) -> f64
     ensures { λ r. ⌜ r ≡ roundUpOf x ⌝ }
 {
     -round_down(-x)
 }
 
-// How far (x, y) lies from (0, 0). Where the sum is no NaN its root is the answer, also of an infinite x or y.
+// How far (x, y) lies from (0, 0). Where the sum is no NaN its root is the answer, an infinite x or y included.
 pub fn hypot(x: f64, y: f64) -> f64
     ensures { λ r. ⌜ r ≡ hypotOf x y ⌝ }
 {
@@ -124,7 +128,7 @@ pub fn hypot(x: f64, y: f64) -> f64
     root(sum)
 }
 
-// The same where x or y is a NaN.
+// The same where one of the two is a NaN: the other may still be infinite.
 fn hypot_of_nan(x: f64, y: f64) -> f64
     ensures { λ r. ⌜ r ≡ cond (infinite x || infinite y) (inf false) nan ⌝ }
 {
@@ -137,21 +141,21 @@ fn hypot_of_nan(x: f64, y: f64) -> f64
     0.0 / 0.0
 }
 
-// PHI is what the rules compute.
+// phi. The contract says that PHI is what document 01 has computed.
 pub fn phi() -> f64
     ensures { λ r. ⌜ r ≡ phiOf ⌝ }
 {
     PHI
 }
 
-// PHI_60 too.
+// phi to the 60th. The contract says the same of PHI_60.
 pub fn phi_60() -> f64
     ensures { λ r. ⌜ r ≡ phi60Of ⌝ }
 {
     PHI_60
 }
 
-// Whether x comes before y in the total order.
+// Whether x comes before y in the total order: -0.0 before +0.0, a NaN last.
 pub fn total_less(x: f64, y: f64) -> bool
     ensures { λ r. ⌜ r ≡ totalLess x y ⌝ }
 {
@@ -170,12 +174,12 @@ pub fn total_less(x: f64, y: f64) -> bool
     (f64::to_bits(x) >> 63) > (f64::to_bits(y) >> 63)
 }
 
-// The same of a magnitude below 1.
+// Rounding down, for an x of a magnitude below 1, by its bits.
 fn round_down_small(x: f64, bits: u64) -> f64
     requires { ⌜ (x ≡ ofBits binary64 bits) × (bitAnd (bits / 2 ^ 52) 2047 < 1023) ⌝ }
     ensures { λ r. ⌜ r ≡ roundDownOf x ⌝ }
 {
-    if bits & 0x7fff_ffff_ffff_ffff == 0 {
+    if bits & MAGNITUDE == 0 {
         return x;
     }
     if bits >> 63 != 0 {
@@ -184,7 +188,7 @@ fn round_down_small(x: f64, bits: u64) -> f64
     0.0
 }
 
-// The root of what lies below the least normal number, or is a NaN: the bits are taken apart into sign and fraction.
+// The root of what lies below the least normal number, or is a NaN. What has no sign there is zero or subnormal.
 fn root_below_normal(x: f64) -> f64
     requires { ⌜ le leastNormal x ≡ false ⌝ }
     ensures { λ r. ⌜ r ≡ rootOf x ⌝ }
@@ -193,17 +197,16 @@ fn root_below_normal(x: f64) -> f64
         return x;
     }
     let bits = f64::to_bits(x);
-    let fraction = bits & FRACTION;
     if bits & MAGNITUDE == 0 {
         return x;
     }
     if bits >> 63 != 0 {
         return 0.0 / 0.0;
     }
-    root_of_subnormal(fraction)
+    root_of_subnormal(bits & FRACTION)
 }
 
-// The root of f * 2^-1074: f is shifted up by its count of leading zeros, to 53 digits.
+// The root of f * 2^-1074. The fraction is shifted up by its count of leading zeros, to 53 digits.
 fn root_of_subnormal(f: u64) -> f64
     requires { ⌜ (0 < f) × (f < 2 ^ 52) ⌝ }
     ensures { λ r. ⌜ r ≡ rootOf (fin false f (negsuc 1073)) ⌝ }
@@ -212,7 +215,7 @@ fn root_of_subnormal(f: u64) -> f64
     root_of(f << zeros, difference(0, 1074 + zeros))
 }
 
-// The root of m * 2^e, for an m of 53 digits. The exponent is halved towards minus infinity; what is left of it, 0 or 1, goes to m.
+// The root of m * 2^e, for an m of 53 digits. The exponent is halved towards minus infinity, and what that leaves, 0 or 1, goes to m.
 fn root_of(m: u64, e: i64) -> f64
     requires { ⌜ (2 ^ 52 ≤ m) × (m < 2 ^ 53) × Exponent e ⌝ }
     ensures { λ r. ⌜ r ≡ rootOf (fin false m e) ⌝ }
@@ -221,7 +224,7 @@ fn root_of(m: u64, e: i64) -> f64
     f64::from_bits((halved(e) << 52) + s)
 }
 
-// The whole number nearest to the root of m * 2^odd * 2^52: a candidate that passes the check, or else found digit by digit.
+// The whole number nearest to the root of m * 2^odd * 2^52: a candidate if it passes the check, as nearly every one does, or else digit by digit.
 fn significand(m: u64, odd: u64) -> u64
     requires { ⌜ (2 ^ 52 ≤ m) × (m < 2 ^ 53) × (odd < 2) ⌝ }
     ensures { λ r. ⌜ Nearest (m * 2 ^ odd * 2 ^ 52) r ⌝ }
@@ -234,7 +237,7 @@ fn significand(m: u64, odd: u64) -> u64
     nearest_root(n)
 }
 
-// A number that is most often the nearest: the digits of a float near the root of z = m * 2^-odd / 2^52, which are those of the root asked for.
+// A candidate of 53 digits. They are those of a float near the root of m * 2^-odd / 2^52, which has the digits of the root asked for.
 fn candidate(m: u64, odd: u64) -> u64
     requires { ⌜ (2 ^ 52 ≤ m) × (m < 2 ^ 53) × (odd < 2) ⌝ }
     ensures { λ r. ⌜ (2 ^ 52 ≤ r) × (r < 2 ^ 53) ⌝ }
@@ -247,8 +250,8 @@ fn candidate(m: u64, odd: u64) -> u64
     LEADING
 }
 
-// A float near the root of z, for z from 1/2 to 2. The line gives 1 / sqrt(z) to 16 digits, a step of Newton's doubles them, and so does the last line, in which
-// z less the square of w and what follows are exact: w is g0 to 26 digits.
+// A float near the root of z, for z from 1/2 to 2. The line gives p near 1 / sqrt(z) to 16 digits, and a step of Newton's makes that 32 in g. The last line adds what
+// z less the square of g still asks for; it is found from w, g0 to 26 digits, whose square is exact.
 fn guess(z: f64, line: seeds::Line) -> f64 {
     let p = line.start - line.fall * z;
     let g0 = z * p;
@@ -274,7 +277,7 @@ fn odd(e: i64) -> u64
     (e & 1) as u64
 }
 
-// Half of e, rounded down, with what makes it an exponent's field less one.
+// Half of e, rounded down, as the field of the result's exponent less one: the leading digit adds the one.
 fn halved(e: i64) -> u64
     requires { ⌜ Exponent e ⌝ }
     ensures { λ r. ⌜ r ≡ lifted e / 2 ⌝ }
@@ -282,7 +285,7 @@ fn halved(e: i64) -> u64
     ((e >> 1) + 1048) as u64
 }
 
-// The whole number nearest to the root of m * 2^52, digit by digit.
+// The whole number nearest to the root of m * 2^52, digit by digit: q takes the digit r where its square is then still not above, and rest is what is left.
 pub fn nearest_root(m: u64) -> u64
     requires { ⌜ (2 ^ 52 ≤ m) × (m < 2 ^ 54) ⌝ }
     ensures { λ r. ⌜ Nearest (m * 2 ^ 52) r ⌝ }
@@ -299,12 +302,12 @@ pub fn nearest_root(m: u64) -> u64
         rest = 2 * rest;
         r = r >> 1;
     }
-    // q has 54 digits, the last a half: a root never lies midway between two whole numbers
+    // q has 54 digits, the last for a half; a root never lies midway between two whole numbers
     (q >> 1) + (q & 1)
 }
 
-// Whether s is the whole number nearest to the root of m * 2^52: true only if it is.
-// With s = a * 2^26 + b, m * 2^52 - s * s is ((m - a * a) * 2^25 - a * b) * 2^27 - b * b.
+// Whether s is the whole number nearest to the root of m * 2^52; a false may be wrong, a true is not. With s = a * 2^26 + b, m * 2^52 - s * s is
+// ((m - a * a) * 2^25 - a * b) * 2^27 - b * b, and the tests keep each step of it within 64 bits.
 pub fn nearest(m: u64, s: u64) -> bool
     requires { ⌜ (2 ^ 52 ≤ m) × (m < 2 ^ 54) × (2 ^ 52 ≤ s) × (s < 2 ^ 53) ⌝ }
     ensures { λ r. ⌜ (r ≡ true → Nearest (m * 2 ^ 52) s) ⌝ }
