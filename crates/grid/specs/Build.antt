@@ -15,13 +15,7 @@ use Rattle.grid.specs.declared.Header.{Header}
 use Rattle.grid.specs.declared.Built.{Built}
 use Rattle.grid.specs.Grid.{trianglesIn, gridOf, cellsIn, coverOf}
 use Rattle.grid.specs.Header.{headed}
-
--- Refusal k where b holds, or where it does not; else the next.
-unfoldable pub refuse : Bool → ℕ → ℕ → ℕ
-refuse b k next = cond b k next
-
-unfoldable pub demand : Bool → ℕ → ℕ → ℕ
-demand b k next = cond b next k
+use Rattle.grid.specs.Ladder.{refuse, demand}
 
 -- No place was found.
 unfoldable pub isNowhere : Place → Bool

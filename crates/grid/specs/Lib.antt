@@ -1,3 +1,4 @@
+pub mod Ladder
 pub mod Grid
 pub mod Header
 pub mod Build

@@ -1,3 +1,6 @@
 pub mod Cutting
 pub mod Searching
 pub mod Folding
+pub mod Rounding
+pub mod Signed
+pub mod Ranges

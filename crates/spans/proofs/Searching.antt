@@ -1,8 +1,8 @@
 -- The search for a number that is no coordinate: what is left of the mesh is searched as the whole is.
-use mathlib.Core.Bool.{true, false}
-use mathlib.Core.List.{List}
+use mathlib.Core.Bool.{Bool, true, false}
+use mathlib.Core.List.{List, [], _∷_}
 use mathlib.Core.Path.{_≡_, refl, sym, _∙_}
-use Prim.Native.Nat.{ℕ, _+_, _≤_, _<_}
+use Prim.Native.Nat.{ℕ, zero, suc, _+_, _<_}
 use native.Mathlib.Numerals.{add-one}
 use native.Mathlib.Omega.{arith}
 use lib.ListN.{length, drop}
@@ -30,3 +30,18 @@ module _ (mesh : List Float) where
     pub search-ends : k ≡ length mesh → Nowhere ≡ firstBad mesh
     unfolding badFrom
     search-ends e = (rw (e, drop-length mesh) refl) ∙ h
+
+-- ---- where nothing was found every number is a coordinate
+from-good : (j : ℕ) (xs : List Float) → badFrom j xs ≡ Nowhere → (k : ℕ) → k < length xs → isCoordinate (num xs k) ≡ true
+unfolding badFrom
+from-good j [] e k h = absurd (omega arith)
+from-good j (x ∷ xs) e k h = go (isCoordinate x) refl (λ p. from-good (j + 1) xs ((rw p) ∙ e)) k h
+  where
+    go : (t : Bool) → isCoordinate x ≡ t → (isCoordinate x ≡ true → (k : ℕ) → k < length xs → isCoordinate (num xs k) ≡ true) → (k : ℕ) → k < length (x ∷ xs) → isCoordinate (num (x ∷ xs) k) ≡ true
+    go true p f zero l = p
+    go true p f (suc k) l = f p k (omega arith)
+    go false p f k l = let z : At j ≡ Nowhere = (rw p) ∙ e in let y : _≡_ {A = ℕ} 0 1 = cc in absurd (omega arith)
+
+pub all-good : (mesh : List Float) → firstBad mesh ≡ Nowhere → (k : ℕ) → k < length mesh → isCoordinate (num mesh k) ≡ true
+unfolding firstBad
+all-good mesh e = from-good 0 mesh e

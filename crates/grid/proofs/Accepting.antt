@@ -1,0 +1,109 @@
+-- The refusals, rung by rung: what a call that passes them may rely on, and what the builder answers.
+use mathlib.Core.Bool.{Bool, true, false}
+use mathlib.Core.List.{List}
+use mathlib.Core.Path.{_≡_, refl, ap, sym, _∙_}
+use Prim.Native.Nat.{ℕ, _+_, _*_, _/_, _%_, _≤_, _<_}
+use native.Mathlib.Nat.{div-add-mod'}
+use native.Mathlib.Omega.{arith}
+use borrow.Author.Tests.{eq-eqb, ne-eqb, eqb-true, eqb-false, ltb-false}
+use lib.Dec.{lit<}
+use lib.Ieee.{Float}
+use lib.ListN.{length}
+use Rattle.numbers.specs.Reals.{num}
+use Rattle.numbers.proofs.Branches.{taken, left}
+use Rattle.spans.specs.Mesh.{isCoordinate, isRadius, firstBad}
+use Rattle.spans.specs.declared.Place.{Place}
+use Rattle.spans.specs.declared.Place.the-variants.{Nowhere, At}
+use Rattle.spans.proofs.Searching.{all-good}
+use Rattle.cells.specs.Cover.{startsOf, membersTable}
+use Rattle.grid.specs.declared.Grid.{Grid}
+use Rattle.grid.specs.declared.Header.{Header}
+use Rattle.grid.specs.declared.Built.{Built}
+use Rattle.grid.specs.Grid.{trianglesIn, cellsIn, coverOf, totalOf}
+use Rattle.grid.specs.Header.{headed}
+use Rattle.grid.specs.Build.{isNowhere, refusalOfNumbers, refusalOfMesh, refusalOfGrid, refusalOfMembers, Outcome, outcome, refusedBy, acceptedWith, unless, filledOf}
+use Rattle.grid.specs.Indexed.{Gridded}
+use Rattle.grid.proofs.Ladder.{refused-not, demanded}
+use Rattle.grid.proofs.Gridding.{counted}
+
+-- ---- refusals 1 to 4
+pub record Accepted (mesh : List Float) (floor r : Float) : Type 0 where
+  pub nine : length mesh ≡ trianglesIn mesh * 9
+  pub few : trianglesIn mesh ≤ 65536
+  pub some : 0 < trianglesIn mesh
+  pub bottom : isCoordinate floor ≡ true
+  pub radius : isRadius r ≡ true
+  pub numbers : (k : ℕ) → k < length mesh → isCoordinate (num mesh k) ≡ true
+
+nowhere : (p : Place) → isNowhere p ≡ true → p ≡ Nowhere
+unfolding isNowhere
+nowhere Nowhere e = refl
+nowhere (At k) e = let z : _≡_ {A = ℕ} 0 1 = cc in absurd (omega arith)
+
+pub accepted : (mesh : List Float) (floor r : Float) → refusalOfMesh mesh floor r ≡ 0 → Accepted mesh floor r
+unfolding refusalOfMesh refusalOfNumbers
+accepted mesh floor r e =
+    let a = demanded _ 1 _ (lit< tt) e in
+    let b = refused-not _ 1 _ (lit< tt) (a .1) in
+    let c = refused-not _ 3 _ (lit< tt) (b .1) in
+    let d = demanded _ 2 _ (lit< tt) (c .1) in
+    let f = demanded _ 2 _ (lit< tt) (d .1) in
+    let g = demanded _ 4 _ (lit< tt) (f .1) in
+    let z = eqb-true _ _ (a .0) in
+    let n = eqb-false _ _ (c .0) in
+    record {
+      nine = omega (arith, div-add-mod' (length mesh) 9);
+      few = ltb-false _ _ (b .0);
+      some = omega arith;
+      bottom = d .0;
+      radius = f .0;
+      numbers = all-good mesh (nowhere _ (g .0));
+    }
+
+-- ---- refusal 5
+pub record Passed (columns rows lent : ℕ) : Type 0 where
+  pub wide : columns ≤ 65536
+  pub tall : rows ≤ 65536
+  pub few : rows * columns ≤ 1048576
+  pub room : rows * columns + 1 ≤ lent
+
+pub passed : (columns rows lent : ℕ) → refusalOfGrid columns rows lent ≡ 0 → Passed columns rows lent
+unfolding refusalOfGrid
+passed columns rows lent e =
+    let a = refused-not _ 5 _ (lit< tt) e in
+    let b = refused-not _ 5 _ (lit< tt) (a .1) in
+    let c = refused-not _ 5 _ (lit< tt) (b .1) in
+    let d = refused-not _ 5 _ (lit< tt) (c .1) in
+    record { wide = ltb-false _ _ (a .0); tall = ltb-false _ _ (b .0); few = ltb-false _ _ (c .0); room = ltb-false _ _ (d .0) }
+
+-- ---- refusal 6
+pub members-fit : (k lent : ℕ) → refusalOfMembers k lent ≡ 0 → (k ≤ 16777216) × (k ≤ lent)
+unfolding refusalOfMembers
+members-fit k lent e =
+    let a = refused-not _ 6 _ (lit< tt) e in
+    let b = refused-not _ 6 _ (lit< tt) (a .1) in
+    (ltb-false _ _ (a .0), ltb-false _ _ (b .0))
+
+-- ---- refused, or what comes next
+module _ (k : ℕ) (s m : List ℕ) (next : Outcome) where
+  pub unless-refused : (b : Built) → b ≡ refusedBy k → (k ≡ 0 → ⊥) → outcome b s m ≡ unless k s m next
+  unfolding unless
+  unless-refused b e h = ap (λ (x : Built). outcome x s m) e ∙ left _ _ _ _ (ne-eqb k 0 h) refl
+
+  pub unless-next : (o : Outcome) → k ≡ 0 → o ≡ next → o ≡ unless k s m next
+  unfolding unless
+  unless-next o h e = taken _ _ _ _ (eq-eqb k 0 h) e
+
+-- ---- the tables, or refusal 6
+module _ (mesh : List Float) (n : ℕ) (g : Grid) (floor r : Float) (s m : List ℕ) (z : Gridded mesh n g) (t k : ℕ) (p : t ≡ totalOf mesh g n) (q : k ≡ refusalOfMembers t (length m)) where
+  asked : k ≡ refusalOfMembers _ (length m)
+  asked = q ∙ ap (λ (x : ℕ). refusalOfMembers x (length m)) (p ∙ counted mesh g n z)
+
+  pub filled-refused : (b : Built) → b ≡ refusedBy k → (k ≡ 0 → ⊥) → outcome b s m ≡ filledOf mesh n g floor r s m
+  unfolding filledOf
+  filled-refused b e h = unless-refused k s m _ b e h ∙ ap (λ (x : ℕ). unless x s m _) asked
+
+  pub filled-accepted : (h : Header) (s′ m′ : List ℕ) → k ≡ 0 → h ≡ headed mesh n g floor r → s′ ≡ startsOf (coverOf mesh g) n (cellsIn g) s
+      → m′ ≡ membersTable (coverOf mesh g) n (cellsIn g) m → outcome (record { refusal = 0; header = h }) s′ m′ ≡ filledOf mesh n g floor r s m
+  unfolding filledOf acceptedWith
+  filled-accepted h s′ m′ e a b c = unless-next _ s m _ _ (sym asked ∙ e) (rw (a, b, c) refl)

@@ -1,0 +1,15 @@
+-- `grid::header_of` meets its contract.
+use mathlib.Core.Path.{ap}
+use borrow.Author.Needs.{needs}
+use Rattle.grid.specs.Header.{headed}
+use Rattle.grid.proofs.header_of.Statement.{statement}
+use Rattle.grid.proofs.header_of.Tie as tie
+
+returns : tie.Need-returns
+unfolding headed
+returns c = rw (c .eps .ensures)
+
+pub header-of-spec : {M : Type 1} → statement M
+header-of-spec =
+    tie.close
+    (tie.spec (λ c κs. search needs) returns)

@@ -1,0 +1,43 @@
+-- `grid::refusal_of_numbers` meets its contract.
+use Prim.Native.Nat.{ℕ}
+use mathlib.Core.Path.{_≡_, refl, ap, sym, _∙_}
+use borrow.Author.Needs.{needs}
+use borrow.Author.Tests.{not-false}
+use denote.Ref.{now}
+use Rattle.numbers.proofs.Branches.{bool-called}
+use Rattle.spans.specs.Mesh.{firstBad}
+use Rattle.grid.specs.Ladder.{demand}
+use Rattle.grid.specs.Build.{isNowhere, refusalOfNumbers}
+use Rattle.grid.proofs.Ladder.{ladder, demand-here, demand-next}
+use Rattle.grid.proofs.refusal_of_numbers.Statement.{statement}
+use Rattle.grid.proofs.refusal_of_numbers.Tie as tie
+
+returns : tie.Need-returns
+unfolding refusalOfNumbers
+returns c = search ladder depth 9
+
+returns-2 : tie.Need-returns-2
+unfolding refusalOfNumbers
+returns-2 c = search ladder depth 9
+
+-- floor and r are in range, so the answer is that of the search
+last : (c : tie.After-first-bad) (k : ℕ) → k ≡ demand (isNowhere (firstBad (now (c .before .before .before .before .before .before .args .mesh)))) 4 0 → k ≡ refusalOfNumbers (now (c .before .before .before .before .before .before .args .mesh)) (c .before .before .before .before .before .before .args .floor) (c .before .before .before .before .before .before .args .r)
+unfolding refusalOfNumbers
+last c k h =
+    let two = c .before in
+    let one = two .before .before in
+    demand-next _ _ _ _ (bool-called _ _ _ (one .before .is-coordinate .ensures) (not-false _ (one .if1 .left)))
+    (demand-next _ _ _ _ (bool-called _ _ _ (two .before .is-radius .ensures) (not-false _ (two .if2 .left))) h)
+
+returns-3 : tie.Need-returns-3
+unfolding isNowhere
+returns-3 c = let d = c .before .before in last d _ (demand-next _ _ _ _ (ap isNowhere (sym (d .first-bad .ensures) ∙ c .enum-told .given .1)) refl)
+
+returns-4 : tie.Need-returns-4
+unfolding isNowhere
+returns-4 c = let d = c .before .before in last d _ (demand-here _ _ _ _ (ap isNowhere (sym (d .first-bad .ensures) ∙ c .enum-told2 .given .1)) refl)
+
+pub refusal-of-numbers-spec : {M : Type 1} → statement M
+refusal-of-numbers-spec =
+    tie.close
+    (tie.spec (λ c κs. tt) returns (λ c κs. tt) returns-2 (λ c κs. tt) (λ c. search needs) (λ c. search needs) returns-3 returns-4)

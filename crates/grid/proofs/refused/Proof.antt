@@ -1,0 +1,14 @@
+-- `grid::refused` meets its contract.
+use mathlib.Core.Path.{refl}
+use Rattle.grid.specs.Build.{refusedBy}
+use Rattle.grid.proofs.refused.Statement.{statement}
+use Rattle.grid.proofs.refused.Tie as tie
+
+returns : tie.Need-returns
+unfolding refusedBy
+returns c = refl
+
+pub refused-spec : {M : Type 1} → statement M
+refused-spec =
+    tie.close
+    (tie.spec returns)
