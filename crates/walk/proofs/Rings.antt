@@ -5,7 +5,7 @@ use mathlib.Core.Path.{_≡_, refl, ap, sym, _∙_}
 use Prim.Native.Nat.{ℕ, zero, suc, _+_, _-_, _^_, _≤_, _<_}
 use native.Mathlib.Numerals.{add-one}
 use native.Mathlib.Omega.{arith}
-use borrow.Author.Tests.{eq-eqb, eqb-true}
+use borrow.Author.Tests.{eq-eqb, eqb-true, not-true, not-false}
 use lib.Dec.{eqb}
 use lib.ListN.{length, getD, set, drop, length-set, drop-of-length-le}
 use lib.Seq.{drop-cons, set-getD}
@@ -98,6 +98,22 @@ module _ {A : Type 0} (stamp : ℕ) (step : A → ℕ → A) (w : Walk A) (i : �
 
   pub room-first : i < length (w .marks) → eqb (getD (w .marks) i 0) stamp ≡ false → Room stamp w → w .count + 1 < 2 ^ 32
   room-first h e r = let u = unmarked-set stamp (w .marks) i h e in omega arith
+
+-- the same from what a call of `fresh` ensures: f is its answer, m′ the marks that it left
+module _ {A : Type 0} (stamp : ℕ) (step : A → ℕ → A) (w : Walk A) (i : ℕ) (f : Bool) (m′ : List ℕ) (a : f ≡ not (eqb (getD (w .marks) i 0) stamp)) (b : m′ ≡ set (w .marks) i stamp) where
+  pub fresh-again : not f ≡ true → record { marks = m′; count = w .count; value = w .value } ≡ look stamp step w i
+  fresh-again n =
+      ap (λ (l : List ℕ). record { marks = l; count = w .count; value = w .value }) b ∙ look-again stamp step w i (not-false _ (sym a ∙ not-true f n))
+
+  fresh-new : not f ≡ false → eqb (getD (w .marks) i 0) stamp ≡ false
+  fresh-new n = not-true _ (sym a ∙ not-false f n)
+
+  pub fresh-first : not f ≡ false → (v : A) → v ≡ step (w .value) i → record { marks = m′; count = w .count + 1; value = v } ≡ look stamp step w i
+  fresh-first n v p =
+      ap (λ (l : List ℕ). record { marks = l; count = w .count + 1; value = v }) b ∙ look-first stamp step w i (fresh-new n) v p
+
+  pub fresh-room : not f ≡ false → i < length (w .marks) → Room stamp w → w .count + 1 < 2 ^ 32
+  fresh-room n h r = room-first stamp step w i h (fresh-new n) r
 
 module _ (stamp : ℕ) (blocks : ℕ → Bool) where
   pub strike-is : (w : Walk Bool) (i : ℕ) (w′ : Walk Bool) → w .value ≡ true → w′ ≡ look stamp (λ _ k. not (blocks k)) w i → w′ ≡ strike stamp blocks w i
