@@ -6,8 +6,15 @@ ghost use Rattle.numbers.specs.Root.{rootOf};
 ghost use Rattle.numbers.specs.Rounding.{roundDownOf, roundUpOf};
 ghost use Rattle.numbers.specs.Hypot.{hypotOf};
 ghost use Rattle.numbers.specs.Order.{totalLess};
+ghost use Rattle.job.specs.Reader.{readOf};
+ghost use Rattle.bull.specs.Bull.{bullProfile, bullContactAbove};
+ghost use Rattle.section.specs.Section.{sectionContact};
+ghost use Rattle.desk.specs.Doors.{jobLeft, jobLeftBy, contactLeft, contactLeftBy, sectionFrom};
 ghost use Rattle.plane.specs.Mesh.{triangleOf};
 ghost use Rattle.plane.specs.Distance.{dist2ToSegment, distanceXy};
+use bull::Bull;
+use plane::Contact;
+use section::Section;
 
 // The square root, rounded to the nearest f64.
 #[no_mangle]
@@ -94,4 +101,98 @@ pub extern "C" fn mandrikelo_distance_xy(triangle: &[f64; 9], x: f64, y: f64) ->
     ensures { λ r. ⌜ r ≡ distanceXy (triangleOf (now (triangle .entry)) 0) x y ⌝ }
 {
     plane::distance_xy(plane::triangle_at(triangle, 0), x, y)
+}
+
+// Reads a job into the lent tables; measures get the floor and the radius, sizes the numbers of triangles and questions.
+#[no_mangle]
+pub extern "C" fn mandrikelo_read_job(
+    bytes: &[u8],
+    mesh: &mut [f64],
+    questions: &mut [f64],
+    measures: &mut [f64; 2],
+    sizes: &mut [u32; 2],
+) -> u32
+    ensures { λ k. ⌜ jobLeft k (now (mesh .exit)) (now (questions .exit)) (now (measures .exit)) (now (sizes .exit)) ≡ jobLeftBy (readOf (now (bytes .entry)) (now (mesh .entry)) (now (questions .entry))) ⌝ }
+{
+    let a = job::read_job(bytes, mesh, questions);
+    let refusal = a.refusal;
+    let n = a.n;
+    let m = a.m;
+    let floor = a.floor;
+    let radius = a.radius;
+    *measures = [floor, radius];
+    *sizes = [n, m];
+    refusal
+}
+
+// Lays a contact into a bool and a fixed array.
+fn lay(c: Contact, height: &mut [f64; 1]) -> bool
+    ensures { λ b. ⌜ contactLeft b (now (height .exit)) ≡ contactLeftBy c ⌝ }
+{
+    match c {
+        Contact::Nothing => {
+            *height = [0.0];
+            false
+        }
+        Contact::Height(z) => {
+            *height = [z];
+            true
+        }
+    }
+}
+
+// The height of a bull-nose cutter over its tip, at distance d from its axis.
+#[no_mangle]
+pub extern "C" fn mandrikelo_bull_profile(d: f64, r: f64, rc: f64) -> f64
+    ensures { λ h. ⌜ h ≡ bullProfile d r rc ⌝ }
+{
+    bull::bull_profile(d, r, rc)
+}
+
+// A bull-nose cutter over (px, py) and one triangle; edges that cannot exceed the floor are skipped.
+#[no_mangle]
+pub extern "C" fn mandrikelo_bull_contact(
+    triangle: &[f64; 9],
+    px: f64,
+    py: f64,
+    r: f64,
+    rc: f64,
+    floor: f64,
+    height: &mut [f64; 1],
+) -> bool
+    ensures { λ b. ⌜ contactLeft b (now (height .exit)) ≡ contactLeftBy (bullContactAbove (triangleOf (now (triangle .entry)) 0) (record { x = px; y = py; r = r; rc = rc }) floor) ⌝ }
+{
+    let k = Bull {
+        x: px,
+        y: py,
+        r: r,
+        rc: rc,
+    };
+    lay(
+        bull::bull_contact_above(plane::triangle_at(triangle, 0), k, floor),
+        height,
+    )
+}
+
+// A section over (px, py) and one triangle.
+#[no_mangle]
+pub extern "C" fn mandrikelo_section_contact(
+    triangle: &[f64; 9],
+    px: f64,
+    py: f64,
+    section: &[f64; 4],
+    height: &mut [f64; 1],
+) -> bool
+    ensures { λ b. ⌜ contactLeft b (now (height .exit)) ≡ contactLeftBy (sectionContact (triangleOf (now (triangle .entry)) 0) px py (sectionFrom (now (section .entry)))) ⌝ }
+{
+    let s = Section {
+        z0: section[0],
+        r0: section[1],
+        r1: section[2],
+        rise: section[3],
+    };
+    lay(
+        section::section_contact(plane::triangle_at(triangle, 0), px, py, s),
+        height,
+    )
 }

@@ -1,0 +1,12 @@
+use borrow.Author.Needs.{needs}
+use mathlib.Core.Path.{ap}
+use Rattle.desk.specs.Doors.{jobLeftBy}
+use Rattle.desk.proofs.mandrikelo_read_job.Statement.{statement}
+use Rattle.desk.proofs.mandrikelo_read_job.Tie as tie
+
+returns : tie.Need-returns
+unfolding jobLeftBy
+returns c = ap jobLeftBy (c .before .before .before .before .before .before .read-job .ensures .0)
+
+pub mandrikelo-read-job-spec : {M : Type 1} → statement M
+mandrikelo-read-job-spec = tie.close (tie.spec (λ c κs. tt) (λ c. search needs) (λ c. search needs) returns)
