@@ -1,0 +1,12 @@
+use mathlib.Core.Path.{_≡_, refl, ap, sym, _∙_}
+use Rattle.reach.specs.Reach.{gapOf}
+use Rattle.bull_gap.specs.Blocks.{bullGap}
+use Rattle.bull_gap.proofs.gap.Statement.{statement}
+use Rattle.bull_gap.proofs.gap.Tie as tie
+
+returns : tie.Need-returns
+unfolding bullGap
+returns c = c .gap-of .ensures ∙ ap (gapOf _ _) (c .before .bull-contact .ensures)
+
+pub gap-spec : {M : Type 1} → statement M
+gap-spec = tie.close (tie.spec (λ c κs. tt) (λ c κs. tt) returns)

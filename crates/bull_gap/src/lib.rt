@@ -1,0 +1,69 @@
+// Whether a triangle blocks a bull-nose cutter on a chord.
+ghost use mathlib.Core.Path.{_≡_};
+ghost use Rattle.golden.specs.Search.{rises, goldenStart, goldenStep, goldenMax};
+ghost use Rattle.bull_gap.specs.Blocks.{bullGap, bullSearched, bullBlocks};
+use bull::Bull;
+use golden::Golden;
+use plane::Triangle;
+use reach::Chord;
+use touch::Stretch;
+
+// Whether a triangle blocks the cutter of the radius r and the corner radius rc on the chord.
+pub fn bull_blocks(t: Triangle, m: Chord, r: f64, rc: f64) -> bool
+    ensures { λ b. ⌜ b ≡ bullBlocks t m r rc ⌝ }
+{
+    let lift = m.lift;
+    let low = numbers::min(m.az, m.bz);
+    if plane::top(t) + lift <= low {
+        return false;
+    }
+    searched(t, m, r, rc, reach::stretch_of(t, m, r, 50))
+}
+
+// Whether a contact on the stretch, lifted, stands above the tip.
+fn searched(t: Triangle, m: Chord, r: f64, rc: f64, s: Stretch) -> bool
+    ensures { λ b. ⌜ b ≡ bullSearched t m r rc s ⌝ }
+{
+    match s {
+        Stretch::Nowhere => false,
+        Stretch::Between(s0, s1) => search(t, m, r, rc, s0, s1) > 0.0,
+    }
+}
+
+// How far the contact, lifted, stands above the tip at most between two places of the chord.
+fn search(t: Triangle, m: Chord, r: f64, rc: f64, lo: f64, hi: f64) -> f64
+    ensures { λ z. ⌜ z ≡ goldenMax (bullGap t m r rc) lo hi 40 ⌝ }
+{
+    let mut g = start(t, m, r, rc, lo, hi);
+    for n in 0..40usize {
+        g = step(t, m, r, rc, g);
+    }
+    golden::best(gap(t, m, r, rc, lo), gap(t, m, r, rc, hi), g.f1, g.f2)
+}
+
+// The search's first bracket.
+fn start(t: Triangle, m: Chord, r: f64, rc: f64, lo: f64, hi: f64) -> Golden
+    ensures { λ g. ⌜ g ≡ goldenStart (bullGap t m r rc) lo hi ⌝ }
+{
+    let u = golden::lower_point(lo, hi);
+    let v = golden::upper_point(lo, hi);
+    golden::start(lo, hi, gap(t, m, r, rc, u), gap(t, m, r, rc, v))
+}
+
+// A step of the search.
+fn step(t: Triangle, m: Chord, r: f64, rc: f64, g: Golden) -> Golden
+    ensures { λ k. ⌜ k ≡ goldenStep rises (bullGap t m r rc) g ⌝ }
+{
+    let left = golden::drops_low(g);
+    let p = golden::probe(left, g);
+    golden::narrowed(left, g, p, gap(t, m, r, rc, p))
+}
+
+// How far the contact, lifted, stands above the tip at s.
+fn gap(t: Triangle, m: Chord, r: f64, rc: f64, s: f64) -> f64
+    ensures { λ z. ⌜ z ≡ bullGap t m r rc s ⌝ }
+{
+    let x = m.ax + s * (m.bx - m.ax);
+    let y = m.ay + s * (m.by - m.ay);
+    reach::gap_of(m, s, bull::bull_contact(t, Bull { x, y, r, rc }))
+}

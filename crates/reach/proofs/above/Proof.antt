@@ -1,0 +1,11 @@
+use mathlib.Core.Path.{_≡_, refl, ap, sym, _∙_}
+use Rattle.reach.specs.Reach.{gapOf}
+use Rattle.reach.proofs.above.Statement.{statement}
+use Rattle.reach.proofs.above.Tie as tie
+
+returns : tie.Need-returns
+unfolding gapOf
+returns c = refl
+
+pub above-spec : {M : Type 1} → statement M
+above-spec = tie.close (tie.spec returns)

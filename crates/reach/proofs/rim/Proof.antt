@@ -1,0 +1,18 @@
+use mathlib.Core.Path.{_≡_, refl, ap, sym, _∙_}
+use Rattle.numbers.proofs.Branches.{taken, left}
+use lib.Ieee.{le}
+use Rattle.reach.specs.Reach.{rimOf}
+use Rattle.reach.specs.declared.Span.{Span}
+use Rattle.reach.proofs.rim.Statement.{statement}
+use Rattle.reach.proofs.rim.Tie as tie
+
+returns : tie.Need-returns
+unfolding rimOf
+returns c = taken _ _ _ _ (rw (c .before .apart-at .ensures) at (c .if1 .taken)) refl
+
+returns-2 : tie.Need-returns-2
+unfolding rimOf
+returns-2 c = left _ _ _ _ (rw (c .before .before .apart-at .ensures) at (c .before .if1 .left)) (ap (λ (s : Span). s .inside) (c .bisected .ensures))
+
+pub rim-spec : {M : Type 1} → statement M
+rim-spec = tie.close (tie.spec (λ c κs. tt) returns (λ c κs. tt) returns-2)
