@@ -83,8 +83,7 @@ fn run(t: Triangle, m: Chord, k: Section, from: Bracket) -> Bracket
     for n in 0..60usize {
         s = turn(t, m, k, s);
         let g = s.g;
-        if g.x1 < g.x2 {
-        } else {
+        if g.x1 < g.x2 {} else {
             return s;
         }
     }
