@@ -101,7 +101,11 @@ fn eps_in_range(eps: f64, r: f64) -> bool
     ensures { λ a. ⌜ a ≡ ((lt f0 eps && le eps twoMillionths) && isRadius r) ⌝ }
 {
     if 0.0 < eps {
-        if eps <= 2e-6 { spans::is_radius(r) } else { false }
+        if eps <= 2e-6 {
+            spans::is_radius(r)
+        } else {
+            false
+        }
     } else {
         false
     }

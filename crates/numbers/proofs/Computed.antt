@@ -1,6 +1,5 @@
 -- What comes out by computing: phi, its power, and the worked examples.
 use mathlib.Core.Path.{_≡_, refl, ap, _∙_}
-use Prim.Native.Nat.{ℕ, zero, suc}
 use lib.Ieee.{size, units, odd, round, ofBits, sum, add, sub, neg, mul, div}
 use Rattle.numbers.specs.Root.{wholeRoot, nearestRoot, rootOfUnits, rootOf}
 use Rattle.numbers.specs.Rounding.{roundDownOf}

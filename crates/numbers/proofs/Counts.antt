@@ -1,15 +1,15 @@
 -- A finite f64 is a whole number of smallest ones, 2 ^ -1074: its count. Two that have the same sign and the same count are one; of two sizes the smaller has
 -- the smaller count.
-use mathlib.Core.Path.{_≡_, refl, sym, ap, _∙_, subst}
+use mathlib.Core.Path.{_≡_, refl, sym, ap, _∙_}
 use mathlib.Core.Bool.{Bool, true, false, cond, _&&_}
 use Prim.Native.Nat.{ℕ, zero, suc, _+_, _-_, _*_, _/_, _%_, _^_, _≤_, _<_}
-use native.Mathlib.Nat.{le-trans, le-of-eq, lt-irrefl, lt-of-lt-of-le, lt-of-not-le, not-le-of-lt, zero-mul, mul-zero, mul-one, mul-assoc, mul-comm, mul-right-comm, mul-pos, mul-div-cancel, mul-le-mul-right, mul-lt-mul-of-pos-right, le-of-mul-le-mul-right, le-of-lt}
+use native.Mathlib.Nat.{le-trans, le-of-eq, lt-irrefl, lt-of-lt-of-le, lt-of-not-le, not-le-of-lt, zero-mul, mul-one, mul-assoc, mul-right-comm, mul-pos, mul-div-cancel, mul-le-mul-right, le-of-mul-le-mul-right}
 use native.Mathlib.Omega.{arith}
 use borrow.Author.Tests.{ltb-true, ltb-false, lt-ltb, le-ltb}
 use lib.IntN.{ℤ, pos, negsuc}
 use lib.Dec.{T, leb, ltb, eqb, leb→le}
 use lib.Pow.{pow-add, pow-pos, pow-lt}
-use lib.Ieee.{Float, nan, inf, fin, binary64, prec, emax, low, up, down, top, hid, size, fits, toBits, ofBits}
+use lib.Ieee.{fin, binary64, emax, low, up, down, top, hid, size, fits, toBits, ofBits}
 use lib.Ieee.Bits.{ofBits-toBits}
 use lib.Ieee.Fits.{and-l, and-r, down-pos}
 

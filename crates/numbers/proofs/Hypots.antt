@@ -1,9 +1,7 @@
 -- The sum of two squares, where one of the two is infinite.
 use mathlib.Core.Path.{_≡_, refl, sym, ap, _∙_, subst}
 use mathlib.Core.Bool.{Bool, true, false, cond, _||_}
-use Prim.Native.Nat.{ℕ, zero, suc}
-use lib.Ieee.{Float, nan, inf, fin, binary64, add, mul, div, ne, eq, lt, ofBits}
-use lib.Ieee.Compare.{differs-from-itself}
+use lib.Ieee.{Float, nan, inf, fin, binary64, add, mul, div, ne, eq, ofBits}
 use lib.Dec.{T}
 use Rattle.numbers.specs.Reals.{_⊕_, _⊗_, absOf}
 use Rattle.numbers.specs.Root.{rootOf}

@@ -1,5 +1,5 @@
 -- Rounding down as the definition has it: the largest whole number not above, in order, and what truncating gives.
-use mathlib.Core.Bool.{Bool, true, false, cond, _&&_, true≢false, false≢true}
+use mathlib.Core.Bool.{Bool, true, false, cond, _&&_}
 use mathlib.Core.Path.{_≡_, refl, ap, sym, _∙_, subst}
 use Prim.Native.Nat.{ℕ, zero, suc, _+_, _-_, _*_, _/_, _%_, _^_, _≤_, _<_, min}
 use native.Mathlib.Nat.{le-trans, le-of-eq, le-of-lt, lt-of-lt-of-le, lt-of-le-of-lt, lt-of-mul-lt-mul-right, mul-comm, mul-one, mul-assoc, add-mul, suc-mul, zero-mul, div-one, add-zero, div-le-self, div-mul-le-self, lt-div-mul-add, mul-div-cancel, mul-lt-mul-of-pos-right, mul-le-mul-right, le-mul-of-pos-right}

@@ -1,16 +1,15 @@
 -- What a comparison with the least normal number tells of the fields.
 use mathlib.Core.Path.{_≡_, refl, sym, ap, _∙_, subst}
-use mathlib.Core.Bool.{Bool, true, false, not, cond, true≢false, false≢true}
+use mathlib.Core.Bool.{Bool, true, false, not, cond}
 use mathlib.Core.Logic.{_⊎_, inl, inr}
-use Prim.Native.Nat.{ℕ, zero, suc, _+_, _-_, _*_, _/_, _%_, _^_, _≤_, _<_}
-use native.Mathlib.Nat.{le-of-suc-le-suc, eq-or-lt-of-le, le-trans, le-of-eq, le-add-right, le-mul-of-pos-right, le-of-mul-le-mul-right, lt-irrefl, lt-of-lt-of-le, mul-le-mul-right, mul-comm, mod-eq-of-lt}
+use Prim.Native.Nat.{ℕ, zero, suc, _+_, _-_, _*_, _/_, _^_, _<_}
+use native.Mathlib.Nat.{le-of-suc-le-suc, eq-or-lt-of-le, le-trans, le-add-right, le-mul-of-pos-right, le-of-mul-le-mul-right, lt-irrefl, lt-of-lt-of-le, mul-le-mul-right, mod-eq-of-lt}
 use native.Mathlib.Omega.{arith}
 use borrow.Author.Tests.{leb-false}
 use lib.Dec.{T, leb, eqb}
 use lib.Pow.{pow-pos}
-use lib.Bits.{bitAnd, and-mask}
-use lib.IntN.{pos, negsuc}
-use lib.Ieee.{Float, nan, inf, fin, binary64, fits, isNan, ofFields, ofBits, toBits, le}
+use lib.Bits.{and-mask}
+use lib.Ieee.{Float, nan, inf, binary64, fits, isNan, ofFields, ofBits, toBits, le}
 use lib.Ieee.Exact.{HasValue}
 use Rattle.numbers.specs.Parts.{leastNormal}
 use Rattle.numbers.proofs.Patterns.{apart, exponentOf, fractionOf, exponent-lt, fraction-lt, special, normal-value, subnormal-value}

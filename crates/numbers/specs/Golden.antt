@@ -1,5 +1,4 @@
 -- Document 01, "Numbers": phi is (root 5 - 1)/2; phi to the 60th is 59 multiplications, left to right.
-use mathlib.Core.Path.{_≡_, refl}
 use Prim.Native.Nat.{ℕ, zero, suc}
 use lib.Ieee.{Float, binary64, ofBits}
 use Rattle.numbers.specs.Reals.{_⊖_, _⊗_, _⊘_, f1, f2, f5}

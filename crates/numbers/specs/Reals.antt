@@ -1,6 +1,6 @@
 -- Document 01, "Numbers": names for f64. The operators are those of IEEE 754-2019 at binary64, each rounded once; every constant of the source stands here by
 -- its bits, and below it what number that is.
-use mathlib.Core.Bool.{Bool, true, false, cond}
+use mathlib.Core.Bool.{true, false, cond}
 use mathlib.Core.Path.{_≡_, refl}
 use mathlib.Core.List.{List}
 use Prim.Native.Nat.{ℕ}

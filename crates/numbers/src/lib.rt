@@ -3,7 +3,7 @@
 ghost use mathlib.Core.Path.{_≡_};
 ghost use mathlib.Core.Bool.{true, false, cond, _||_};
 ghost use Prim.Native.Nat.{_+_, _*_, _/_, _%_, _^_, _≤_, _<_};
-ghost use lib.IntN.{pos, negsuc};
+ghost use lib.IntN.{negsuc};
 ghost use lib.Ieee.{nan, inf, fin, minus, binary64, ofBits, le};
 ghost use lib.Bits.{bitAnd};
 ghost use Rattle.numbers.specs.Reals.{maxOf, minOf, absOf, clampUnit};

@@ -85,14 +85,14 @@ module _ (mesh : List Float) (h : Header) (starts members marks : List ℕ) (sta
   unfolding cellUsable
   walkable right top =
       record {
-          stretch = λ x y a b c d.
+        stretch = λ x y a b c d.
             let i : ℕ = y * h .columns + x in
             let u = both (leb (getD starts i 0) (getD starts (i + 1) 0)) (leb (getD starts (i + 1) 0) (length members) && each test (cell starts members i)) (usable-cell x y a b c d) in
             let v = both (leb (getD starts (i + 1) 0) (length members)) (each test (cell starts members i)) (u .1) in
             record {
-                inside = omega (arith, in-rows (h .columns) (p .x1) y (p .y1) right d, rows-room mesh h starts (p .y1) usable-head top);
-                rises = leb-true _ _ (u .0);
-                within = leb-true _ _ (v .0)
+              inside = omega (arith, in-rows (h .columns) (p .x1) y (p .y1) right d, rows-room mesh h starts (p .y1) usable-head top);
+              rises = leb-true _ _ (u .0);
+              within = leb-true _ _ (v .0);
             };
-          below = λ x y a b c d k l. usable-member x y k a b c d l .below
+        below = λ x y a b c d k l. usable-member x y k a b c d l .below;
       }

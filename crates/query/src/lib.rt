@@ -26,17 +26,11 @@ fn held(count: usize, lo: f64, hi: f64) -> Span
     ensures { λ s. ⌜ s ≡ heldTo count lo hi ⌝ }
 {
     if hi < 0.0 {
-        return Span {
-            first: 0,
-            past: 0,
-        };
+        return Span { first: 0, past: 0 };
     }
     let first = spans::cut(lo) as usize;
     if count <= first {
-        return Span {
-            first: 0,
-            past: 0,
-        };
+        return Span { first: 0, past: 0 };
     }
     Span {
         first,
@@ -115,7 +109,11 @@ fn member_usable(mesh: &[f64], n: usize, marks: &[u32], stamp: u32, i: usize) ->
     ensures { λ r. ⌜ r ≡ memberUsable (now (mesh .entry)) n (now (marks .entry)) stamp i ⌝ }
 {
     if i < n {
-        if triangle_usable(mesh, i) { marks[i] <= stamp } else { false }
+        if triangle_usable(mesh, i) {
+            marks[i] <= stamp
+        } else {
+            false
+        }
     } else {
         false
     }

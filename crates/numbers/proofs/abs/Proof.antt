@@ -1,10 +1,8 @@
 -- `numbers::abs` meets its contract: a NaN stays, and of any other x the pattern loses its sign bit (`Magnitude.antt`).
-use mathlib.Core.Path.{_≡_, ap, _∙_, subst, sym}
-use Prim.Native.Nat.{ℕ}
+use mathlib.Core.Path.{subst, sym}
 use lib.Dec.{T}
-use lib.Ieee.{Float, nan, binary64, fits, toBits}
+use lib.Ieee.{binary64, fits}
 use lib.Ieee.Compare.{differs-from-itself}
-use Rattle.numbers.specs.Reals.{absOf}
 use Rattle.numbers.proofs.Patterns.{no-nan}
 use Rattle.numbers.proofs.Magnitude.{unsigned-is, unsigned-no-nan, abs-nan}
 use Rattle.numbers.proofs.abs.Statement.{statement}

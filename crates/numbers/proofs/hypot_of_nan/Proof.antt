@@ -1,5 +1,3 @@
-use mathlib.Core.Bool.{true, false}
-use Prim.Native.Nat.{ℕ}
 use Rattle.numbers.proofs.Hypots.{infinite-called, one-infinite, other-infinite, none-infinite}
 use Rattle.numbers.proofs.hypot_of_nan.Statement.{statement}
 use Rattle.numbers.proofs.hypot_of_nan.Tie as tie

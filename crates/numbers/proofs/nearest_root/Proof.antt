@@ -1,4 +1,4 @@
--- `roots::nearest_root` meets its contract. The invariant: q, rest and the weight of the last digit found are as in `Digits.antt`, for m * 2 ^ 54,
+-- `numbers::nearest_root` meets its contract. The invariant: q, rest and the weight of the last digit found are as in `Digits.antt`, for m * 2 ^ 54,
 -- and r, the weight of the next digit, is half of that weight. The measure is r.
 use mathlib.Core.Path.{_≡_}
 use mathlib.Core.Logic.{⊎-elim}

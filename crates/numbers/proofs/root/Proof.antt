@@ -1,13 +1,12 @@
 -- `numbers::root` meets its contract: what is not below the least normal number has no sign and a leading digit (`LeastNormal.antt`), so it is m * 2 ^ e with an m
 -- of 53 digits (`Fields.antt`), or an infinity.
-use mathlib.Core.Path.{_≡_, refl, ap, _∙_, subst, sym}
-use mathlib.Core.Bool.{true, false}
-use Prim.Native.Nat.{ℕ, _+_, _-_, _/_, _^_, _<_}
+use mathlib.Core.Path.{_≡_, ap, _∙_, subst, sym}
+use mathlib.Core.Bool.{false}
+use Prim.Native.Nat.{ℕ, _+_, _-_, _^_, _<_}
 use native.Mathlib.Omega.{arith}
-use borrow.Author.Needs.{needs}
 use lib.IntN.{ℤ}
 use lib.Dec.{T, lit<}
-use lib.Ieee.{Float, fin, minus, binary64, fits, toBits, ofFields}
+use lib.Ieee.{fin, minus, binary64, fits, toBits, ofFields}
 use mir.Syntax.{w64}
 use mir.Val.{toZ, ofZ}
 use Rattle.numbers.specs.Root.{rootOf}

@@ -1,10 +1,10 @@
 -- `numbers::root_below_normal` meets its contract: a NaN and a zero stay, what is negative has no root, and what is left is a subnormal (`LeastNormal.antt`).
 use mathlib.Core.Path.{_≡_, refl, ap, _∙_, subst, sym}
-use mathlib.Core.Bool.{Bool, true, false, not}
-use Prim.Native.Nat.{ℕ, zero, suc, _/_, _^_, _<_}
+use mathlib.Core.Bool.{true, false}
+use Prim.Native.Nat.{ℕ, _^_, _<_}
 use native.Mathlib.Omega.{arith}
 use lib.Dec.{T, leb}
-use lib.Ieee.{Float, nan, binary64, fits, isNan, toBits, ofFields}
+use lib.Ieee.{binary64, fits, toBits, ofFields}
 use lib.Ieee.Compare.{differs-from-itself}
 use Rattle.numbers.specs.Root.{rootOf}
 use Rattle.numbers.proofs.Patterns.{no-nan, apart, exponentOf, fractionOf, exponent-lt, fraction-lt, sign-clear, sign-set, magnitude-zero, magnitude-some}

@@ -1,4 +1,4 @@
--- `roots::root_of` meets its contract: the nearest root of the significand, and half of the exponent, put together (`Units.antt`).
+-- `numbers::root_of` meets its contract: the nearest root of the significand, and half of the exponent, put together (`Units.antt`).
 use mathlib.Core.Path.{_≡_, ap, _∙_}
 use Prim.Native.Nat.{_/_, _%_}
 use borrow.Author.Needs.{needs}

@@ -1,17 +1,16 @@
--- `roots::round_down` meets its contract: x is what its three fields stand for (`Patterns.antt`), and each range of the exponent has its law (`Rounding.antt`).
+-- `numbers::round_down` meets its contract: x is what its three fields stand for (`Patterns.antt`), and each range of the exponent has its law (`Rounding.antt`).
 use mathlib.Core.Path.{_≡_, refl, ap, _∙_, subst, sym}
-use mathlib.Core.Bool.{true, false}
 use Prim.Native.Nat.{ℕ, _+_, _-_, _^_, _≤_, _<_}
 use native.Mathlib.Omega.{arith}
 use borrow.Author.Needs.{needs}
 use lib.Dec.{T, leb}
 use lib.Bits.{and-le-l}
-use lib.Ieee.{Float, nan, binary64, fits, toBits, ofFields}
+use lib.Ieee.{Float, nan, binary64, fits, toBits}
 use lib.Ieee.Bits.{ofBits-toBits, toBits-lt}
 use lib.Ieee.Compare.{differs-from-itself}
 use Rattle.numbers.specs.Rounding.{roundDownOf}
 use Rattle.numbers.proofs.Patterns.{no-nan, apart, exponentOf, fractionOf, exponent-lt, fraction-lt}
-use Rattle.numbers.proofs.Rounding.{Cut, Stepped, behind-is, cut-any, down-whole}
+use Rattle.numbers.proofs.Rounding.{Stepped, behind-is, cut-any, down-whole}
 use Rattle.numbers.proofs.round_down.Statement.{statement}
 use Rattle.numbers.proofs.round_down.Tie as tie
 

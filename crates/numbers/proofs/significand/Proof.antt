@@ -1,4 +1,4 @@
--- `roots::significand` meets its contract: by the check, or by the digits.
+-- `numbers::significand` meets its contract: by the check, or by the digits.
 use mathlib.Core.Path.{_≡_, subst}
 use Prim.Native.Nat.{ℕ, _*_, _%_, _^_, _≤_, _<_}
 use borrow.Author.Needs.{needs}

@@ -1,9 +1,8 @@
 -- `numbers::total_less` meets its contract: four tests in the definition's order, and last the two sign bits (`Magnitude.antt`).
 use mathlib.Core.Path.{subst, sym}
 use lib.Dec.{T}
-use lib.Ieee.{Float, binary64, fits}
 use Rattle.numbers.specs.Order.{totalLess}
-use Rattle.numbers.proofs.Branches.{branches, taken, left, nan-taken, nan-left}
+use Rattle.numbers.proofs.Branches.{branches, left}
 use Rattle.numbers.proofs.Patterns.{no-nan}
 use Rattle.numbers.proofs.Magnitude.{signs-less}
 use Rattle.numbers.proofs.total_less.Statement.{statement}
