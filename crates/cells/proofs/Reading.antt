@@ -50,7 +50,11 @@ module _ (on : Cover) (n : ℕ) where
         rw (start-at (c + 1) (omega arith), start-at c (omega arith), k, e, drop-at (listed on n c) (x ++ (r .0 ++ d)) (startOf on n c) (unfold startOf in refl))
         (take-at x (r .0 ++ d) (length x) refl)
 
-    -- the starts rise, and end within the members
+    -- there is a start for each cell and one for the end; they rise, and end within the members
+    pub starts-room : cells + 1 ≤ length (startsOf on n cells s)
+    unfolding startsOf
+    starts-room = omega (arith, length-append (entries (startOf on n) (suc cells)) (drop (suc cells) s), entries-length (startOf on n) (suc cells))
+
     pub starts-rise : (c : ℕ) → c < cells → getD (startsOf on n cells s) c 0 ≤ getD (startsOf on n cells s) (c + 1) 0
     starts-rise c h = omega (arith, start-at c (omega arith), start-at (c + 1) (omega arith), start-mono on n c (c + 1) (omega arith))
 

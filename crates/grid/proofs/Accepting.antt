@@ -1,7 +1,7 @@
 -- The refusals, rung by rung: what a call that passes them may rely on, and what the builder answers.
 use mathlib.Core.Bool.{Bool, true, false}
 use mathlib.Core.List.{List}
-use mathlib.Core.Path.{_≡_, refl, ap, sym, _∙_}
+use mathlib.Core.Path.{_≡_, refl, ap, sym, _∙_, subst}
 use Prim.Native.Nat.{ℕ, _+_, _*_, _/_, _%_, _≤_, _<_}
 use native.Mathlib.Nat.{div-add-mod'}
 use native.Mathlib.Omega.{arith}
@@ -15,13 +15,13 @@ use Rattle.spans.specs.Mesh.{isCoordinate, isRadius, firstBad}
 use Rattle.spans.specs.declared.Place.{Place}
 use Rattle.spans.specs.declared.Place.the-variants.{Nowhere, At}
 use Rattle.spans.proofs.Searching.{all-good}
-use Rattle.cells.specs.Cover.{startsOf, membersTable}
+use Rattle.cells.specs.Cover.{startOf, startsOf, membersTable}
 use Rattle.grid.specs.declared.Grid.{Grid}
 use Rattle.grid.specs.declared.Header.{Header}
 use Rattle.grid.specs.declared.Built.{Built}
-use Rattle.grid.specs.Grid.{trianglesIn, cellsIn, coverOf, totalOf}
+use Rattle.grid.specs.Grid.{trianglesIn, gridOf, cellsIn, coverOf, totalOf}
 use Rattle.grid.specs.Header.{headed}
-use Rattle.grid.specs.Build.{isNowhere, refusalOfNumbers, refusalOfMesh, refusalOfGrid, refusalOfMembers, Outcome, outcome, refusedBy, acceptedWith, unless, filledOf}
+use Rattle.grid.specs.Build.{isNowhere, refusalOfNumbers, refusalOfMesh, refusalOfGrid, refusalOfMembers, Outcome, outcome, refusedBy, acceptedWith, unless, filledOf, gridded, buildOf}
 use Rattle.grid.specs.Indexed.{Gridded}
 use Rattle.grid.proofs.Ladder.{refused-not, demanded}
 use Rattle.grid.proofs.Gridding.{counted}
@@ -49,8 +49,8 @@ accepted mesh floor r e =
     let d = demanded _ 2 _ (lit< tt) (c .1) in
     let f = demanded _ 2 _ (lit< tt) (d .1) in
     let g = demanded _ 4 _ (lit< tt) (f .1) in
-    let z = eqb-true _ _ (a .0) in
-    let n = eqb-false _ _ (c .0) in
+    let z : length mesh % 9 ≡ 0 = eqb-true (length mesh % 9) 0 (a .0) in
+    let n : trianglesIn mesh ≡ 0 → ⊥ = eqb-false (trianglesIn mesh) 0 (c .0) in
     record {
       nine = omega (arith, div-add-mod' (length mesh) 9);
       few = ltb-false _ _ (b .0);
@@ -96,14 +96,38 @@ module _ (k : ℕ) (s m : List ℕ) (next : Outcome) where
 
 -- ---- the tables, or refusal 6
 module _ (mesh : List Float) (n : ℕ) (g : Grid) (floor r : Float) (s m : List ℕ) (z : Gridded mesh n g) (t k : ℕ) (p : t ≡ totalOf mesh g n) (q : k ≡ refusalOfMembers t (length m)) where
-  asked : k ≡ refusalOfMembers _ (length m)
+  asked : k ≡ refusalOfMembers (startOf (coverOf mesh g) n (cellsIn g)) (length m)
   asked = q ∙ ap (λ (x : ℕ). refusalOfMembers x (length m)) (p ∙ counted mesh g n z)
 
   pub filled-refused : (b : Built) → b ≡ refusedBy k → (k ≡ 0 → ⊥) → outcome b s m ≡ filledOf mesh n g floor r s m
   unfolding filledOf
-  filled-refused b e h = unless-refused k s m _ b e h ∙ ap (λ (x : ℕ). unless x s m _) asked
+  filled-refused b e h = unless-refused _ s m _ b (e ∙ ap refusedBy asked) (λ z. h (asked ∙ z))
 
   pub filled-accepted : (h : Header) (s′ m′ : List ℕ) → k ≡ 0 → h ≡ headed mesh n g floor r → s′ ≡ startsOf (coverOf mesh g) n (cellsIn g) s
       → m′ ≡ membersTable (coverOf mesh g) n (cellsIn g) m → outcome (record { refusal = 0; header = h }) s′ m′ ≡ filledOf mesh n g floor r s m
   unfolding filledOf acceptedWith
   filled-accepted h s′ m′ e a b c = unless-next _ s m _ _ (sym asked ∙ e) (rw (a, b, c) refl)
+
+-- ---- refusal 5, or what comes next; g is the grid as it was found
+module _ (mesh : List Float) (n : ℕ) (G : Grid) (floor r : Float) (s m : List ℕ) (g : Grid) (p : g ≡ G) (k : ℕ) (q : k ≡ refusalOfGrid (g .columns) (g .rows) (length s)) where
+  pub gridded-refused : (b : Built) → b ≡ refusedBy k → (k ≡ 0 → ⊥) → outcome b s m ≡ gridded mesh n G floor r s m
+  unfolding gridded
+  gridded-refused b e h =
+      unless-refused _ s m _ b (e ∙ ap refusedBy q) (λ z. h (q ∙ z)) ∙ ap (λ (x : Grid). gridded mesh n x floor r s m) p
+
+  pub gridded-next : (o : Outcome) → k ≡ 0 → o ≡ filledOf mesh n g floor r s m → o ≡ gridded mesh n G floor r s m
+  unfolding gridded
+  gridded-next o h e = unless-next _ s m _ o (sym q ∙ h) e ∙ ap (λ (x : Grid). gridded mesh n x floor r s m) p
+
+  pub found-passed : k ≡ 0 → Passed (G .columns) (G .rows) (length s)
+  found-passed h = subst (λ (x : Grid). Passed (x .columns) (x .rows) (length s)) p (passed _ _ _ (sym q ∙ h))
+
+-- ---- refusals 1 to 4, or what comes next
+module _ (mesh : List Float) (floor r : Float) (s m : List ℕ) (k : ℕ) (q : k ≡ refusalOfMesh mesh floor r) where
+  pub built-refused : (b : Built) → b ≡ refusedBy k → (k ≡ 0 → ⊥) → outcome b s m ≡ buildOf mesh floor r s m
+  unfolding buildOf
+  built-refused b e h = unless-refused _ s m _ b (e ∙ ap refusedBy q) (λ z. h (q ∙ z))
+
+  pub built-next : (o : Outcome) → k ≡ 0 → o ≡ gridded mesh (trianglesIn mesh) (gridOf mesh (trianglesIn mesh) r) floor r s m → o ≡ buildOf mesh floor r s m
+  unfolding buildOf
+  built-next o h e = unless-next _ s m _ o (sym q ∙ h) e

@@ -1,3 +1,4 @@
 pub mod Ladder
 pub mod Gridding
 pub mod Accepting
+pub mod Indexing

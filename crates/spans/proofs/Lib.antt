@@ -4,3 +4,6 @@ pub mod Folding
 pub mod Rounding
 pub mod Signed
 pub mod Ranges
+pub mod Sizes
+pub mod Extremes
+pub mod Scales

@@ -202,7 +202,7 @@ absolute (fin s m e) p h =
     by-sign false a = (parts→le (fin true 15625 (pos 6)) (fin false m e) tt tt (omega (arith, zero-mul (down e))), parts→le (fin false m e) (fin false 15625 (pos 6)) tt tt a)
     by-sign true a = (parts→le (fin true 15625 (pos 6)) (fin true m e) tt tt (omega (arith, a, zero-mul (down e))), parts→le (fin true m e) (fin false 15625 (pos 6)) tt tt (omega (arith, zero-mul (down e))))
 
-absolute-finite : (x : Float) → T (le (absOf x) (fin false 15625 (pos 6))) → T (finite (absOf x))
+pub absolute-finite : (x : Float) → T (le (absOf x) (fin false 15625 (pos 6))) → T (finite (absOf x))
 unfolding absOf le
 absolute-finite nan h = h
 absolute-finite (inf s) h = h

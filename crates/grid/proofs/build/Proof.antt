@@ -1,41 +1,26 @@
+-- `grid::build` meets its contract.
+use mathlib.Core.Path.{_≡_, sym, _∙_}
 use borrow.Author.Needs.{needs}
+use Rattle.grid.specs.Build.{buildOf}
+use Rattle.grid.proofs.Accepting.{built-refused, built-next}
+use Rattle.grid.proofs.Indexing.{built-indexed}
 use Rattle.grid.proofs.build.Statement.{statement}
 use Rattle.grid.proofs.build.Tie as tie
-use Rattle.grid.proofs.build.Reads as reads
-use Rattle.grid.proofs.build.Lts as lts
-use Rattle.grid.proofs.build_grid.Reads as build-grid-reads
-use Rattle.grid.proofs.refusal_of_mesh.Reads as refusal-of-mesh-reads
-use Rattle.grid.proofs.refused.Reads as refused-reads
-
-refusal-of-mesh-requires : tie.Need-refusal-of-mesh-requires
-refusal-of-mesh-requires c κs = search needs
-
-refused-requires : tie.Need-refused-requires
-refused-requires c κs = search needs
 
 returns : tie.Need-returns
-returns c = ?
-
-build-grid-requires : tie.Need-build-grid-requires
-build-grid-requires c κs = search needs
-
-same-length : tie.Need-same-length
-same-length c = search needs
-
-same-length-2 : tie.Need-same-length-2
-same-length-2 c = search needs
+returns c =
+    let q = c .before .before in
+    let e = built-refused _ _ _ _ _ _ (q .refusal-of-mesh .ensures) _ (c .refused .ensures) (c .before .if1 .taken) in
+    (e, built-indexed _ _ _ _ _ _ e)
 
 returns-2 : tie.Need-returns-2
-returns-2 c = ?
+returns-2 c =
+    let d = c .before .before .before .before in
+    let e = d .before .before .before in
+    let o = built-next _ _ _ _ _ _ (e .before .refusal-of-mesh .ensures) _ (e .if1 .left) (d .build-grid .ensures) in
+    (o, built-indexed _ _ _ _ _ _ o)
 
 pub build-spec : {M : Type 1} → statement M
 build-spec =
     tie.close
-    (tie.spec
-    refusal-of-mesh-requires
-    refused-requires
-    returns
-    build-grid-requires
-    same-length
-    same-length-2
-    returns-2)
+    (tie.spec (λ c κs. tt) (λ c κs. tt) returns (λ c κs. search needs) (λ c. search needs) (λ c. search needs) returns-2)

@@ -1,46 +1,43 @@
+-- `grid::build_grid` meets its contract.
+use Prim.Native.Nat.{_+_, _≤_}
+use mathlib.Core.Path.{subst⁻¹}
+use native.Mathlib.Omega.{arith}
 use borrow.Author.Needs.{needs}
+use lib.ListN.{length}
+use denote.Ref.{now}
+use Rattle.grid.specs.declared.Grid.{Grid}
+use Rattle.grid.specs.Grid.{trianglesIn, cellsIn}
+use Rattle.grid.specs.Indexed.{Gridded}
+use Rattle.grid.proofs.Accepting.{accepted, gridded-refused, gridded-next, found-passed}
+use Rattle.grid.proofs.Indexing.{grid-fits, grid-gridded}
 use Rattle.grid.proofs.build_grid.Statement.{statement}
 use Rattle.grid.proofs.build_grid.Tie as tie
-use Rattle.grid.proofs.build_grid.Reads as reads
-use Rattle.grid.proofs.build_grid.Lts as lts
-use Rattle.grid.proofs.fill_grid.Reads as fill-grid-reads
-use Rattle.grid.proofs.grid_of.Reads as grid-of-reads
-use Rattle.grid.proofs.refusal_of_grid.Reads as refusal-of-grid-reads
-use Rattle.grid.proofs.refused.Reads as refused-reads
 
 grid-of-requires : tie.Need-grid-of-requires
-grid-of-requires c κs = ?
-
-refusal-of-grid-requires : tie.Need-refusal-of-grid-requires
-refusal-of-grid-requires c κs = search needs
-
-refused-requires : tie.Need-refused-requires
-refused-requires c κs = search needs
+grid-of-requires c κs = let a = accepted _ _ _ (c .before .before .before .pre) in (omega (arith, a .nine), grid-fits _ _ _ a)
 
 returns : tie.Need-returns
-returns c = ?
+returns c =
+    let q = c .before .before in
+    gridded-refused _ _ _ _ _ _ _ _ (q .before .grid-of .ensures) _ (q .refusal-of-grid .ensures) _ (c .refused .ensures) (c .before .if1 .taken)
 
 fill-grid-requires : tie.Need-fill-grid-requires
-fill-grid-requires c κs = ?
-
-same-length : tie.Need-same-length
-same-length c = search needs
-
-same-length-2 : tie.Need-same-length-2
-same-length-2 c = search needs
+fill-grid-requires c κs =
+    let e = c .before .before in
+    let q = e .before in
+    let s = q .before .before .before .before .before in
+    let p = found-passed (now (s .args .mesh)) (trianglesIn (now (s .args .mesh))) _ (s .args .floor) (s .args .r) (now (s .args .starts)) (now (s .args .members)) _ (q .before .grid-of .ensures) _ (q .refusal-of-grid .ensures) (e .if1 .left) in
+    subst⁻¹ (λ (g : Grid). Gridded (now (s .args .mesh)) (trianglesIn (now (s .args .mesh))) g × (cellsIn g + 1 ≤ length (now (s .args .starts)))) (q .before .grid-of .ensures)
+    (grid-gridded _ _ _ (accepted _ _ _ (s .pre)) _ p, p .room)
 
 returns-2 : tie.Need-returns-2
-returns-2 c = ?
+returns-2 c =
+    let d = c .before .before .before .before in
+    let e = d .before .before .before in
+    let q = e .before in
+    gridded-next _ _ _ _ _ _ _ _ (q .before .grid-of .ensures) _ (q .refusal-of-grid .ensures) _ (e .if1 .left) (d .fill-grid .ensures)
 
 pub build-grid-spec : {M : Type 1} → statement M
 build-grid-spec =
     tie.close
-    (tie.spec
-    grid-of-requires
-    refusal-of-grid-requires
-    refused-requires
-    returns
-    fill-grid-requires
-    same-length
-    same-length-2
-    returns-2)
+    (tie.spec grid-of-requires (λ c κs. tt) (λ c κs. tt) returns fill-grid-requires (λ c. search needs) (λ c. search needs) returns-2)

@@ -1,51 +1,38 @@
+-- `grid::fill_grid` meets its contract.
+use mathlib.Core.Path.{sym, _∙_}
+use native.Mathlib.Omega.{arith}
 use borrow.Author.Needs.{needs}
+use Rattle.grid.proofs.Gridding.{fits}
+use Rattle.grid.proofs.Accepting.{members-fit, filled-refused, filled-accepted}
 use Rattle.grid.proofs.fill_grid.Statement.{statement}
 use Rattle.grid.proofs.fill_grid.Tie as tie
-use Rattle.grid.proofs.fill_grid.Reads as reads
-use Rattle.grid.proofs.fill_grid.Lts as lts
-use Rattle.grid.proofs.header_of.Reads as header-of-reads
-use Rattle.grid.proofs.refusal_of_members.Reads as refusal-of-members-reads
-use Rattle.grid.proofs.refused.Reads as refused-reads
-use Rattle.grid.proofs.tables.Reads as tables-reads
-use Rattle.grid.proofs.total.Reads as total-reads
-
-total-requires : tie.Need-total-requires
-total-requires c κs = search needs
-
-refusal-of-members-requires : tie.Need-refusal-of-members-requires
-refusal-of-members-requires c κs = search needs
-
-refused-requires : tie.Need-refused-requires
-refused-requires c κs = search needs
 
 returns : tie.Need-returns
-returns c = ?
+returns c =
+    let q = c .before .before in
+    let t = q .before in
+    let s = t .before .before .before .before in
+    filled-refused _ _ _ _ _ _ _ (s .pre .0) _ _ (t .total .ensures) (q .refusal-of-members .ensures) _ (c .refused .ensures) (c .before .if1 .taken)
 
 tables-requires : tie.Need-tables-requires
-tables-requires c κs = ?
-
-header-of-requires : tie.Need-header-of-requires
-header-of-requires c κs = search needs
-
-same-length : tie.Need-same-length
-same-length c = search needs
-
-same-length-2 : tie.Need-same-length-2
-same-length-2 c = search needs
+tables-requires c κs =
+    let e = c .before .before in
+    let q = e .before in
+    let t = q .before in
+    let s = t .before .before .before .before in
+    let m = members-fit _ _ (sym (q .refusal-of-members .ensures) ∙ e .if1 .left) in
+    (s .pre .0, fits _ _ _ (s .pre .0) _ _ (s .pre .1) (omega (arith, m, t .total .ensures)) (omega (arith, m, t .total .ensures)))
 
 returns-2 : tie.Need-returns-2
-returns-2 c = ?
+returns-2 c =
+    let d = c .before .before .before .before .before in
+    let e = d .before .before .before in
+    let q = e .before in
+    let t = q .before in
+    let s = t .before .before .before .before in
+    filled-accepted _ _ _ _ _ _ _ (s .pre .0) _ _ (t .total .ensures) (q .refusal-of-members .ensures) _ _ _ (e .if1 .left) (c .header-of .ensures) (d .tables .ensures .0) (d .tables .ensures .1)
 
 pub fill-grid-spec : {M : Type 1} → statement M
 fill-grid-spec =
     tie.close
-    (tie.spec
-    total-requires
-    refusal-of-members-requires
-    refused-requires
-    returns
-    tables-requires
-    header-of-requires
-    same-length
-    same-length-2
-    returns-2)
+    (tie.spec (λ c κs. search needs) (λ c κs. tt) (λ c κs. tt) returns tables-requires (λ c κs. search needs) (λ c. search needs) (λ c. search needs) returns-2)

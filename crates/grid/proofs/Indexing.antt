@@ -1,0 +1,137 @@
+-- What an accepted build leaves is an index: header in its ranges, tables that a question passes, and each triangle in the grid.
+use mathlib.Core.Bool.{Bool, true, false, _&&_}
+use mathlib.Core.List.{List}
+use mathlib.Core.Path.{_≡_, refl, ap, sym, _∙_, subst}
+use Prim.Native.Nat.{ℕ, _+_, _-_, _*_, _^_, _≤_, _<_}
+use native.Mathlib.Nat.{mul-pos}
+use native.Mathlib.Omega.{arith}
+use borrow.Author.Tests.{eqb-true, eqb-false, le-leb}
+use lib.Dec.{eqb, leb}
+use lib.Ieee.{Float, ofBits, le}
+use lib.ListN.{length, length-append, length-drop}
+use Rattle.numbers.specs.Reals.{num, millionth, twoMillion}
+use Rattle.spans.specs.Mesh.{isCoordinate, extentOf, boxOf}
+use Rattle.spans.specs.Axis.{spanOf, sizeOf, cellsAlong, stretchOf}
+use Rattle.spans.proofs.Ranges.{coordinate, two}
+use Rattle.spans.proofs.Sizes.{Size, by-test, radius, size-range}
+use Rattle.spans.proofs.Extremes.{Ordered, ordered-x, ordered-y, along-few, in-order}
+use Rattle.spans.proofs.Scales.{true-of, eps-above, eps-under}
+use Rattle.cells.specs.Cover.{isFrom, startOf, startsOf, membersTable, entries}
+use Rattle.cells.proofs.Building.{entries-length}
+use Rattle.cells.proofs.Reading.{cell-is, starts-room, starts-rise, starts-within}
+use Rattle.grid.specs.declared.Grid.{Grid}
+use Rattle.grid.specs.declared.Header.{Header}
+use Rattle.grid.specs.declared.Built.{Built}
+use Rattle.grid.specs.Grid.{trianglesIn, gridOf, cellsIn, cellsOf, coverOf}
+use Rattle.grid.specs.Header.{headed, gridIn, coversOf, inRanges}
+use Rattle.grid.specs.Build.{refusalOfMesh, refusalOfGrid, refusalOfMembers, Outcome, outcome, refusedBy, acceptedWith, unless, filledOf, gridded, buildOf}
+use Rattle.grid.specs.Indexed.{InGrid, Indexed, Gridded}
+use Rattle.grid.proofs.Gridding.{within}
+use Rattle.grid.proofs.Accepting.{Accepted, accepted, Passed, passed}
+
+two-million-is : twoMillion ≡ two
+unfolding ofBits
+two-million-is = refl
+
+from : (a e k : ℕ) → a ≤ k → k ≤ e → isFrom a e k ≡ true
+unfolding isFrom
+from a e k h l = rw (le-leb a k h, le-leb k e l)
+
+module _ (mesh : List Float) (floor r : Float) (a : Accepted mesh floor r) where
+  across : (i : ℕ) → i < trianglesIn mesh → Ordered (extentOf mesh (trianglesIn mesh) .left) (boxOf mesh i .«low_x») (boxOf mesh i .«high_x») (extentOf mesh (trianglesIn mesh) .right)
+  across = ordered-x mesh (a .numbers) (trianglesIn mesh) (omega (arith, a .nine))
+
+  upward : (i : ℕ) → i < trianglesIn mesh → Ordered (extentOf mesh (trianglesIn mesh) .bottom) (boxOf mesh i .«low_y») (boxOf mesh i .«high_y») (extentOf mesh (trianglesIn mesh) .top)
+  upward = ordered-y mesh (a .numbers) (trianglesIn mesh) (omega (arith, a .nine))
+
+  size-good : Size (gridOf mesh (trianglesIn mesh) r .size)
+  unfolding gridOf
+  size-good =
+      let x = across 0 (a .some) in
+      let y = upward 0 (a .some) in
+      size-range (extentOf mesh (trianglesIn mesh)) r (coordinate _ (x .lo-good)) (coordinate _ (x .hi-good)) (coordinate _ (y .lo-good)) (coordinate _ (y .hi-good)) (radius r (a .radius)) (trianglesIn mesh) (a .some) (a .few)
+
+  pub grid-fits : (gridOf mesh (trianglesIn mesh) r .columns < 2 ^ 64) × (gridOf mesh (trianglesIn mesh) r .rows < 2 ^ 64)
+  unfolding gridOf
+  grid-fits = (omega (arith, along-few _ _ _ _ _ (across 0 (a .some)) size-good), omega (arith, along-few _ _ _ _ _ (upward 0 (a .some)) size-good))
+
+  pub grid-some : (0 < gridOf mesh (trianglesIn mesh) r .columns) × (0 < gridOf mesh (trianglesIn mesh) r .rows)
+  unfolding gridOf cellsAlong
+  grid-some = (omega arith, omega arith)
+
+  pub grid-gridded : (lent : ℕ) → Passed (gridOf mesh (trianglesIn mesh) r .columns) (gridOf mesh (trianglesIn mesh) r .rows) lent → Gridded mesh (trianglesIn mesh) (gridOf mesh (trianglesIn mesh) r)
+  grid-gridded lent p = record { nine = omega (arith, a .nine); few = a .few; some = grid-some; wide = p .wide; tall = p .tall }
+
+  lies : (i : ℕ) → i < trianglesIn mesh → InGrid (gridOf mesh (trianglesIn mesh) r) (cellsOf mesh (gridOf mesh (trianglesIn mesh) r) i)
+  lies i h =
+      let w = within mesh (gridOf mesh (trianglesIn mesh) r) i (grid-some .0) (grid-some .1) in
+      record {
+        columns = unfold gridOf cellsOf in in-order _ _ _ _ _ (across i h) size-good;
+        right = w .0;
+        rows = unfold gridOf cellsOf in in-order _ _ _ _ _ (upward i h) size-good;
+        top = w .1;
+      }
+
+  -- ---- the header's ranges
+  pub header-ranges : (lent : ℕ) → Passed (gridOf mesh (trianglesIn mesh) r .columns) (gridOf mesh (trianglesIn mesh) r .rows) lent
+      → inRanges (headed mesh (trianglesIn mesh) (gridOf mesh (trianglesIn mesh) r) floor r) ≡ true
+  unfolding inRanges headed
+  header-ranges lent p =
+      let g = gridOf mesh (trianglesIn mesh) r in
+      let n = trianglesIn mesh in
+      let e₁ : isFrom 1 65536 n ≡ true = from 1 65536 n (omega (arith, a .some)) (a .few) in
+      let e₂ : isCoordinate (g .x) ≡ true = unfold gridOf in across 0 (a .some) .lo-good in
+      let e₃ : isCoordinate (g .y) ≡ true = unfold gridOf in upward 0 (a .some) .lo-good in
+      let e₄ : le millionth (g .size) ≡ true = true-of _ (size-good .least) in
+      let e₅ : le (g .size) twoMillion ≡ true = rw two-million-is (true-of _ (size-good .most)) in
+      let e₆ : isFrom 1 65536 (g .columns) ≡ true = from 1 65536 (g .columns) (omega (arith, grid-some)) (p .wide) in
+      let e₇ : isFrom 1 65536 (g .rows) ≡ true = from 1 65536 (g .rows) (omega (arith, grid-some)) (p .tall) in
+      let e₈ : isFrom 1 1048576 (g .rows * g .columns) ≡ true = from 1 1048576 (g .rows * g .columns) (mul-pos (grid-some .1) (grid-some .0)) (p .few) in
+      let e₉ = eps-above mesh (a .numbers) n (omega (arith, a .nine)) in
+      let e₀ = eps-under mesh (a .numbers) n (omega (arith, a .nine)) in
+      rw (e₁, e₂, e₃, a .bottom, e₄, e₅, e₆, e₇, e₈, e₉, e₀, a .radius)
+
+  -- ---- both tables
+  module _ (s m : List ℕ) (p : Passed (gridOf mesh (trianglesIn mesh) r .columns) (gridOf mesh (trianglesIn mesh) r .rows) (length s)) where
+    indexed : Indexed mesh (headed mesh (trianglesIn mesh) (gridOf mesh (trianglesIn mesh) r) floor r)
+        (startsOf (coverOf mesh (gridOf mesh (trianglesIn mesh) r)) (trianglesIn mesh) (cellsIn (gridOf mesh (trianglesIn mesh) r)) s)
+        (membersTable (coverOf mesh (gridOf mesh (trianglesIn mesh) r)) (trianglesIn mesh) (cellsIn (gridOf mesh (trianglesIn mesh) r)) m)
+    unfolding headed
+    indexed =
+        let g = gridOf mesh (trianglesIn mesh) r in
+        let n = trianglesIn mesh in
+        record {
+          nine = a .nine;
+          ranges = unfold headed in header-ranges (length s) p;
+          numbers = a .numbers;
+          room = starts-room (coverOf mesh g) n (cellsIn g) s m;
+          rise = starts-rise (coverOf mesh g) n (cellsIn g) s m;
+          within = λ c h. starts-within (coverOf mesh g) n (cellsIn g) s m (c + 1) (omega arith);
+          cell = cell-is (coverOf mesh g) n (cellsIn g) s m;
+          lies = lies;
+        }
+
+-- ---- back from an answer that is no refusal
+unless-then : (k : ℕ) (s m : List ℕ) (next : Outcome) (Q : Outcome → Type 0) → (k ≡ 0 → next .built .refusal ≡ 0 → Q next) → unless k s m next .built .refusal ≡ 0 → Q (unless k s m next)
+unfolding unless refusedBy
+unless-then k s m next Q f e =
+    by-test (eqb k 0)
+    (λ t. rw t (f (eqb-true k 0 t) (rw t at e)))
+    (λ t. let g : k ≡ 0 → ⊥ = eqb-false k 0 t in absurd (g (rw t at e)))
+
+module _ (mesh : List Float) (floor r : Float) (s m : List ℕ) where
+  abbrev Left : Outcome → Type 0
+  Left o = Indexed mesh (o .built .header) (o .starts) (o .members)
+
+  whole : buildOf mesh floor r s m .built .refusal ≡ 0 → Left (buildOf mesh floor r s m)
+  unfolding buildOf gridded filledOf acceptedWith
+  whole =
+      unless-then _ s m _ Left
+      (λ x.
+      unless-then _ s m _ Left
+      (λ y.
+      unless-then _ s m _ Left
+      (λ z e. indexed mesh floor r (accepted mesh floor r x) s m (passed _ _ _ y))))
+
+  pub built-indexed : (o : Outcome) → o ≡ buildOf mesh floor r s m → o .built .refusal ≡ 0 → Left o
+  built-indexed o p = subst (λ (o : Outcome). o .built .refusal ≡ 0 → Left o) (sym p) whole
