@@ -96,8 +96,13 @@ module _ {A : Type 0} (stamp : ℕ) (step : A → ℕ → A) (w : Walk A) (i : �
   unfolding look
   look-first e v p = left _ _ _ _ e (ap (λ (u : A). record { marks = set (w .marks) i stamp; count = w .count + 1; value = u }) p)
 
-  pub room-first : i < length (w .marks) → eqb (getD (w .marks) i 0) stamp ≡ false → Room stamp w → w .count + 1 < 2 ^ 32
-  room-first h e r = let u = unmarked-set stamp (w .marks) i h e in omega arith
+fresh-new : (stamp : ℕ) (marks : List ℕ) (i : ℕ) (f : Bool) → f ≡ not (eqb (getD marks i 0) stamp) → not f ≡ false → eqb (getD marks i 0) stamp ≡ false
+fresh-new stamp marks i f a n = not-true _ (sym a ∙ not-false f n)
+
+-- a triangle that is fresh has room in the count
+pub fresh-room : (stamp : ℕ) (marks : List ℕ) (count i : ℕ) (f : Bool) → f ≡ not (eqb (getD marks i 0) stamp) → not f ≡ false → i < length marks → count + unmarked stamp marks < 2 ^ 32 → count + 1 < 2 ^ 32
+fresh-room stamp marks count i f a n h r =
+    let u = unmarked-set stamp marks i h (fresh-new stamp marks i f a n) in omega arith
 
 -- the same from what a call of `fresh` ensures: f is its answer, m′ the marks that it left
 module _ {A : Type 0} (stamp : ℕ) (step : A → ℕ → A) (w : Walk A) (i : ℕ) (f : Bool) (m′ : List ℕ) (a : f ≡ not (eqb (getD (w .marks) i 0) stamp)) (b : m′ ≡ set (w .marks) i stamp) where
@@ -105,15 +110,9 @@ module _ {A : Type 0} (stamp : ℕ) (step : A → ℕ → A) (w : Walk A) (i : �
   fresh-again n =
       ap (λ (l : List ℕ). record { marks = l; count = w .count; value = w .value }) b ∙ look-again stamp step w i (not-false _ (sym a ∙ not-true f n))
 
-  fresh-new : not f ≡ false → eqb (getD (w .marks) i 0) stamp ≡ false
-  fresh-new n = not-true _ (sym a ∙ not-false f n)
-
   pub fresh-first : not f ≡ false → (v : A) → v ≡ step (w .value) i → record { marks = m′; count = w .count + 1; value = v } ≡ look stamp step w i
   fresh-first n v p =
-      ap (λ (l : List ℕ). record { marks = l; count = w .count + 1; value = v }) b ∙ look-first stamp step w i (fresh-new n) v p
-
-  pub fresh-room : not f ≡ false → i < length (w .marks) → Room stamp w → w .count + 1 < 2 ^ 32
-  fresh-room n h r = room-first stamp step w i h (fresh-new n) r
+      ap (λ (l : List ℕ). record { marks = l; count = w .count + 1; value = v }) b ∙ look-first stamp step w i (fresh-new stamp (w .marks) i f a n) v p
 
 module _ (stamp : ℕ) (blocks : ℕ → Bool) where
   pub strike-is : (w : Walk Bool) (i : ℕ) (w′ : Walk Bool) → w .value ≡ true → w′ ≡ look stamp (λ _ k. not (blocks k)) w i → w′ ≡ strike stamp blocks w i
