@@ -3,6 +3,7 @@ ghost use mathlib.Core.Path.{_≡_};
 ghost use Prim.Native.Nat.{_+_, _*_, _≤_, _<_, min};
 ghost use lib.Dec.{ltb};
 ghost use lib.ListN.{length};
+ghost use Rattle.query.specs.Asked.{isMarked, isPoint};
 ghost use Rattle.query.specs.Patch.{heldTo, spanOf, patchOf};
 ghost use Rattle.query.specs.Usable.{each, triangleUsable, memberUsable, cellUsable, rowUsable, cellsUsable, usable, usableWhole};
 use grid::Header;
@@ -19,6 +20,21 @@ pub struct Patch {
     pub x1: usize,
     pub y0: usize,
     pub y1: usize,
+}
+
+// Whether the mesh is nine numbers for each mark, and not too many.
+pub fn is_marked(mesh: &[f64], marks: &[u32]) -> bool
+    ensures { λ r. ⌜ r ≡ isMarked (now (mesh .entry)) (now (marks .entry)) ⌝ }
+{
+    let n = marks.len();
+    if n <= 65536 { mesh.len() == n * 9 } else { false }
+}
+
+// Whether x can be a coordinate of a question's point.
+pub fn is_point(x: f64) -> bool
+    ensures { λ r. ⌜ r ≡ isPoint x ⌝ }
+{
+    numbers::abs(x) <= 3e6
 }
 
 // The cells from lo to hi on an axis of so many.
