@@ -201,6 +201,24 @@ pub fn point_near(rng: &mut Rng, f: Family, t: &[f64], r: f64) -> [f64; 2] {
 
 /// A mesh of one of the shapes that shops meet, and some that they do not.
 pub fn mesh(rng: &mut Rng, most: usize) -> Vec<f64> {
+    let mut m = shape(rng, most);
+    if rng.one_in(2) {
+        shuffle(rng, &mut m);
+    }
+    m
+}
+
+/// The triangles in another order.
+fn shuffle(rng: &mut Rng, m: &mut [f64]) {
+    for i in (1..m.len() / 9).rev() {
+        let j = rng.below(i as u64 + 1) as usize;
+        for k in 0..9 {
+            m.swap(9 * i + k, 9 * j + k);
+        }
+    }
+}
+
+fn shape(rng: &mut Rng, most: usize) -> Vec<f64> {
     let f = family(rng);
     let some = |rng: &mut Rng| 1 + rng.below(most as u64) as usize;
     match rng.below(12) {
@@ -259,7 +277,7 @@ pub fn plate(rng: &mut Rng, most: usize) -> Vec<f64> {
     let side = 1 + rng.below(((most / 4).max(1) as f64).sqrt() as u64 + 1);
     let pitch = rng.pick(&[1., 2., 0.5, 2.5, 10. / 3.]);
     let (x, y) = (rng.pick(&[0., -0., -3., 7.5]), rng.pick(&[0., -0., 4., -2.25]));
-    let z = rng.pick(&[0.5, 1., 2., 0., -0., 1.2345]);
+    let z = rng.pick(&[0.5, 1., 2., 0., -0., 1.2345, 0.1, 0.3]);
     let mut out = vec![];
     for i in 0..side {
         for j in 0..side {
@@ -273,7 +291,7 @@ pub fn plate(rng: &mut Rng, most: usize) -> Vec<f64> {
     for _ in 0..rng.below(3) {
         let size = side as f64 * pitch;
         let (x0, y0) = (x + rng.between(0., size), y + rng.between(0., size));
-        let to = z + rng.pick(&[1., 0.25, 1e-3, 2e-3, 0.1, -0.5, 0.05, 0.02, 5e-3]);
+        let to = z + rng.pick(&[1., 0.25, 1e-3, 2e-3, 0.1, -0.5, 0.05, 0.02, 5e-3, 0.0625, -0.0625, 0.2]);
         boss(&mut out, x0, y0, x0 + size / 5., y0 + size / 4., z, to);
     }
     // Ribs, also such as a level's tolerance takes for flat and a run's does not.

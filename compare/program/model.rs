@@ -136,7 +136,7 @@ pub fn section_stands(s: &[f64]) -> bool {
 }
 
 /// Refusal 8 for a tool of sections.
-fn sections_stand(table: &[f64]) -> bool {
+pub fn sections_stand(table: &[f64]) -> bool {
     !table.is_empty() && table.len() % 4 == 0 && table.len() / 4 <= 32 && table.chunks_exact(4).all(section_stands)
 }
 

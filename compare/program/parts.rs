@@ -562,7 +562,7 @@ fn damaged(damage: &[u32], mesh: &mut Vec<f64>, h: &mut Handed, marks: &mut Vec<
 /// A mesh with an index, marks and a stamp; then what `question` draws for each question, `width` numbers each.
 fn make_questions(
     part: &'static str, rng: &mut Rng, case: u64, damage: bool, tool: Vec<f64>, width: usize,
-    question: &dyn Fn(&mut Rng, &[f64], &[f64; 6]) -> Vec<f64>,
+    question: &dyn Fn(&mut Rng, &[f64], &[f64; 6], &Grid) -> Vec<f64>,
 ) -> Case {
     let mesh = if case % 500 == 499 && !damage {
         inputs::largest(rng, 0)
@@ -571,7 +571,7 @@ fn make_questions(
         inputs::mesh(rng, most)
     };
     let (floor, r) = inputs::place(rng, &mesh);
-    let Some((_, h)) = handed(&mesh, floor, r) else {
+    let Some((grid, h)) = handed(&mesh, floor, r) else {
         return make_questions(part, rng, case, damage, tool, width, question);
     };
     let stamp = match rng.below(4) {
@@ -592,7 +592,7 @@ fn make_questions(
     let mut questions = vec![];
     let count = if mesh.len() > 9 * 10_000 { 20 } else if damage { 10 } else { ASKED };
     for _ in 0..count {
-        let mut q = question(rng, &mesh, &h.measures);
+        let mut q = question(rng, &mesh, &h.measures, &grid);
         if damage && rng.one_in(12) {
             let i = rng.below(q.len() as u64) as usize;
             q[i] = inputs::bad(rng, q[i]);
@@ -647,7 +647,7 @@ fn chord_ends(rng: &mut Rng, mesh: &[f64], measures: &[f64; 6], r: f64) -> ([f64
 }
 
 fn make_height(rng: &mut Rng, case: u64, damage: bool) -> Case {
-    make_questions("height", rng, case, damage, vec![], 5, &|rng, mesh, measures| {
+    make_questions("height", rng, case, damage, vec![], 5, &|rng, mesh, measures, _| {
         let r = asked_radius(rng, measures);
         let mut q = lines(rng, mesh, measures, r).to_vec();
         q.push(r);
@@ -656,7 +656,7 @@ fn make_height(rng: &mut Rng, case: u64, damage: bool) -> Case {
 }
 
 fn make_max_bull(rng: &mut Rng, case: u64, damage: bool) -> Case {
-    make_questions("max_bull", rng, case, damage, vec![], 4, &|rng, mesh, measures| {
+    make_questions("max_bull", rng, case, damage, vec![], 4, &|rng, mesh, measures, _| {
         let r = asked_radius(rng, measures);
         let p = inputs::point(rng, mesh, measures, r);
         vec![p[0], p[1], r, inputs::corner(rng, r)]
@@ -681,26 +681,63 @@ fn make_tool(rng: &mut Rng, damage: bool) -> Vec<f64> {
 
 fn make_max_sections(rng: &mut Rng, case: u64, damage: bool) -> Case {
     let tool = make_tool(rng, damage);
-    make_questions("max_sections", rng, case, damage, tool.clone(), 2, &|rng, mesh, measures| {
+    make_questions("max_sections", rng, case, damage, tool.clone(), 2, &|rng, mesh, measures, _| {
         let reach = tool.get(2).copied().filter(|r| (0. ..=10.).contains(r)).unwrap_or(1.);
         inputs::point(rng, mesh, measures, reach).to_vec()
     })
 }
 
+/// A chord at the height where the verdict turns, or a step of its bits from it: the smallest error in a bound shows there.
+fn at_the_turn(rng: &mut Rng, a: &mut [f64; 3], b: &mut [f64; 3], clear: &dyn Fn([f64; 3], [f64; 3]) -> bool) {
+    let (mut low, mut high) = (a[2].min(b[2]) - 20., a[2].max(b[2]) + 20.);
+    let level = |z: f64| ([a[0], a[1], z], [b[0], b[1], z]);
+    let told = |z: f64| clear(level(z).0, level(z).1);
+    if told(low) || !told(high) {
+        return;
+    }
+    for _ in 0..70 {
+        let z = low + (high - low) / 2.;
+        if z <= low || z >= high {
+            break;
+        }
+        if told(z) { high = z } else { low = z }
+    }
+    let z = rng.pick(&[low, high]);
+    (a[2], b[2]) = (z, z);
+}
+
 fn make_bull_chord(rng: &mut Rng, case: u64, damage: bool) -> Case {
-    make_questions("bull_chord", rng, case, damage, vec![], 9, &|rng, mesh, measures| {
+    make_questions("bull_chord", rng, case, damage, vec![], 9, &|rng, mesh, measures, grid| {
         let r = asked_radius(rng, measures);
-        let (a, b, lift) = chord_ends(rng, mesh, measures, r);
+        let (mut a, mut b, lift) = chord_ends(rng, mesh, measures, r);
         let rc = inputs::corner(rng, r);
+        if mesh.len() < 9 * 100 && rng.one_in(10) {
+            let mut seen = vec![0; mesh.len() / 9];
+            let seen = std::cell::RefCell::new(&mut seen);
+            at_the_turn(rng, &mut a, &mut b, &|a, b| {
+                seen.borrow_mut().fill(0);
+                grid.bull_chord_clear(a, b, r, rc, lift, &mut seen.borrow_mut(), &mut 0)
+            });
+        }
         [&a[..], &b[..], &[r, rc, lift]].concat()
     })
 }
 
 fn make_sections_chord(rng: &mut Rng, case: u64, damage: bool) -> Case {
-    let tool = make_tool(rng, damage);
-    make_questions("sections_chord", rng, case, damage, tool.clone(), 7, &|rng, mesh, measures| {
-        let reach = tool.get(2).copied().filter(|r| (0. ..=10.).contains(r)).unwrap_or(1.);
-        let (a, b, lift) = chord_ends(rng, mesh, measures, reach);
+    let table = make_tool(rng, damage);
+    let stands = model::sections_stand(&table);
+    make_questions("sections_chord", rng, case, damage, table.clone(), 7, &|rng, mesh, measures, grid| {
+        let reach = table.get(2).copied().filter(|r| (0. ..=10.).contains(r)).unwrap_or(1.);
+        let (mut a, mut b, lift) = chord_ends(rng, mesh, measures, reach);
+        if stands && mesh.len() < 9 * 100 && rng.one_in(10) {
+            let tool = Tool::new(&table);
+            let mut seen = vec![0; mesh.len() / 9];
+            let seen = std::cell::RefCell::new(&mut seen);
+            at_the_turn(rng, &mut a, &mut b, &|a, b| {
+                seen.borrow_mut().fill(0);
+                grid.sections_chord_clear(a, b, &tool, lift, &mut seen.borrow_mut(), &mut 0)
+            });
+        }
         [&a[..], &b[..], &[lift]].concat()
     })
 }
@@ -850,9 +887,35 @@ fn make_strip(rng: &mut Rng) -> Case {
         .words("room", vec![10, 400_000])
 }
 
+/// Two levels whose rows meet: the last run of the upper ends where the first of the lower begins, at another height. What lies
+/// between is no level, and near enough to both.
+fn make_meeting(rng: &mut Rng) -> Case {
+    let w = rng.pick(&[2., 4., 1.]);
+    let r = w / 2.;
+    let mut mesh = vec![];
+    for (y, z) in [(0., 1.), (w + 2. * r, 0.85)] {
+        mesh.extend([0., y, z, w, y, z, w, y + w, z, 0., y, z, w, y + w, z, 0., y + w, z]);
+    }
+    let far = 10. * w;
+    mesh.extend([-far, -far, 0.92, far, -far, 0.92, far, far, 0.93, -far, -far, 0.92, far, far, 0.93, -far, far, 0.93]);
+    if rng.one_in(2) {
+        mesh.chunks_exact_mut(3).for_each(|v| v.swap(0, 1));
+    }
+    Case::new("plan")
+        .floats("mesh", mesh)
+        .floats("place", vec![0., r])
+        .words("damage", vec![])
+        .floats("parameters", vec![1e-3, 0.1, w, 0.1, 0., 2., 10.])
+        .words("axis", vec![rng.below(2) as u32])
+        .words("room", vec![20, 2_000])
+}
+
 fn make_plan(rng: &mut Rng, case: u64, damage: bool) -> Case {
     if case % 1000 == 999 {
         return make_strip(rng);
+    }
+    if case % 100 == 98 {
+        return make_meeting(rng);
     }
     let most = rng.pick(&[8, 8, 30, 60]);
     let mesh = if rng.one_in(8) { inputs::mesh(rng, 10) } else { inputs::plate(rng, most) };
@@ -870,8 +933,8 @@ fn make_plan(rng: &mut Rng, case: u64, damage: bool) -> Case {
     };
     // Rows and samples for a moment's work.
     let r = (size * rng.pick(&[0.125, 0.2, 0.25, 0.5])).clamp(0.03, 1e6);
-    let tolerance: f64 = rng.pick(&[1e-3, 1e-3, 1e-7, 0.01, 1e-5]);
-    let level = rng.pick(&[tolerance, 0.1, 0.1, 0.05, 2e-3, tolerance * 2.]).clamp(tolerance, 0.1);
+    let tolerance: f64 = rng.pick(&[1e-3, 1e-3, 1e-7, 0.01, 1e-5, 0.0009765625]);
+    let level = rng.pick(&[tolerance, 0.1, 0.1, 0.05, 2e-3, tolerance * 2., 0.0625]).clamp(tolerance, 0.1);
     let stepover = (r * rng.pick(&[2., 1., 0.75, 1.25, 0.5])).max(16. * tolerance + 1e-9).min(2. * r);
     let leave = rng.pick(&[0., 0., -0., 0.1, 1e-3, 0.02]);
     let bottom = rng.pick(&[floor, (floor - 1.).max(-1e6)]);
