@@ -25,6 +25,16 @@ module _ (less : ℕ → ℕ → Bool) where
   Rising [] = Unit
   Rising (y ∷ ys) = After y ys × Rising ys
 
+  insert-length : (i : ℕ) (js : List ℕ) → length (insert less i js) ≡ suc (length js)
+  unfolding insert
+  insert-length i [] = refl
+  insert-length i (j ∷ js) = let r = insert-length i js in either (λ (l : List ℕ). length l ≡ suc (suc (length js))) (less i j) (i ∷ j ∷ js) (j ∷ insert less i js) (λ _. refl) (λ _. ap suc r)
+
+  pub sorted-length : (xs : List ℕ) → length (sortedBy less xs) ≡ length xs
+  unfolding sortedBy
+  sorted-length [] = refl
+  sorted-length (x ∷ xs) = insert-length x (sortedBy less xs) ∙ ap suc (sorted-length xs)
+
 module _ (less : ℕ → ℕ → Bool) (s : Strict less) where
   insert-after : (x i : ℕ) (js : List ℕ) → less i x ≡ false → After less x js → After less x (insert less i js)
   unfolding insert

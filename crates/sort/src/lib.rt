@@ -11,6 +11,7 @@ pub fn sort(mesh: &[f64], n: usize, list: &mut [u32], k: usize)
     requires { ⌜ n * 9 ≤ length (now mesh) ⌝ }
     requires { ⌜ Within n k (now list) ⌝ }
     ensures { λ _. ⌜ now (list .exit) ≡ sortedBy (before (now (mesh .entry))) (take k (now (list .entry))) ++ drop k (now (list .entry)) ⌝ }
+    ensures { λ _. ⌜ Within n k (now (list .exit)) ⌝ }
 {
     heap(mesh, n, list, k);
     let mut e = k;

@@ -52,7 +52,10 @@ same-length c = c .before .loop .inv .moved .size ∙ c .before .before .before 
 returns : tie.Need-returns Inv-loop μ-loop
 returns c =
     let l = c .before .loop .inv in
-    sorted-is _ (before-strict _ (c .before .before .before .before .before .before .before .shared-slice-known .given)) _ _ _ (c .before .before .before .before .before .before .before .before .pre .1 .table) (rearranged-twice _ _ _ _ (c .before .before .before .before .heap .ensures .0) (l .moved)) (λ a b x y z. l .tail a b x (omega arith) z)
+    let m = rearranged-twice _ _ _ _ (c .before .before .before .before .heap .ensures .0) (l .moved) in (
+      sorted-is _ (before-strict _ (c .before .before .before .before .before .before .before .shared-slice-known .given)) _ _ _ (c .before .before .before .before .before .before .before .before .pre .1 .table) m (λ a b x y z. l .tail a b x (omega arith) z),
+      within-kept _ _ _ _ (c .before .before .before .before .before .before .before .before .pre .1) m,
+    )
 
 pub sort-spec : {M : Type 1} → statement M
 sort-spec =
