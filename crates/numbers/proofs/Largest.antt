@@ -1,45 +1,23 @@
 -- Rounding down as the definition has it: the largest whole number not above, in order, and what truncating gives.
-use mathlib.Core.Bool.{Bool, true, false, cond, _&&_}
+use mathlib.Core.Bool.{Bool, true, false, cond}
 use mathlib.Core.Path.{_≡_, refl, ap, sym, _∙_, subst}
-use Prim.Native.Nat.{ℕ, zero, suc, _+_, _-_, _*_, _/_, _%_, _^_, _≤_, _<_, min}
-use native.Mathlib.Nat.{le-trans, le-of-eq, le-of-lt, lt-of-lt-of-le, lt-of-le-of-lt, lt-of-mul-lt-mul-right, mul-comm, mul-one, mul-assoc, add-mul, suc-mul, zero-mul, div-one, add-zero, div-le-self, div-mul-le-self, lt-div-mul-add, mul-div-cancel, mul-lt-mul-of-pos-right, mul-le-mul-right, le-mul-of-pos-right}
+use Prim.Native.Nat.{ℕ, suc, _+_, _-_, _*_, _/_, _^_, _≤_, _<_, min}
+use native.Mathlib.Nat.{le-trans, le-of-eq, le-of-lt, lt-of-lt-of-le, lt-of-le-of-lt, lt-of-mul-lt-mul-right, mul-comm, mul-one, mul-assoc, add-mul, suc-mul, div-one, add-zero, div-le-self, div-mul-le-self, lt-div-mul-add, mul-div-cancel, mul-lt-mul-of-pos-right, mul-le-mul-right, le-mul-of-pos-right}
 use native.Mathlib.Omega.{arith}
 use lib.IntN.{ℤ, pos, negsuc}
-use lib.Dec.{T, leb, ltb, eqb, ltb→lt, lit<}
+use lib.Dec.{T, lit<}
 use lib.Arith.{le-zero}
-use lib.Pow.{pow-add, pow-pos, shl-lt}
-use lib.Ieee.{Float, nan, inf, fin, binary64, emax, low, up, down, round, fits, le, toUnsigned}
-use lib.Ieee.Fits.{and-l, and-r, down-pos}
-use lib.Ieee.Exact.{HasValue, round-exact}
+use lib.Pow.{pow-pos}
+use lib.Ieee.{Float, nan, inf, fin, binary64, up, down, round, fits, le, toUnsigned}
+use lib.Ieee.Fits.{down-pos}
+use lib.Ieee.Exact.{HasValue}
 use lib.Ieee.Back.{round-whole}
 use lib.Ieee.Nearest.{div-mono}
 use lib.Ieee.Scale.{finite}
 use Rattle.numbers.specs.Rounding.{sizeDown, roundDownOf, Encloses, LargestWhole, RoundsDown}
 use Rattle.numbers.proofs.Rounding.{up-says}
+use Rattle.numbers.proofs.Counts.{small, exact-value}
 use Rattle.numbers.proofs.Signs.{Under, le→under, le-of-signed}
-
--- ---- what fits
-module _ (s : Bool) (m : ℕ) (e : ℤ) (t : T (fits binary64 (fin s (suc m) e))) where
-  pub significand-lt : suc m < 2 ^ 53
-  unfolding fits
-  significand-lt =
-      let a = eqb (suc m % 2) 1 in
-      let b = ltb (suc m) (2 ^ 53) in
-      let c = leb (down e) (2 ^ low binary64) in
-      ltb→lt (suc m) (2 ^ 53) (and-r a b (and-l (a && b) c (and-l (a && b && c) (ltb (suc m * up e) (2 ^ suc (emax binary64) * down e)) t)))
-
-  pub size-lt : suc m * up e < 2 ^ 1024 * down e
-  unfolding fits
-  size-lt =
-      let a = eqb (suc m % 2) 1 in
-      let b = ltb (suc m) (2 ^ 53) in
-      let c = leb (down e) (2 ^ low binary64) in
-      let d = ltb (suc m * up e) (2 ^ suc (emax binary64) * down e) in
-      ltb→lt (suc m * up e) (2 ^ 1024 * down e) (and-r (a && b && c) d t)
-
-small : (s : Bool) (m : ℕ) (e : ℤ) → T (fits binary64 (fin s m e)) → m < 2 ^ 53
-small s zero e t = lit< tt
-small s (suc m) e t = significand-lt s m e t
 
 -- ---- the result is a whole number: nothing is rounded
 size-whole : (s : Bool) (n : ℕ) → sizeDown s n 1 ≡ n
@@ -65,19 +43,9 @@ size-under : (s : Bool) (m c : ℕ) → 0 < c → sizeDown s m c ≤ m
 size-under false m c C = div-le-self m c
 size-under true m c C = le-trans (up-mono m m 1 c (lit< tt) C (le-trans (le-of-eq (mul-one m)) (le-mul-of-pos-right m C))) (le-of-eq (size-whole true m))
 
-exact : (s : Bool) (m k : ℕ) → T (fits binary64 (fin s m (pos k))) → HasValue (round binary64 s (m * 2 ^ k) 1) s (m * 2 ^ k) 1
-exact s m k t =
-    round-exact binary64 s (m * 2 ^ k) 1 m (k + 1074) (lit< tt) (small s m (pos k) t)
-    (subst (λ (n : ℕ). n < 2 ^ 2098) (mul-assoc m (2 ^ k) (2 ^ 1074) ∙ ap (λ (n : ℕ). m * n) (sym (pow-add 2 k 1074))) (shl-lt 1024 1074 (size m t)))
-    (mul-assoc m (2 ^ k) (2 ^ 1074) ∙ ap (λ (n : ℕ). m * n) (sym (pow-add 2 k 1074)) ∙ sym (mul-one (m * 2 ^ (k + 1074))))
-  where
-    size : (m : ℕ) → T (fits binary64 (fin s m (pos k))) → m * 2 ^ k < 2 ^ 1024
-    size zero t = lt-of-le-of-lt (le-of-eq (zero-mul (2 ^ k))) (pow-pos 1024)
-    size (suc m) t = lt-of-lt-of-le (size-lt s m (pos k) t) (le-of-eq (mul-one (2 ^ 1024)))
-
 pub whole-value : (s : Bool) (m : ℕ) (e : ℤ) → T (fits binary64 (fin s m e)) → HasValue (roundDownOf (fin s m e)) s (sizeDown s (m * up e) (down e)) 1
 unfolding roundDownOf
-whole-value s m (pos k) t = subst (λ (n : ℕ). HasValue (round binary64 s n 1) s n 1) (sym (size-whole s (m * 2 ^ k))) (exact s m k t)
+whole-value s m (pos k) t = subst (λ (n : ℕ). HasValue (round binary64 s n 1) s n 1) (sym (size-whole s (m * 2 ^ k))) (exact-value s m (pos k) t)
 whole-value s m (negsuc k) t = round-whole binary64 s (sizeDown s (m * 1) (2 ^ suc k)) (le-trans (size-under s (m * 1) (2 ^ suc k) (pow-pos (suc k))) (le-trans (le-of-eq (mul-one m)) (le-of-lt (small s m (negsuc k) t))))
 
 -- ---- it encloses the number

@@ -11,6 +11,7 @@ pub mod Between
 pub mod Monotone
 pub mod Rounding
 pub mod Magnitude
+pub mod SignBit
 pub mod Hypots
 pub mod Counts
 pub mod Places

@@ -1,105 +1,69 @@
--- The sign bit: a pattern without it is the magnitude, and it is set where the value carries a minus.
-use mathlib.Core.Path.{_≡_, refl, sym, ap, _∙_, subst}
+-- The magnitude of x is the larger of x and 0 - x: 0 - x is x with the other sign, and nothing is rounded, but of a zero it is +0.0.
+use mathlib.Core.Path.{_≡_, refl, sym, ap, _∙_}
 use mathlib.Core.Bool.{Bool, true, false, not, cond, _&&_}
-use Prim.Native.Nat.{ℕ, zero, suc, _+_, _-_, _/_, _%_, _^_, _<_}
+use Prim.Native.Nat.{ℕ, zero, suc, _+_, _-_, _*_, _<_}
+use native.Mathlib.Nat.{zero-mul, mul-one, one-mul, zero-add, sub-zero, mul-pos, zero-lt-suc}
 use native.Mathlib.Omega.{arith}
-use lib.Dec.{T, leb, ltb, eqb}
-use borrow.Author.Tests.{leb-true, leb-false}
-use lib.Bits.{bitAnd, and-mask}
-use lib.Ieee.{Float, nan, inf, fin, binary64, odd, fits, isNan, ofFields, ofBits, nanBits, toBits}
-use lib.Ieee.Bits.{ofBits-toBits, toBits-lt, nanBits-is}
-use Rattle.numbers.specs.Reals.{absOf}
-use Rattle.numbers.specs.Order.{signOf}
-use Rattle.numbers.proofs.Patterns.{apart, exponentOf, fractionOf, sign-clear}
+use borrow.Author.Tests.{lt-ltb}
+use lib.IntN.{ℤ}
+use lib.Dec.{T, ltb}
+use lib.Ieee.{Float, nan, inf, fin, binary64, up, down, round, fits, ofBits, neg, sum, add, sub, lt}
+use lib.Ieee.Fits.{up-pos, down-pos}
+use Rattle.numbers.specs.Reals.{_⊖_, f0, absOf}
+use Rattle.numbers.proofs.Counts.{fits-signed, round-self}
 
-pub abs-nan : (x : Float) → x ≡ nan → x ≡ absOf x
-unfolding absOf
-abs-nan x e = e ∙ ap absOf (sym e)
+-- ---- 0 + ±n / d
+zero-plus : (t : Bool) (n d : ℕ) → 0 < n → sum binary64 false 0 t n d ≡ round binary64 t n d
+unfolding sum
+zero-plus false n d h = ap (λ (k : ℕ). round binary64 false k d) (zero-add n)
+zero-plus true n d h = ap (λ (b : Bool). cond b (round binary64 true (n - 0) d) (round binary64 (false && ltb n 0) (0 - n) d)) (lt-ltb 0 n h) ∙ ap (λ (k : ℕ). round binary64 true k d) (sub-zero n)
 
-abs-odd : (s : Bool) (q k l : ℕ) → odd 53 false q k l ≡ absOf (odd 53 s q k l)
-unfolding absOf odd
-abs-odd s zero k l = refl
-abs-odd s (suc q) k l = refl
+zero-plus-zero : (t : Bool) (d : ℕ) → sum binary64 false 0 t 0 d ≡ round binary64 false 0 d
+unfolding sum
+zero-plus-zero false d = refl
+zero-plus-zero true d = refl
 
-abs-pick : (b t s : Bool) (q k l : ℕ) → cond b (cond t (inf false) nan) (odd 53 false q k l) ≡ absOf (cond b (cond t (inf s) nan) (odd 53 s q k l))
-unfolding absOf
-abs-pick true true s q k l = refl
-abs-pick true false s q k l = refl
-abs-pick false t s q k l = abs-odd s q k l
+minus-is : (s : Bool) (m : ℕ) (e : ℤ) → f0 ⊖ fin s m e ≡ sum binary64 false 0 (not s) (m * up e) (down e)
+unfolding sub add neg ofBits
+minus-is s m e =
+    ap (λ (n : ℕ). sum binary64 false n (not s) (m * up e * 1) (1 * down e)) (ap (λ (n : ℕ). n * down e) (zero-mul 1) ∙ zero-mul (down e))
+    ∙ ap (λ (n : ℕ). sum binary64 false 0 (not s) n (1 * down e)) (mul-one (m * up e))
+    ∙ ap (λ (n : ℕ). sum binary64 false 0 (not s) (m * up e) n) (one-mul (down e))
 
-abs-fields : (s : Bool) (e f : ℕ) → ofFields binary64 false e f ≡ absOf (ofFields binary64 s e f)
-unfolding ofFields
-abs-fields s zero f = abs-odd s f 0 1074
-abs-fields s (suc e) f = abs-pick (eqb (suc e) 2047) (eqb f 0) s (2 ^ 52 + f) e 1074
+minus-zero : (s : Bool) (e : ℤ) → T (fits binary64 (fin s 0 e)) → f0 ⊖ fin s 0 e ≡ fin false 0 e
+minus-zero s e t =
+    minus-is s 0 e
+    ∙ ap (λ (n : ℕ). sum binary64 false 0 (not s) n (down e)) (zero-mul (up e))
+    ∙ zero-plus-zero (not s) (down e)
+    ∙ ap (λ (n : ℕ). round binary64 false n (down e)) (sym (zero-mul (up e)))
+    ∙ round-self false 0 e (fits-signed s false 0 e t)
 
-no-sign : (b : ℕ) → bitAnd b (2 ^ 63 - 1) ≡ b % 2 ^ 63
-no-sign b = and-mask b 63
+minus-some : (s : Bool) (m : ℕ) (e : ℤ) → T (fits binary64 (fin s (suc m) e)) → f0 ⊖ fin s (suc m) e ≡ fin (not s) (suc m) e
+minus-some s m e t =
+    minus-is s (suc m) e
+    ∙ zero-plus (not s) (suc m * up e) (down e) (mul-pos (zero-lt-suc m) (up-pos e))
+    ∙ round-self (not s) (suc m) e (fits-signed s (not s) (suc m) e t)
 
-same-fields : (b : ℕ) → (leb (2 ^ 63) (b % 2 ^ 63) ≡ false) × (b % 2 ^ 63 % 2 ^ 63 / 2 ^ 52 ≡ b % 2 ^ 63 / 2 ^ 52) × (b % 2 ^ 63 % 2 ^ 52 ≡ b % 2 ^ 52)
-same-fields b = (sign-clear (b % 2 ^ 63) (omega arith), omega arith, omega arith)
+-- ---- the larger of the two
+larger : (x y z : Float) → y ≡ z → cond (lt z x) x z ≡ absOf x → cond (lt y x) x y ≡ absOf x
+larger x y z p q = ap (λ (w : Float). cond (lt w x) x w) p ∙ q
 
-unsigned-bits : (b : ℕ) → ofBits binary64 (b % 2 ^ 63) ≡ absOf (ofBits binary64 b)
-unfolding ofBits
-unsigned-bits b =
-    let s = same-fields b in
-    ap (λ (t : Bool). ofFields binary64 t (b % 2 ^ 63 % 2 ^ 63 / 2 ^ 52) (b % 2 ^ 63 % 2 ^ 52)) (s .0)
-    ∙ ap (λ (n : ℕ). ofFields binary64 false n (b % 2 ^ 63 % 2 ^ 52)) (s .1)
-    ∙ ap (λ (n : ℕ). ofFields binary64 false (b % 2 ^ 63 / 2 ^ 52) n) (s .2)
-    ∙ abs-fields (leb (2 ^ 63) b) (b % 2 ^ 63 / 2 ^ 52) (b % 2 ^ 52)
-
-pub unsigned-is : (x : Float) → T (fits binary64 x) → ofBits binary64 (bitAnd (toBits binary64 x) (2 ^ 63 - 1)) ≡ absOf x
-unsigned-is x h = let b = toBits binary64 x in ap (ofBits binary64) (no-sign b) ∙ unsigned-bits b ∙ ap absOf (ofBits-toBits binary64 x h)
-
-is-nan-abs : (x : Float) → isNan (absOf x) ≡ isNan x
-unfolding isNan absOf
-is-nan-abs nan = refl
-is-nan-abs (inf s) = refl
-is-nan-abs (fin s m e) = refl
-
-pub unsigned-no-nan : (x : Float) → T (fits binary64 x) → T (not (isNan x)) → T (not (nanBits binary64 (bitAnd (toBits binary64 x) (2 ^ 63 - 1))))
-unsigned-no-nan x h n = subst (λ (b : Bool). T (not b)) (sym (nanBits-is binary64 (bitAnd (toBits binary64 x) (2 ^ 63 - 1)) ∙ ap isNan (unsigned-is x h) ∙ is-nan-abs x)) n
-
--- ---- whether it is set
-sign-odd : (s : Bool) (q k l : ℕ) → signOf (odd 53 s q k l) ≡ s
-unfolding signOf odd
-sign-odd s zero k l = refl
-sign-odd s (suc q) k l = refl
-
-sign-pick : (b t s : Bool) (q k l : ℕ) → T (not (isNan (cond b (cond t (inf s) nan) (odd 53 s q k l)))) → signOf (cond b (cond t (inf s) nan) (odd 53 s q k l)) ≡ s
-unfolding signOf isNan
-sign-pick true true s q k l n = refl
-sign-pick true false s q k l n = absurd n
-sign-pick false t s q k l n = sign-odd s q k l
-
-sign-fields : (s : Bool) (e f : ℕ) → T (not (isNan (ofFields binary64 s e f))) → signOf (ofFields binary64 s e f) ≡ s
-unfolding ofFields
-sign-fields s zero f n = sign-odd s f 0 1074
-sign-fields s (suc e) f n = sign-pick (eqb (suc e) 2047) (eqb f 0) s (2 ^ 52 + f) e 1074 n
-
-sign-of : (x : Float) → T (fits binary64 x) → T (not (isNan x)) → signOf x ≡ leb (2 ^ 63) (toBits binary64 x)
-sign-of x h n =
-    let b = toBits binary64 x in
-    let s = leb (2 ^ 63) b in
-    let e = apart x s h refl in
-    ap signOf e ∙ sign-fields s (exponentOf b) (fractionOf b) (subst (λ (y : Float). T (not (isNan y))) e n)
-
-sign-bit : (b : ℕ) → b < 2 ^ 64 → b / 2 ^ 63 ≡ cond (leb (2 ^ 63) b) 1 0
-sign-bit b h = go (leb (2 ^ 63) b) refl
+pub magnitude : (x : Float) → T (fits binary64 x) → cond (lt (f0 ⊖ x) x) x (f0 ⊖ x) ≡ absOf x
+unfolding absOf lt
+magnitude nan t = unfold sub add neg ofBits in refl
+magnitude (inf true) t = unfold sub add neg ofBits in refl
+magnitude (inf false) t = unfold sub add neg ofBits in refl
+magnitude (fin true zero e) t = larger (fin true 0 e) _ (fin false 0 e) (minus-zero true e t) refl
+magnitude (fin false zero e) t = larger (fin false 0 e) _ (fin false 0 e) (minus-zero false e t) (either-way (ltb (0 * up e * down e) (0 * up e * down e)))
   where
-    go : (t : Bool) → leb (2 ^ 63) b ≡ t → b / 2 ^ 63 ≡ cond t 1 0
-    go true e = omega (arith, leb-true (2 ^ 63) b e)
-    go false e = omega (arith, leb-false (2 ^ 63) b e)
-
-bit-less : (s t : Bool) → ltb (cond t 1 0) (cond s 1 0) ≡ (s && not t)
-bit-less true true = refl
-bit-less true false = refl
-bit-less false true = refl
-bit-less false false = refl
-
-pub signs-less : (x y : Float) → T (fits binary64 x) → T (fits binary64 y) → T (not (isNan x)) → T (not (isNan y))
-    → ltb (toBits binary64 y / 2 ^ 63) (toBits binary64 x / 2 ^ 63) ≡ (signOf x && not (signOf y))
-signs-less x y p q n m =
-    ap (λ (k : ℕ). ltb k (toBits binary64 x / 2 ^ 63)) (bit y q m) ∙ ap (ltb (cond (signOf y) 1 0)) (bit x p n) ∙ bit-less (signOf x) (signOf y)
+    either-way : (b : Bool) → cond b (fin false 0 e) (fin false 0 e) ≡ fin false 0 e
+    either-way true = refl
+    either-way false = refl
+magnitude (fin true (suc m) e) t = larger (fin true (suc m) e) _ (fin false (suc m) e) (minus-some true m e t) refl
+magnitude (fin false (suc m) e) t =
+    let A = suc m * up e * down e in
+    larger (fin false (suc m) e) _ (fin true (suc m) e) (minus-some false m e t)
+    (ap (λ (b : Bool). cond b (fin false (suc m) e) (fin true (suc m) e)) (lt-ltb 0 (A + A) (twice A (mul-pos (mul-pos (zero-lt-suc m) (up-pos e)) (down-pos e)))))
   where
-    bit : (z : Float) → T (fits binary64 z) → T (not (isNan z)) → toBits binary64 z / 2 ^ 63 ≡ cond (signOf z) 1 0
-    bit z h k = sign-bit (toBits binary64 z) (toBits-lt binary64 z h) ∙ ap (λ (t : Bool). cond t 1 0) (sym (sign-of z h k))
+    twice : (a : ℕ) → 0 < a → 0 < a + a
+    twice a h = omega arith

@@ -2,7 +2,7 @@
 use mathlib.Core.Path.{_≡_, refl, sym, _∙_, subst}
 use mathlib.Core.Bool.{Bool, true, false, cond}
 use mathlib.Core.Logic.{_⊎_, inl, inr}
-use Prim.Native.Nat.{ℕ, _+_, _-_, _*_, _≤_, _<_}
+use Prim.Native.Nat.{ℕ, _+_, _-_, _*_, _^_, _≤_, _<_}
 use native.Mathlib.Omega.{arith}
 use borrow.Author.Tests.{ltb-true, ltb-false, lt-ltb, le-ltb}
 use lib.Dec.{T, ltb}
@@ -26,7 +26,7 @@ Counts (fin s m e) a = Count m e a
 count-of : (x : Float) → T (fits binary64 x) → (a : ℕ) × Counts x a
 count-of nan t = (0, refl)
 count-of (inf s) t = (0, refl)
-count-of (fin s m e) t = counted s m e t
+count-of (fin s m e) t = let c = counted s m e t in (m * 2 ^ c .0, c .1)
 
 either-way : (b : Bool) (x y r : Bool) → x ≡ r → y ≡ r → cond b x y ≡ r
 either-way true x y r p q = p

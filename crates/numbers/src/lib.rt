@@ -48,14 +48,12 @@ pub fn min(x: f64, y: f64) -> f64
     if x != x { y } else { if y < x { y } else { x } }
 }
 
-// x with its sign cleared, also that of -0.0.
+// x with its sign cleared, also that of -0.0: the larger of x and 0 - x, which is +0.0 where x is a zero.
 pub fn abs(x: f64) -> f64
     ensures { λ r. ⌜ r ≡ absOf x ⌝ }
 {
-    if x != x {
-        return x;
-    }
-    f64::from_bits(f64::to_bits(x) & MAGNITUDE)
+    let y = 0.0 - x;
+    if y < x { x } else { y }
 }
 
 // t held to 0..1; -0.0 and a NaN stay.

@@ -1,10 +1,10 @@
--- `numbers::total_less` meets its contract: four tests in the definition's order, and last the two sign bits (`Magnitude.antt`).
+-- `numbers::total_less` meets its contract: four tests in the definition's order, and last the two sign bits (`SignBit.antt`).
 use mathlib.Core.Path.{subst, sym}
 use lib.Dec.{T}
 use Rattle.numbers.specs.Order.{totalLess}
 use Rattle.numbers.proofs.Branches.{branches, left}
 use Rattle.numbers.proofs.Patterns.{no-nan}
-use Rattle.numbers.proofs.Magnitude.{signs-less}
+use Rattle.numbers.proofs.SignBit.{signs-less}
 use Rattle.numbers.proofs.total_less.Statement.{statement}
 use Rattle.numbers.proofs.total_less.Tie as tie
 
