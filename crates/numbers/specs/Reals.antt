@@ -1,5 +1,5 @@
--- Document 01, "Numbers": names for f64. The operators are those of IEEE 754-2019 at binary64, each rounded once; every constant of the source stands here by
--- its bits, and below it what number that is.
+-- Document 01, "Numbers": the operators of IEEE 754-2019 at binary64, each rounded once; the constants of the source and of document 01, by their bits; max, min,
+-- the magnitude and the clamp. At the end a line for each constant says what number its bits are.
 use mathlib.Core.Bool.{true, false, cond}
 use mathlib.Core.Path.{_≡_, refl}
 use mathlib.Core.List.{List}
@@ -22,7 +22,7 @@ x ⊗ y = mul binary64 x y
 abbrev pub _⊘_ : Float → Float → Float
 x ⊘ y = div binary64 x y
 
--- entry i of a table of numbers
+-- Entry i of a table of numbers. (Past the end, which no definition asks for, it is a NaN.)
 abbrev pub num : List Float → ℕ → Float
 num xs i = getD xs i nan
 
@@ -58,15 +58,15 @@ minus1 = ofBits binary64 0xbff0_0000_0000_0000
 abbrev pub tiny : Float
 tiny = ofBits binary64 0x01a5_6e1f_c2f8_f359
 
--- 1e-12, the slack of weights and of places on an edge
+-- 1e-12, what eps is of the largest coordinate
 abbrev pub slack : Float
 slack = ofBits binary64 0x3d71_9799_812d_ea11
 
--- -1e-12
+-- -1e-12, down to which a weight counts as not negative, and a place as on its edge
 abbrev pub minusSlack : Float
 minusSlack = ofBits binary64 0xbd71_9799_812d_ea11
 
--- 1 + 1e-12, rounded once, as the Rust writes it
+-- 1 + 1e-12, rounded once, as the Rust writes it: up to there a place counts as on its edge
 abbrev pub pastOne : Float
 pastOne = ofBits binary64 0x3ff0_0000_0000_1198
 
@@ -127,87 +127,87 @@ absOf (fin s m e) = fin false m e
 unfoldable pub clampUnit : Float → Float
 clampUnit t = cond (lt t f0) f0 (cond (lt f1 t) f1 t)
 
--- What number each constant is: m * 2 ^ e.
-f0-is : f0 ≡ fin false 0 (pos 0)
+-- What number each constant is: `fin s m e` is m * 2 ^ e, negative where s is true, and `negsuc k` is -(k + 1).
+pub f0-is : f0 ≡ fin false 0 (pos 0)
 unfolding ofBits
 f0-is = refl
 
-f1-is : f1 ≡ fin false 1 (pos 0)
+pub f1-is : f1 ≡ fin false 1 (pos 0)
 unfolding ofBits
 f1-is = refl
 
-f2-is : f2 ≡ fin false 1 (pos 1)
+pub f2-is : f2 ≡ fin false 1 (pos 1)
 unfolding ofBits
 f2-is = refl
 
-f4-is : f4 ≡ fin false 1 (pos 2)
+pub f4-is : f4 ≡ fin false 1 (pos 2)
 unfolding ofBits
 f4-is = refl
 
-f5-is : f5 ≡ fin false 5 (pos 0)
+pub f5-is : f5 ≡ fin false 5 (pos 0)
 unfolding ofBits
 f5-is = refl
 
-f16-is : f16 ≡ fin false 1 (pos 4)
+pub f16-is : f16 ≡ fin false 1 (pos 4)
 unfolding ofBits
 f16-is = refl
 
-minus1-is : minus1 ≡ fin true 1 (pos 0)
+pub minus1-is : minus1 ≡ fin true 1 (pos 0)
 unfolding ofBits
 minus1-is = refl
 
-tiny-is : tiny ≡ fin false 6032057205060441 (negsuc 1048)
+pub tiny-is : tiny ≡ fin false 6032057205060441 (negsuc 1048)
 unfolding ofBits
 tiny-is = refl
 
-slack-is : slack ≡ fin false 4951760157141521 (negsuc 91)
+pub slack-is : slack ≡ fin false 4951760157141521 (negsuc 91)
 unfolding ofBits
 slack-is = refl
 
-minusSlack-is : minusSlack ≡ fin true 4951760157141521 (negsuc 91)
+pub minusSlack-is : minusSlack ≡ fin true 4951760157141521 (negsuc 91)
 unfolding ofBits
 minusSlack-is = refl
 
-pastOne-is : pastOne ≡ fin false 562949953421875 (negsuc 48)
+pub pastOne-is : pastOne ≡ fin false 562949953421875 (negsuc 48)
 unfolding ofBits
 pastOne-is = refl
 
-level-is : level ≡ fin false 2535301200456459 (negsuc 100)
+pub level-is : level ≡ fin false 2535301200456459 (negsuc 100)
 unfolding ofBits
 level-is = refl
 
-millionth-is : millionth ≡ fin false 4722366482869645 (negsuc 71)
+pub millionth-is : millionth ≡ fin false 4722366482869645 (negsuc 71)
 unfolding ofBits
 millionth-is = refl
 
-million-is : million ≡ fin false 15625 (pos 6)
+pub million-is : million ≡ fin false 15625 (pos 6)
 unfolding ofBits
 million-is = refl
 
-twoMillion-is : twoMillion ≡ fin false 15625 (pos 7)
+pub twoMillion-is : twoMillion ≡ fin false 15625 (pos 7)
 unfolding ofBits
 twoMillion-is = refl
 
-threeMillion-is : threeMillion ≡ fin false 46875 (pos 6)
+pub threeMillion-is : threeMillion ≡ fin false 46875 (pos 6)
 unfolding ofBits
 threeMillion-is = refl
 
-twoMillionths-is : twoMillionths ≡ fin false 4722366482869645 (negsuc 70)
+pub twoMillionths-is : twoMillionths ≡ fin false 4722366482869645 (negsuc 70)
 unfolding ofBits
 twoMillionths-is = refl
 
-billion-is : billion ≡ fin false 1953125 (pos 9)
+pub billion-is : billion ≡ fin false 1953125 (pos 9)
 unfolding ofBits
 billion-is = refl
 
-finest-is : finest ≡ fin false 944473296573929 (negsuc 72)
+pub finest-is : finest ≡ fin false 944473296573929 (negsuc 72)
 unfolding ofBits
 finest-is = refl
 
-coarsest-is : coarsest ≡ fin false 5764607523034235 (negsuc 58)
+pub coarsest-is : coarsest ≡ fin false 5764607523034235 (negsuc 58)
 unfolding ofBits
 coarsest-is = refl
 
-tenth-is : tenth ≡ fin false 3602879701896397 (negsuc 54)
+pub tenth-is : tenth ≡ fin false 3602879701896397 (negsuc 54)
 unfolding ofBits
 tenth-is = refl

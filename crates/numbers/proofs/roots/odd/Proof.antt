@@ -4,8 +4,8 @@ use native.Mathlib.Omega.{arith}
 use lib.IntN.{natAbs}
 use Rattle.numbers.specs.Parts.{lifted}
 use Rattle.numbers.proofs.Exponents.{odd-is, cast-fits}
-use Rattle.numbers.proofs.odd.Statement.{statement}
-use Rattle.numbers.proofs.odd.Tie as tie
+use Rattle.numbers.proofs.roots.odd.Statement.{statement}
+use Rattle.numbers.proofs.roots.odd.Tie as tie
 
 small : (n : ℕ) → n % 2 < 2 ^ 63
 small n = omega arith

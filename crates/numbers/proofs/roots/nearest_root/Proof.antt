@@ -1,4 +1,4 @@
--- `numbers::nearest_root` meets its contract. The invariant: q, rest and the weight of the last digit found are as in `Digits.antt`, for m * 2 ^ 54,
+-- `numbers::roots::nearest_root` meets its contract. The invariant: q, rest and the weight of the last digit found are as in `Digits.antt`, for m * 2 ^ 54,
 -- and r, the weight of the next digit, is half of that weight. The measure is r.
 use mathlib.Core.Path.{_≡_}
 use mathlib.Core.Logic.{⊎-elim}
@@ -7,10 +7,10 @@ use native.Mathlib.Omega.{arith}
 use borrow.Author.Needs.{needs}
 use lib.Bits.{and-mask}
 use Rattle.numbers.proofs.Digits.{Found, found-small, found-set, found-clear, found-all, found-none}
-use Rattle.numbers.proofs.nearest_root.Statement.{statement}
-use Rattle.numbers.proofs.nearest_root.Tie as tie
-use Rattle.numbers.proofs.nearest_root.Reads as reads
-use Rattle.numbers.proofs.nearest_root.Lts as lts
+use Rattle.numbers.proofs.roots.nearest_root.Statement.{statement}
+use Rattle.numbers.proofs.roots.nearest_root.Tie as tie
+use Rattle.numbers.proofs.roots.nearest_root.Reads as reads
+use Rattle.numbers.proofs.roots.nearest_root.Lts as lts
 
 abbrev Inv-loop : tie.InvT-loop
 Inv-loop m rest₀ q₀ r₀ rest q r = Found (4 * (m * 2 ^ 52)) rest q r

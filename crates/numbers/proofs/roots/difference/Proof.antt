@@ -4,8 +4,8 @@ use mir.Syntax.{w64}
 use mir.Val.{SFits}
 use mir.ValLaws.{toZ-ofZ}
 use Rattle.numbers.proofs.Exponents.{difference-is, minus-fits}
-use Rattle.numbers.proofs.difference.Statement.{statement}
-use Rattle.numbers.proofs.difference.Tie as tie
+use Rattle.numbers.proofs.roots.difference.Statement.{statement}
+use Rattle.numbers.proofs.roots.difference.Tie as tie
 
 sub-result : tie.Need-sub-result
 sub-result c = subst (SFits w64) (sym (difference-is (c .args .a) (c .args .b) (c .fits .a .fits) (c .fits .b .fits))) (minus-fits (c .args .a) (c .args .b) (c .fits .a .fits) (c .fits .b .fits))

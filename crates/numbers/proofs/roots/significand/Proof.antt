@@ -1,11 +1,11 @@
--- `numbers::significand` meets its contract: by the check, or by the digits.
+-- `numbers::roots::significand` meets its contract: by the check, or by the digits.
 use mathlib.Core.Path.{_≡_, subst}
 use Prim.Native.Nat.{ℕ, _*_, _%_, _^_, _≤_, _<_}
 use borrow.Author.Needs.{needs}
 use Rattle.numbers.specs.Root.{Nearest}
 use Rattle.numbers.proofs.Units.{shifted}
-use Rattle.numbers.proofs.significand.Statement.{statement}
-use Rattle.numbers.proofs.significand.Tie as tie
+use Rattle.numbers.proofs.roots.significand.Statement.{statement}
+use Rattle.numbers.proofs.roots.significand.Tie as tie
 
 n-is : (c : tie.Start) → (2 ^ 52 ≤ c .args .m * 2 ^ c .args .odd % 2 ^ 64) × (c .args .m * 2 ^ c .args .odd % 2 ^ 64 < 2 ^ 54) × (c .args .m * 2 ^ c .args .odd % 2 ^ 64 ≡ c .args .m * 2 ^ c .args .odd)
 n-is c = shifted (c .args .m) (c .args .odd) (c .pre .0) (c .pre .1) (c .pre .2)

@@ -1,4 +1,4 @@
--- `numbers::root_of` meets its contract: the nearest root of the significand, and half of the exponent, put together (`Units.antt`).
+-- `numbers::roots::root_of` meets its contract: the nearest root of the significand, and half of the exponent, put together (`Units.antt`).
 use mathlib.Core.Path.{_≡_, ap, _∙_}
 use Prim.Native.Nat.{_/_, _%_}
 use borrow.Author.Needs.{needs}
@@ -7,8 +7,8 @@ use mir.Syntax.{w64}
 use mir.ValLaws.{toZ-ofZ}
 use Rattle.numbers.specs.Parts.{lifted}
 use Rattle.numbers.proofs.Units.{bits-fit, bits-no-nan, bits-root}
-use Rattle.numbers.proofs.root_of.Statement.{statement}
-use Rattle.numbers.proofs.root_of.Tie as tie
+use Rattle.numbers.proofs.roots.root_of.Statement.{statement}
+use Rattle.numbers.proofs.roots.root_of.Tie as tie
 
 is-odd : (c : tie.After-odd) → c .odd .result ≡ lifted (c .before .args .e) % 2
 is-odd c = c .odd .ensures ∙ ap (λ (z : ℤ). lifted z % 2) (toZ-ofZ w64 (c .before .args .e) (c .before .fits .e))

@@ -4,8 +4,8 @@ use native.Mathlib.Omega.{arith}
 use lib.IntN.{natAbs}
 use Rattle.numbers.specs.Parts.{lifted}
 use Rattle.numbers.proofs.Exponents.{halved-is, lifted-lt, cast-fits, kept, pos-fits}
-use Rattle.numbers.proofs.halved.Statement.{statement}
-use Rattle.numbers.proofs.halved.Tie as tie
+use Rattle.numbers.proofs.roots.halved.Statement.{statement}
+use Rattle.numbers.proofs.roots.halved.Tie as tie
 
 small : (c : tie.Start) → lifted (c .args .e) / 2 < 2 ^ 63
 small c = omega (arith, lifted-lt (c .args .e) (c .pre))

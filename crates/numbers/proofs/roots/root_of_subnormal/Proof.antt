@@ -1,4 +1,4 @@
--- `numbers::root_of_subnormal` meets its contract: f shifted up, at an exponent as much lower, is the same number (`Fields.antt`).
+-- `numbers::roots::root_of_subnormal` meets its contract: f shifted up, at an exponent as much lower, is the same number (`Fields.antt`).
 use mathlib.Core.Path.{_≡_, ap, _∙_, subst, sym}
 use mathlib.Core.Bool.{false}
 use Prim.Native.Nat.{ℕ, _+_, _-_, _*_, _^_, _≤_, _<_}
@@ -13,8 +13,8 @@ use Rattle.numbers.specs.Root.{rootOf}
 use Rattle.numbers.specs.Parts.{Exponent}
 use Rattle.numbers.proofs.Exponents.{returned}
 use Rattle.numbers.proofs.Fields.{Shifted, shifted-up, exponent-minus, root-shifted}
-use Rattle.numbers.proofs.root_of_subnormal.Statement.{statement}
-use Rattle.numbers.proofs.root_of_subnormal.Tie as tie
+use Rattle.numbers.proofs.roots.root_of_subnormal.Statement.{statement}
+use Rattle.numbers.proofs.roots.root_of_subnormal.Tie as tie
 
 up : (c : tie.Start) → Shifted (c .args .f) (leadingZeros 64 (c .args .f))
 up c = shifted-up (c .args .f) (c .pre .0) (c .pre .1)

@@ -1,4 +1,4 @@
--- `numbers::candidate` meets its contract: whatever the guess is, its digits with a leading one are 53.
+-- `numbers::roots::candidate` meets its contract: whatever the guess is, its digits with a leading one are 53.
 use mathlib.Core.Path.{_≡_, sym, subst}
 use mathlib.Core.Bool.{not}
 use Prim.Native.Nat.{ℕ, _+_, _-_, _*_, _%_, _^_, _<_}
@@ -8,8 +8,8 @@ use lib.Dec.{T}
 use lib.Ieee.{binary64, nanBits, toBits}
 use Rattle.numbers.proofs.Patterns.{ordered, fractionOf, fraction-lt, leading}
 use Rattle.numbers.proofs.Significands.{plain-no-nan}
-use Rattle.numbers.proofs.candidate.Statement.{statement}
-use Rattle.numbers.proofs.candidate.Tie as tie
+use Rattle.numbers.proofs.roots.candidate.Statement.{statement}
+use Rattle.numbers.proofs.roots.candidate.Tie as tie
 
 -- the bits of z are those of a number of 53 digits
 float-from-bits-guess : tie.Need-float-from-bits-guess

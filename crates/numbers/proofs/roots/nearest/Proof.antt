@@ -1,4 +1,4 @@
--- `numbers::nearest` meets its contract: a check that passes is the one of `Halves.antt`.
+-- `numbers::roots::nearest` meets its contract: a check that passes is the one of `Halves.antt`.
 use mathlib.Core.Bool.{false≢true}
 use Prim.Native.Nat.{_-_, _*_, _/_, _^_, _<_}
 use native.Mathlib.Omega.{arith}
@@ -6,10 +6,10 @@ use borrow.Author.Needs.{needs}
 use borrow.Author.Tests.{ltb-true}
 use lib.Bits.{bitAnd, and-mask}
 use Rattle.numbers.proofs.Halves.{products, checked}
-use Rattle.numbers.proofs.nearest.Statement.{statement}
-use Rattle.numbers.proofs.nearest.Tie as tie
-use Rattle.numbers.proofs.nearest.Reads as reads
-use Rattle.numbers.proofs.nearest.Lts as lts
+use Rattle.numbers.proofs.roots.nearest.Statement.{statement}
+use Rattle.numbers.proofs.roots.nearest.Tie as tie
+use Rattle.numbers.proofs.roots.nearest.Reads as reads
+use Rattle.numbers.proofs.roots.nearest.Lts as lts
 use Rattle.std.proofs.num.wrapping_sub_u64.Reads as wrapping-sub-u64-reads
 
 small : (c : tie.Start) → (c .args .s / 2 ^ 26 * (c .args .s / 2 ^ 26) < 2 ^ 54) × (c .args .s / 2 ^ 26 * bitAnd (c .args .s) (2 ^ 26 - 1) < 2 ^ 53) × (bitAnd (c .args .s) (2 ^ 26 - 1) * bitAnd (c .args .s) (2 ^ 26 - 1) < c .args .s)
