@@ -1,0 +1,54 @@
+-- Document 01, "Questions": the swept-disk height, from p to q with radius r, over the triangles that its walk looks at.
+use mathlib.Core.Bool.{cond}
+use mathlib.Core.List.{List}
+use Prim.Native.Nat.{ℕ}
+use lib.Ieee.{Float, le}
+use Rattle.numbers.specs.Reals.{maxOf}
+use Rattle.plane.specs.declared.Contact.{Contact}
+use Rattle.plane.specs.declared.Contact.the-variants.{Nothing, Height}
+use Rattle.plane.specs.Mesh.{triangleOf, topOf}
+use Rattle.capsule.specs.Peaks.{maxInCapsule}
+use Rattle.walk.specs.Walk.{Walk, block, walked, nextStamp, readyMarks}
+use Rattle.walk.specs.Steps.{Walkable}
+use Rattle.grid.specs.declared.Header.{Header}
+use Rattle.query.specs.declared.Patch.{Patch}
+use Rattle.query.specs.Patch.{patchOf}
+use Rattle.height.specs.declared.Sweep.{Sweep}
+use Rattle.height.specs.declared.Swept.{Swept}
+
+-- the computed height of triangle i: none, or a height
+unfoldable pub heightOf : List Float → Sweep → ℕ → Contact
+heightOf mesh q i = maxInCapsule (triangleOf mesh i) (q .px) (q .py) (q .qx) (q .qy) (q .r) (q .eps)
+
+-- the best so far, with one contact more
+unfoldable pub raisedBy : Contact → Float → Float
+raisedBy Nothing best = best
+raisedBy (Height z) best = maxOf best z
+
+-- One triangle of the walk: it counts only where its top is above the best so far.
+unfoldable pub raised : List Float → Sweep → Float → ℕ → Float
+raised mesh q best i = cond (le (topOf (triangleOf mesh i)) best) best (raisedBy (heightOf mesh q i) best)
+
+-- The walk of a sweep over the cells p: it begins at the header's floor, with the next stamp.
+unfoldable pub sweptIn : List Float → Header → List ℕ → List ℕ → List ℕ → ℕ → Sweep → Patch → Walk Float
+sweptIn mesh h starts members marks stamp q p =
+    walked (nextStamp stamp) (raised mesh q) (record { marks = readyMarks marks stamp; count = 0; value = h .floor })
+    (block starts members (h .columns) (p .x0) (p .x1) (p .y0) (p .y1))
+
+-- the sweep from p to q with radius r over a header's grid, and its walk over its own cells
+abbrev pub sweepOf : Header → Float → Float → Float → Float → Float → Sweep
+sweepOf h px py qx qy r = record { px = px; py = py; qx = qx; qy = qy; r = r; eps = h .eps }
+
+unfoldable pub sweptOf : List Float → Header → List ℕ → List ℕ → List ℕ → ℕ → Float → Float → Float → Float → Float → Walk Float
+sweptOf mesh h starts members marks stamp px py qx qy r =
+    sweptIn mesh h starts members marks stamp (sweepOf h px py qx qy r) (patchOf h px py qx qy r)
+
+-- ---- what the parts of the code promise each other
+
+-- what a walk found, with its marks
+abbrev pub swept : Swept → List ℕ → Walk Float
+swept s m = record { marks = m; count = s .count; value = s .height }
+
+-- the cells p of a header's grid can be walked
+abbrev pub Sweepable : List ℕ → List ℕ → ℕ → Header → Patch → Type 0
+Sweepable starts members n h p = Walkable starts members n (h .columns) (p .x0) (p .x1) (p .y0) (p .y1)

@@ -1,0 +1,268 @@
+// The swept-disk height: the highest part point under a disk swept from p to q, at least the floor.
+ghost use mathlib.Core.Path.{_≡_};
+ghost use Prim.Native.Nat.{_+_, _*_, _≤_, _<_};
+ghost use lib.ListN.{length};
+ghost use Rattle.walk.specs.Walk.{block, fold, nextStamp};
+ghost use Rattle.walk.specs.Steps.{seen, look, Below, Room, Walkable};
+ghost use Rattle.query.specs.Patch.{patchOf};
+ghost use Rattle.height.specs.Sweep.{raisedBy, raised, sweepOf, swept, sweptIn, sweptOf, Sweepable};
+ghost use Rattle.height.specs.Height.{arePoints, isSweep, refusalOfNumbers, refusedBy, ended, maxHeightOf};
+use grid::Header;
+use plane::Contact;
+use query::Patch;
+use walk::Seen;
+
+// A sweep from p to q with radius r; eps is the slack of the contacts.
+pub struct Sweep {
+    pub px: f64,
+    pub py: f64,
+    pub qx: f64,
+    pub qy: f64,
+    pub r: f64,
+    pub eps: f64,
+}
+
+// A question's answer: its refusal or 0, the height, how many triangles were looked at, and the stamp.
+pub struct Answer {
+    pub refusal: u32,
+    pub height: f64,
+    pub count: u32,
+    pub stamp: u32,
+}
+
+// What the walk of a sweep found, how many triangles it looked at, and its stamp.
+pub struct Swept {
+    pub height: f64,
+    pub count: u32,
+    pub stamp: u32,
+}
+
+// The highest part point under the disk of radius r swept from p to q, or why the question is refused.
+pub fn max_height(
+    mesh: &[f64],
+    h: Header,
+    starts: &[u32],
+    members: &[u32],
+    marks: &mut [u32],
+    stamp: u32,
+    px: f64,
+    py: f64,
+    qx: f64,
+    qy: f64,
+    r: f64,
+) -> Answer
+    ensures { λ a. ⌜ ended a (now (marks .exit)) ≡ maxHeightOf (now (mesh .entry)) h (now (starts .entry)) (now (members .entry)) (now (marks .entry)) stamp px py qx qy r ⌝ }
+{
+    let k = refusal(mesh, marks, px, py, qx, qy, r);
+    if k != 0 {
+        return refused(k, stamp);
+    }
+    let p = query::patch_of(h, px, py, qx, qy, r);
+    if !query::usable(mesh, h, starts, members, marks, stamp, p) {
+        return refused(7, stamp);
+    }
+    let s = sweep_in(mesh, h, starts, members, marks, stamp, sweep_of(h, px, py, qx, qy, r), p);
+    Answer {
+        refusal: 0,
+        height: s.height,
+        count: s.count,
+        stamp: s.stamp,
+    }
+}
+
+// The same walk where nothing is left to refuse.
+pub fn swept_height(
+    mesh: &[f64],
+    h: Header,
+    starts: &[u32],
+    members: &[u32],
+    marks: &mut [u32],
+    stamp: u32,
+    px: f64,
+    py: f64,
+    qx: f64,
+    qy: f64,
+    r: f64,
+) -> Swept
+    requires { ⌜ (length (now mesh) ≡ length (now marks) * 9) × (length (now marks) ≤ 65536) × Sweepable (now starts) (now members) (length (now marks)) h (patchOf h px py qx qy r) ⌝ }
+    ensures { λ s. ⌜ (swept s (now (marks .exit)) ≡ sweptOf (now (mesh .entry)) h (now (starts .entry)) (now (members .entry)) (now (marks .entry)) stamp px py qx qy r) × (s .stamp ≡ nextStamp stamp) ⌝ }
+{
+    let p = query::patch_of(h, px, py, qx, qy, r);
+    sweep_in(mesh, h, starts, members, marks, stamp, sweep_of(h, px, py, qx, qy, r), p)
+}
+
+// A refusal: its number, zero height and count, and the stamp as handed.
+fn refused(k: u32, stamp: u32) -> Answer
+    ensures { λ a. ⌜ a ≡ refusedBy k stamp ⌝ }
+{
+    Answer {
+        refusal: k,
+        height: 0.0,
+        count: 0,
+        stamp,
+    }
+}
+
+// Whether the numbers of a sweep are in their ranges.
+fn is_sweep(px: f64, py: f64, qx: f64, qy: f64, r: f64) -> bool
+    ensures { λ a. ⌜ a ≡ isSweep px py qx qy r ⌝ }
+{
+    if are_points(px, py, qx, qy) {
+        spans::is_radius(r)
+    } else {
+        false
+    }
+}
+
+// Whether the coordinates of its ends are.
+fn are_points(px: f64, py: f64, qx: f64, qy: f64) -> bool
+    ensures { λ a. ⌜ a ≡ arePoints px py qx qy ⌝ }
+{
+    if query::is_point(px) {
+        if query::is_point(py) {
+            if query::is_point(qx) {
+                query::is_point(qy)
+            } else {
+                false
+            }
+        } else {
+            false
+        }
+    } else {
+        false
+    }
+}
+
+// Refusals 1 and 2, or 0.
+fn refusal(mesh: &[f64], marks: &[u32], px: f64, py: f64, qx: f64, qy: f64, r: f64) -> u32
+    ensures { λ k. ⌜ k ≡ refusalOfNumbers (now (mesh .entry)) (now (marks .entry)) px py qx qy r ⌝ }
+{
+    if !query::is_marked(mesh, marks) {
+        return 1;
+    }
+    if !is_sweep(px, py, qx, qy, r) {
+        return 2;
+    }
+    0
+}
+
+// The sweep from p to q over a header's grid.
+fn sweep_of(h: Header, px: f64, py: f64, qx: f64, qy: f64, r: f64) -> Sweep
+    ensures { λ q. ⌜ q ≡ sweepOf h px py qx qy r ⌝ }
+{
+    Sweep {
+        px,
+        py,
+        qx,
+        qy,
+        r,
+        eps: h.eps,
+    }
+}
+
+// The walk of a sweep over the cells p: it begins at the floor, with the next stamp.
+fn sweep_in(
+    mesh: &[f64],
+    h: Header,
+    starts: &[u32],
+    members: &[u32],
+    marks: &mut [u32],
+    stamp: u32,
+    q: Sweep,
+    p: Patch,
+) -> Swept
+    requires { ⌜ (length (now mesh) ≡ length (now marks) * 9) × (length (now marks) ≤ 65536) × Sweepable (now starts) (now members) (length (now marks)) h p ⌝ }
+    ensures { λ s. ⌜ (swept s (now (marks .exit)) ≡ sweptIn (now (mesh .entry)) h (now (starts .entry)) (now (members .entry)) (now (marks .entry)) stamp q p) × (s .stamp ≡ nextStamp stamp) ⌝ }
+{
+    let columns = h.columns;
+    let first = Seen {
+        count: 0,
+        best: h.floor,
+    };
+    let next = walk::next_stamp(marks, stamp);
+    let s = visit(mesh, starts, members, marks, next, columns, p, q, first);
+    Swept {
+        height: s.best,
+        count: s.count,
+        stamp: next,
+    }
+}
+
+// The best so far with one contact more.
+fn raise_by(c: Contact, best: f64) -> f64
+    ensures { λ r. ⌜ r ≡ raisedBy c best ⌝ }
+{
+    match c {
+        Contact::Nothing => best,
+        Contact::Height(z) => numbers::max(best, z),
+    }
+}
+
+// The best so far with triangle i.
+fn raise(mesh: &[f64], q: Sweep, best: f64, i: usize) -> f64
+    requires { ⌜ 9 * i + 9 ≤ length (now mesh) ⌝ }
+    ensures { λ r. ⌜ r ≡ raised (now (mesh .entry)) q best i ⌝ }
+{
+    let t = plane::triangle_at(mesh, i);
+    if plane::top(t) <= best {
+        return best;
+    }
+    raise_by(capsule::max_in_capsule(t, q.px, q.py, q.qx, q.qy, q.r, q.eps), best)
+}
+
+// Looks at triangle i, unless its mark is the stamp.
+fn look_at(mesh: &[f64], marks: &mut [u32], stamp: u32, q: Sweep, s: Seen, i: usize) -> Seen
+    requires { ⌜ (length (now mesh) ≡ length (now marks) * 9) × (i < length (now marks)) × Room stamp (seen (now marks) s) ⌝ }
+    ensures { λ r. ⌜ seen (now (marks .exit)) r ≡ look stamp (raised (now (mesh .entry)) q) (seen (now (marks .entry)) s) i ⌝ }
+{
+    let count = s.count;
+    let best = s.best;
+    if !walk::fresh(marks, stamp, i) {
+        return s;
+    }
+    Seen {
+        count: count + 1,
+        best: raise(mesh, q, best, i),
+    }
+}
+
+// The step over one cell: looks at each of its numbers.
+fn visit_cell(mesh: &[f64], part: &[u32], marks: &mut [u32], stamp: u32, q: Sweep, s: Seen) -> Seen
+    requires { ⌜ (length (now mesh) ≡ length (now marks) * 9) × Below (length (now marks)) (now part) × Room stamp (seen (now marks) s) ⌝ }
+    ensures { λ r. ⌜ seen (now (marks .exit)) r ≡ fold (look stamp (raised (now (mesh .entry)) q)) (seen (now (marks .entry)) s) (now (part .entry)) ⌝ }
+{
+    let mut found = s;
+    for j in 0..part.len() {
+        found = look_at(mesh, marks, stamp, q, found, part[j] as usize);
+    }
+    found
+}
+
+// The walk over the cells of a patch: rows, then columns, then the numbers of each cell.
+fn visit(
+    mesh: &[f64],
+    starts: &[u32],
+    members: &[u32],
+    marks: &mut [u32],
+    stamp: u32,
+    columns: usize,
+    p: Patch,
+    q: Sweep,
+    s: Seen,
+) -> Seen
+    requires { ⌜ (length (now mesh) ≡ length (now marks) * 9) × Walkable (now starts) (now members) (length (now marks)) columns (p .x0) (p .x1) (p .y0) (p .y1) × Room stamp (seen (now marks) s) ⌝ }
+    ensures { λ r. ⌜ seen (now (marks .exit)) r ≡ fold (look stamp (raised (now (mesh .entry)) q)) (seen (now (marks .entry)) s) (block (now (starts .entry)) (now (members .entry)) columns (p .x0) (p .x1) (p .y0) (p .y1)) ⌝ }
+{
+    let x0 = p.x0;
+    let x1 = p.x1;
+    let y0 = p.y0;
+    let y1 = p.y1;
+    let mut found = s;
+    for y in y0..y1 {
+        for x in x0..x1 {
+            let part = walk::stretch(starts, members, y * columns + x);
+            found = visit_cell(mesh, part, marks, stamp, q, found);
+        }
+    }
+    found
+}
