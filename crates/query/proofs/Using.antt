@@ -22,7 +22,7 @@ use Rattle.query.specs.declared.Patch.{Patch}
 use Rattle.query.specs.Usable.{every, each, triangleUsable, memberUsable, cellUsable, rowUsable, cellsUsable, usable}
 use Rattle.query.proofs.Testing.{in-rows}
 
-every-at : (test : ℕ → Bool) (a n k : ℕ) → every test a n ≡ true → a ≤ k → k < a + n → test k ≡ true
+pub every-at : (test : ℕ → Bool) (a n k : ℕ) → every test a n ≡ true → a ≤ k → k < a + n → test k ≡ true
 unfolding every
 every-at test a zero k e h l = absurd (omega arith)
 every-at test a (suc n) k e h l =
@@ -32,7 +32,7 @@ every-at test a (suc n) k e h l =
     sub : a ≡ k → test a ≡ true → test k ≡ true
     sub q t = rw (← q) t
 
-each-at : (test : ℕ → Bool) (ms : List ℕ) (k : ℕ) → each test ms ≡ true → k < length ms → test (getD ms k 0) ≡ true
+pub each-at : (test : ℕ → Bool) (ms : List ℕ) (k : ℕ) → each test ms ≡ true → k < length ms → test (getD ms k 0) ≡ true
 unfolding each
 each-at test [] k e h = absurd (omega arith)
 each-at test (m ∷ ms) zero e h = both (test m) (each test ms) e .0
