@@ -1,4 +1,4 @@
--- `root-nearest`: x lies between the squares of the two numbers midway between `rootOf x` and its neighbours.
+-- The root is the nearest f64 (`root-nearest`): the squares of the two middles to its neighbours enclose x.
 use mathlib.Core.Path.{_≡_, refl, sym, ap, _∙_, subst}
 use mathlib.Core.Bool.{Bool, true, false, cond, false≢true}
 use Prim.Native.Nat.{ℕ, zero, suc, _+_, _-_, _*_, _/_, _%_, _^_, _≤_, _<_}

@@ -1,5 +1,5 @@
--- The root of x digit by digit. q holds the digits found, w is the weight of the last of them, and rest says what is left: x - q * q is rest * w / 2.
--- A digit of the weight r, half of w, is set where (q + r) * (q + r) is not above x, and that is so where 2 * q + r is not above rest.
+-- Finding a root digit by digit. The digits so far are q, the last of them of weight w, and rest * w / 2 is what x exceeds q * q by. The next digit has the weight r, half
+-- of w; it is set exactly where 2 * q + r is not above rest, for then (q + r) * (q + r) is not above x.
 use mathlib.Core.Path.{_≡_, refl, sym, ap, _∙_, subst}
 use Prim.Native.Nat.{ℕ, zero, suc, _+_, _-_, _*_, _/_, _%_, _^_, _≤_, _<_}
 use native.Mathlib.Nat.{mul-assoc, mul-left-comm, add-mul, lt-of-mul-lt-mul-right, mul-lt-mul-of-pos-right, pow-succ'}

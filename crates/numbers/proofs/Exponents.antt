@@ -1,4 +1,4 @@
--- Signed exponents as an i64 has them: a difference of two numbers, the half rounded down, and whether an exponent is odd.
+-- An i64 as an exponent: the difference of two numbers, its half towards minus infinity, and its last digit.
 use mathlib.Core.Path.{_≡_, refl, sym, ap, _∙_, subst}
 use mathlib.Core.Bool.{Bool, true, false, not, cond}
 use Prim.Native.Nat.{ℕ, zero, suc, _+_, _-_, _/_, _%_, _^_, _≤_, _<_, zero-le}

@@ -1,4 +1,4 @@
--- The root of an f64 by its fields: sign, exponent and fraction.
+-- What `rootOf` gives for each kind of fields: zeros, infinities and NaNs, negative numbers, subnormal and normal ones.
 use mathlib.Core.Path.{_≡_, refl, sym, ap, _∙_, subst}
 use mathlib.Core.Bool.{Bool, true, false, not, cond, false≢true}
 use Prim.Native.Nat.{ℕ, zero, suc, _+_, _-_, _*_, _%_, _^_, _≤_, _<_}

@@ -1,4 +1,4 @@
--- The check of a root in 64-bit arithmetic: a root s of 53 digits in two halves, s = a * 2 ^ 26 + b, so that s * s is taken from m * 2 ^ 52 piece by piece.
+-- Why the check of a candidate is right in 64 bits: s is a * 2 ^ 26 + b, its square is subtracted in three pieces, and each test bounds the next piece.
 use mathlib.Core.Path.{_≡_, refl, sym, ap, _∙_}
 use Prim.Native.Nat.{ℕ, _+_, _-_, _*_, _/_, _%_, _^_, _≤_, _<_}
 use native.Mathlib.Nat.{lt-of-le-of-lt, lt-of-lt-of-le, le-of-lt, mod-eq-of-lt, mul-le-mul-right, mul-lt-mul-of-pos-left, mul-mul-mul-comm, mul-right-comm}

@@ -1,4 +1,4 @@
--- `root-mono`: of two numbers above zero the larger has a root that is no smaller.
+-- Roots stand in the order of what they are roots of (`root-mono`), for finite numbers above zero.
 use mathlib.Core.Path.{_≡_, sym, ap, _∙_, subst}
 use mathlib.Core.Logic.{_⊎_, inl, inr}
 use mathlib.Core.Bool.{Bool, true, false, not}

@@ -1,4 +1,4 @@
--- Rounding down by the bits: the digits behind the point are cut off, and where the number is negative and had some, one is added before the point.
+-- Why masking the digits behind the point rounds down: without a minus they are cut off; with one they are filled up first, and the carry grows the whole part.
 use mathlib.Core.Path.{_≡_, refl, sym, ap, _∙_, subst}
 use mathlib.Core.Logic.{_⊎_, inl, inr}
 use mathlib.Core.Bool.{Bool, true, false, not, cond}

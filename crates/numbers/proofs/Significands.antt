@@ -1,5 +1,5 @@
--- A significand q of 53 digits and a k: q * 2 ^ k of the smallest f64s. It is the pattern (k << 52) + q, with its sign in front (`units-pattern`), and the rounded value of a whole
--- number that is as much (`round-pattern`). Nothing here is about roots or about rounding down.
+-- The f64 that is q * 2 ^ k smallest ones, for a q of 53 digits: its bits are (k << 52) + q under the sign (`units-pattern`), and a whole number of that value rounds to it
+-- (`round-pattern`).
 use mathlib.Core.Path.{_≡_, refl, sym, ap, _∙_, subst}
 use mathlib.Core.Logic.{_⊎_, inl, inr}
 use mathlib.Core.Bool.{Bool, false, not, cond}

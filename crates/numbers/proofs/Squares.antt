@@ -1,4 +1,4 @@
--- Whole numbers and squares: the whole root, the nearest root, and that there is one nearest root only. Nothing here is about floats.
+-- Roots of whole numbers: `wholeRoot` is the whole part, `nearestRoot` is nearest by squares, and only one number is. No floats here.
 use mathlib.Core.Path.{_≡_, ap, _∙_, subst}
 use mathlib.Core.Bool.{Bool, true, false, not, cond}
 use Prim.Native.Nat.{ℕ, zero, suc, _+_, _-_, _*_, _/_, _^_, _≤_, _<_}

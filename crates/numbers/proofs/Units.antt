@@ -1,4 +1,4 @@
--- The root of a number by its value: the definition `rootOf` at m * 2 ^ e, however it is written, and the pattern of its result.
+-- `rootOf` looks at nothing but the value: m * 2 ^ e may be written with any m. From the nearest root of m and half of e come the bits of the result.
 use mathlib.Core.Path.{_≡_, refl, sym, ap, _∙_, subst}
 use mathlib.Core.Bool.{true, false, not}
 use Prim.Native.Nat.{ℕ, zero, suc, _+_, _-_, _*_, _/_, _%_, _^_, _≤_, _<_}

@@ -1,4 +1,4 @@
--- `numbers::round_down_small` meets its contract: a zero stays, and any other magnitude below 1 goes to 0 or to -1 (`Rounding.antt`).
+-- `numbers::round_down_small` meets its contract: zeros stay, and by its sign any other x goes to -1 or 0 (`Rounding.antt`).
 use mathlib.Core.Path.{_≡_, refl, ap, _∙_, sym}
 use mathlib.Core.Bool.{Bool, true, false}
 use Prim.Native.Nat.{ℕ, _^_}

@@ -1,4 +1,4 @@
--- `numbers::roots::nearest` meets its contract: a check that passes is the one of `Halves.antt`.
+-- `numbers::roots::nearest` meets its contract: the three tests are those of `Halves.antt`.
 use mathlib.Core.Bool.{false≢true}
 use Prim.Native.Nat.{_-_, _*_, _/_, _^_, _<_}
 use native.Mathlib.Omega.{arith}

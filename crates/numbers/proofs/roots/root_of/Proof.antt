@@ -1,4 +1,4 @@
--- `numbers::roots::root_of` meets its contract: the nearest root of the significand, and half of the exponent, put together (`Units.antt`).
+-- `numbers::roots::root_of` meets its contract: `Units.antt` makes the result of the nearest root of m and half of e.
 use mathlib.Core.Path.{_≡_, ap, _∙_}
 use Prim.Native.Nat.{_/_, _%_}
 use borrow.Author.Needs.{needs}

@@ -1,4 +1,4 @@
--- `numbers::roots::root_of_subnormal` meets its contract: f shifted up, at an exponent as much lower, is the same number (`Fields.antt`).
+-- `numbers::roots::root_of_subnormal` meets its contract: shifting f up and lowering the exponent by as much changes no value (`Fields.antt`).
 use mathlib.Core.Path.{_≡_, ap, _∙_, subst, sym}
 use mathlib.Core.Bool.{false}
 use Prim.Native.Nat.{ℕ, _+_, _-_, _*_, _^_, _≤_, _<_}

@@ -1,4 +1,4 @@
--- `numbers::roots::significand` meets its contract: by the check, or by the digits.
+-- `numbers::roots::significand` meets its contract: a candidate passed the check, or the digit loop found the number.
 use mathlib.Core.Path.{_≡_, subst}
 use Prim.Native.Nat.{ℕ, _*_, _%_, _^_, _≤_, _<_}
 use borrow.Author.Needs.{needs}
