@@ -1,0 +1,10 @@
+use Rattle.capsule.specs.Candidates.{riseOf, upright}
+use Rattle.capsule.proofs.rise_of.Statement.{statement}
+use Rattle.capsule.proofs.rise_of.Tie as tie
+
+returns : tie.Need-returns
+unfolding riseOf upright
+returns c = rw (c .hypot .ensures)
+
+pub rise-of-spec : {M : Type 1} → statement M
+rise-of-spec = tie.close (tie.spec (λ c κs. tt) returns)

@@ -1,0 +1,471 @@
+// The height of one triangle under the swept disk: the highest of its candidates, the points where a linear height can peak, that lie in the capsule.
+// What was found so far is a number and a float, which stay in registers; a contact is made of them at the end.
+ghost use mathlib.Core.Bool.{cond};
+ghost use mathlib.Core.Path.{_≡_};
+ghost use lib.Ieee.{lt};
+ghost use lib.ListN.{getD};
+ghost use Rattle.numbers.specs.Reals.{f0, f1};
+ghost use Rattle.plane.specs.Contacts.{takeOf};
+ghost use Rattle.capsule.specs.Region.{normalOf, capsuleOf, offerOf, gathered, contactOf};
+ghost use Rattle.capsule.specs.Candidates.{each, corners, edgeOf, edges, ends, onEdge, reached, circled, sided, sides, crossed};
+ghost use Rattle.capsule.specs.Candidates.{upright, riseOf, tangents, flank, flanks, places, over, inner, highestIn, maxInCapsule};
+use plane::Contact;
+use plane::Spot;
+use plane::Triangle;
+use plane::Weights;
+
+const MINUS_ONE: f64 = -1.0;
+
+const MINUS_SLACK: f64 = -1e-12;
+
+const PAST_ONE: f64 = 1.0 + 1e-12;
+
+// The capsule of radius r around p-q: its length, its unit normal n, and the largest squared distance that counts as inside.
+pub struct Capsule {
+    pub px: f64,
+    pub py: f64,
+    pub qx: f64,
+    pub qy: f64,
+    pub r: f64,
+    pub limit: f64,
+    pub len: f64,
+    pub nx: f64,
+    pub ny: f64,
+}
+
+// A place seen from above.
+pub struct Place {
+    pub x: f64,
+    pub y: f64,
+}
+
+// A point of a triangle.
+pub struct Point {
+    pub x: f64,
+    pub y: f64,
+    pub z: f64,
+}
+
+// An edge: its start, and the way to its end.
+pub struct Edge {
+    pub x: f64,
+    pub y: f64,
+    pub z: f64,
+    pub dx: f64,
+    pub dy: f64,
+    pub dz: f64,
+}
+
+// The slope g of a triangle, and the way of length r that rises most.
+pub struct Rise {
+    pub g: f64,
+    pub x: f64,
+    pub y: f64,
+}
+
+// What was found so far: nothing (0), or a best height z.
+pub struct Best {
+    pub found: u64,
+    pub z: f64,
+}
+
+// The highest point of a triangle in the capsule of radius r around p-q.
+pub fn max_in_capsule(t: Triangle, px: f64, py: f64, qx: f64, qy: f64, r: f64, eps: f64) -> Contact
+    ensures { λ c. ⌜ c ≡ maxInCapsule t px py qx qy r eps ⌝ }
+{
+    highest_in(capsule_of(px, py, qx, qy, r, eps), t)
+}
+
+// The capsule of radius r around p-q.
+pub fn capsule_of(px: f64, py: f64, qx: f64, qy: f64, r: f64, eps: f64) -> Capsule
+    ensures { λ k. ⌜ k ≡ capsuleOf px py qx qy r eps ⌝ }
+{
+    let dx = qx - px;
+    let dy = qy - py;
+    let len = numbers::hypot(dx, dy);
+    let n = normal_of(dx, dy, len);
+    Capsule {
+        px,
+        py,
+        qx,
+        qy,
+        r,
+        limit: (r + eps) * (r + eps),
+        len,
+        nx: n.x,
+        ny: n.y,
+    }
+}
+
+// The unit normal of a segment d of a length.
+fn normal_of(dx: f64, dy: f64, len: f64) -> Place
+    ensures { λ n. ⌜ n ≡ normalOf dx dy len ⌝ }
+{
+    if len > 0.0 {
+        Place {
+            x: -dy / len,
+            y: dx / len,
+        }
+    } else {
+        Place { x: 0.0, y: 0.0 }
+    }
+}
+
+// The highest point of a triangle in a capsule.
+pub fn highest_in(k: Capsule, t: Triangle) -> Contact
+    ensures { λ c. ⌜ c ≡ highestIn k t ⌝ }
+{
+    let none = Best { found: 0, z: 0.0 };
+    let corners = offer_corners(k, none, t);
+    let crossings = offer_edges(k, corners, t);
+    contact_of(offer_inner(k, crossings, t))
+}
+
+// The contact that was found.
+fn contact_of(b: Best) -> Contact
+    ensures { λ c. ⌜ c ≡ contactOf b ⌝ }
+{
+    if b.found == 0 {
+        Contact::Nothing
+    } else {
+        Contact::Height(b.z)
+    }
+}
+
+// The higher of what was found and z.
+fn take_best(b: Best, z: f64) -> Best
+    ensures { λ c. ⌜ contactOf c ≡ takeOf (contactOf b) z ⌝ }
+{
+    if b.found == 0 {
+        Best { found: 1, z }
+    } else {
+        Best {
+            found: 1,
+            z: numbers::max(b.z, z),
+        }
+    }
+}
+
+// What was found, and v if it lies in the capsule.
+fn offer(k: Capsule, best: Best, v: Point) -> Best
+    ensures { λ c. ⌜ contactOf c ≡ offerOf k (contactOf best) v ⌝ }
+{
+    if plane::dist2_to_segment(v.x, v.y, k.px, k.py, k.qx, k.qy) <= k.limit {
+        take_best(best, v.z)
+    } else {
+        best
+    }
+}
+
+// What was found, and the corners.
+fn offer_corners(k: Capsule, best: Best, t: Triangle) -> Best
+    ensures { λ c. ⌜ contactOf c ≡ gathered k (contactOf best) (corners t) ⌝ }
+{
+    let a = offer(
+        k,
+        best,
+        Point {
+            x: t.ax,
+            y: t.ay,
+            z: t.az,
+        },
+    );
+    let b = offer(
+        k,
+        a,
+        Point {
+            x: t.bx,
+            y: t.by,
+            z: t.bz,
+        },
+    );
+    offer(
+        k,
+        b,
+        Point {
+            x: t.cx,
+            y: t.cy,
+            z: t.cz,
+        },
+    )
+}
+
+// What was found, and where the edges cross the capsule's boundary.
+fn offer_edges(k: Capsule, best: Best, t: Triangle) -> Best
+    ensures { λ c. ⌜ contactOf c ≡ gathered k (contactOf best) (each (crossed k) (edges t)) ⌝ }
+{
+    let mut b = best;
+    for i in 0..3usize {
+        b = offer_crossings(k, b, edge_of(t, i));
+    }
+    b
+}
+
+// Edge i of a triangle.
+fn edge_of(t: Triangle, i: usize) -> Edge
+    ensures { λ e. ⌜ e ≡ getD (edges t) i e ⌝ }
+{
+    if i == 0 {
+        return edge_between(t.ax, t.ay, t.az, t.bx, t.by, t.bz);
+    }
+    if i == 1 {
+        return edge_between(t.bx, t.by, t.bz, t.cx, t.cy, t.cz);
+    }
+    edge_between(t.cx, t.cy, t.cz, t.ax, t.ay, t.az)
+}
+
+// The edge from a to b.
+fn edge_between(ax: f64, ay: f64, az: f64, bx: f64, by: f64, bz: f64) -> Edge
+    ensures { λ e. ⌜ e ≡ edgeOf (record { x = ax; y = ay; z = az }) (record { x = bx; y = by; z = bz }) ⌝ }
+{
+    Edge {
+        x: ax,
+        y: ay,
+        z: az,
+        dx: bx - ax,
+        dy: by - ay,
+        dz: bz - az,
+    }
+}
+
+// What was found, and where an edge crosses the capsule's boundary.
+fn offer_crossings(k: Capsule, best: Best, e: Edge) -> Best
+    ensures { λ c. ⌜ contactOf c ≡ gathered k (contactOf best) (crossed k e) ⌝ }
+{
+    if e.dx * e.dx + e.dy * e.dy > 0.0 {
+        let b = offer_circles(k, best, e);
+        if k.len > 0.0 {
+            return offer_sides(k, b, e);
+        }
+        return b;
+    }
+    best
+}
+
+// What was found, and where an edge crosses the circles around p and q.
+fn offer_circles(k: Capsule, best: Best, e: Edge) -> Best
+    ensures { λ c. ⌜ contactOf c ≡ gathered k (contactOf best) (each (circled k e) (ends k)) ⌝ }
+{
+    let mut b = best;
+    for i in 0..2usize {
+        b = offer_circle(k, b, e, end_of(k, i));
+    }
+    b
+}
+
+// What was found, and where an edge crosses the straight sides.
+fn offer_sides(k: Capsule, best: Best, e: Edge) -> Best
+    ensures { λ c. ⌜ contactOf c ≡ gathered k (contactOf best) (each (sided k e) sides) ⌝ }
+{
+    let mut b = best;
+    for i in 0..2usize {
+        b = offer_side(k, b, e, side_of(i));
+    }
+    b
+}
+
+// End i of the segment.
+fn end_of(k: Capsule, i: usize) -> Place
+    ensures { λ p. ⌜ p ≡ getD (ends k) i p ⌝ }
+{
+    if i == 0 {
+        Place { x: k.px, y: k.py }
+    } else {
+        Place { x: k.qx, y: k.qy }
+    }
+}
+
+// Side i of the segment.
+fn side_of(i: usize) -> f64
+    ensures { λ s. ⌜ s ≡ getD sides i s ⌝ }
+{
+    if i == 0 { MINUS_ONE } else { 1.0 }
+}
+
+// What was found, and where an edge crosses the circle around c.
+fn offer_circle(k: Capsule, best: Best, e: Edge, c: Place) -> Best
+    ensures { λ d. ⌜ contactOf d ≡ gathered k (contactOf best) (circled k e c) ⌝ }
+{
+    let fx = e.x - c.x;
+    let fy = e.y - c.y;
+    let ee = e.dx * e.dx + e.dy * e.dy;
+    let bq = 2.0 * (fx * e.dx + fy * e.dy);
+    let cq = fx * fx + fy * fy - k.r * k.r;
+    let disc = bq * bq - 4.0 * ee * cq;
+    if disc >= 0.0 {
+        let s = numbers::root(disc);
+        let b = offer_at(k, best, e, (-bq - s) / (2.0 * ee));
+        return offer_at(k, b, e, (-bq + s) / (2.0 * ee));
+    }
+    best
+}
+
+// What was found, and where an edge crosses a straight side.
+fn offer_side(k: Capsule, best: Best, e: Edge, side: f64) -> Best
+    ensures { λ c. ⌜ contactOf c ≡ gathered k (contactOf best) (sided k e side) ⌝ }
+{
+    let den = e.dx * k.nx + e.dy * k.ny;
+    if den != 0.0 {
+        let off = side * k.r - ((e.x - k.px) * k.nx + (e.y - k.py) * k.ny);
+        return offer_at(k, best, e, off / den);
+    }
+    best
+}
+
+// What was found, and the point at t along an edge.
+fn offer_at(k: Capsule, best: Best, e: Edge, t: f64) -> Best
+    ensures { λ c. ⌜ contactOf c ≡ gathered k (contactOf best) (reached e t) ⌝ }
+{
+    if on_edge(t) {
+        let s = numbers::clamp_unit(t);
+        return offer(
+            k,
+            best,
+            Point {
+                x: e.x + s * e.dx,
+                y: e.y + s * e.dy,
+                z: e.z + s * e.dz,
+            },
+        );
+    }
+    best
+}
+
+// Whether t lies on an edge.
+fn on_edge(t: f64) -> bool
+    ensures { λ b. ⌜ b ≡ onEdge t ⌝ }
+{
+    if t >= MINUS_SLACK {
+        t <= PAST_ONE
+    } else {
+        false
+    }
+}
+
+// What was found, and the inner points of a triangle that does not stand upright.
+fn offer_inner(k: Capsule, best: Best, t: Triangle) -> Best
+    ensures { λ c. ⌜ contactOf c ≡ gathered k (contactOf best) (inner k t) ⌝ }
+{
+    let nz = (t.bx - t.ax) * (t.cy - t.ay) - (t.cx - t.ax) * (t.by - t.ay);
+    if numbers::abs(nz) > 1e-300 {
+        return offer_places(k, best, t, rise_of(t, k.r));
+    }
+    best
+}
+
+// How a triangle rises.
+fn rise_of(t: Triangle, r: f64) -> Rise
+    ensures { λ h. ⌜ h ≡ riseOf t r ⌝ }
+{
+    let nz = (t.bx - t.ax) * (t.cy - t.ay) - (t.cx - t.ax) * (t.by - t.ay);
+    let gx = ((t.bz - t.az) * (t.cy - t.ay) - (t.cz - t.az) * (t.by - t.ay)) / nz;
+    let gy = ((t.bx - t.ax) * (t.cz - t.az) - (t.cx - t.ax) * (t.bz - t.az)) / nz;
+    let g = numbers::hypot(gx, gy);
+    Rise {
+        g,
+        x: r * gx / g,
+        y: r * gy / g,
+    }
+}
+
+// What was found, and the points of a triangle over the extreme points of the capsule.
+fn offer_places(k: Capsule, best: Best, t: Triangle, h: Rise) -> Best
+    ensures { λ c. ⌜ contactOf c ≡ gathered k (contactOf best) (each (over t) (places k h)) ⌝ }
+{
+    let n = count_of(h);
+    let mut b = best;
+    for i in 0..n {
+        b = offer_over(k, b, t, place_of(k, h, i));
+    }
+    b
+}
+
+// How many extreme points there are.
+fn count_of(h: Rise) -> usize
+    ensures { λ n. ⌜ n ≡ cond (lt f0 (h .g)) 8 6 ⌝ }
+{
+    if h.g > 0.0 { 8 } else { 6 }
+}
+
+// Extreme point i of the capsule.
+fn place_of(k: Capsule, h: Rise, i: usize) -> Place
+    ensures { λ p. ⌜ p ≡ getD (places k h) i p ⌝ }
+{
+    if i < 2 {
+        return end_of(k, i);
+    }
+    if h.g > 0.0 {
+        if i < 4 {
+            return tangent_of(k, h, i - 2);
+        }
+        return flank_of(k, i - 4);
+    }
+    flank_of(k, i - 2)
+}
+
+// The tangent point at end i of the segment.
+fn tangent_of(k: Capsule, h: Rise, i: usize) -> Place
+    ensures { λ p. ⌜ p ≡ getD (tangents k h) i p ⌝ }
+{
+    if i == 0 {
+        Place {
+            x: k.px + h.x,
+            y: k.py + h.y,
+        }
+    } else {
+        Place {
+            x: k.qx + h.x,
+            y: k.qy + h.y,
+        }
+    }
+}
+
+// Side end i.
+fn flank_of(k: Capsule, i: usize) -> Place
+    ensures { λ p. ⌜ p ≡ getD (flanks k) i p ⌝ }
+{
+    if i == 0 {
+        return flank_at(k, k.px, k.py, MINUS_ONE);
+    }
+    if i == 1 {
+        return flank_at(k, k.px, k.py, 1.0);
+    }
+    if i == 2 {
+        return flank_at(k, k.qx, k.qy, MINUS_ONE);
+    }
+    flank_at(k, k.qx, k.qy, 1.0)
+}
+
+// Where a straight side ends at (x, y).
+fn flank_at(k: Capsule, x: f64, y: f64, side: f64) -> Place
+    ensures { λ p. ⌜ p ≡ flank k x y side ⌝ }
+{
+    Place {
+        x: x + side * k.r * k.nx,
+        y: y + side * k.r * k.ny,
+    }
+}
+
+// What was found, and the point of a triangle over a place.
+fn offer_over(k: Capsule, best: Best, t: Triangle, p: Place) -> Best
+    ensures { λ c. ⌜ contactOf c ≡ gathered k (contactOf best) (over t p) ⌝ }
+{
+    match plane::bary(t, p.x, p.y) {
+        Spot::Flat => best,
+        Spot::At(w) => {
+            if plane::at_least(w, MINUS_SLACK) {
+                offer(
+                    k,
+                    best,
+                    Point {
+                        x: p.x,
+                        y: p.y,
+                        z: w.u * t.az + w.v * t.bz + w.w * t.cz,
+                    },
+                )
+            } else {
+                best
+            }
+        }
+    }
+}
