@@ -12,6 +12,7 @@ use lib.ListN.{length}
 use Rattle.numbers.specs.Reals.{num}
 use Rattle.numbers.proofs.Branches.{taken, left}
 use Rattle.spans.specs.Mesh.{isCoordinate, isRadius, firstBad}
+use Rattle.spans.specs.Good.{AllGood}
 use Rattle.spans.specs.declared.Place.{Place}
 use Rattle.spans.specs.declared.Place.the-variants.{Nowhere, At}
 use Rattle.spans.proofs.Searching.{all-good}
@@ -33,7 +34,7 @@ pub record Accepted (mesh : List Float) (floor r : Float) : Type 0 where
   pub some : 0 < trianglesIn mesh
   pub bottom : isCoordinate floor ≡ true
   pub radius : isRadius r ≡ true
-  pub numbers : (k : ℕ) → k < length mesh → isCoordinate (num mesh k) ≡ true
+  pub numbers : AllGood mesh
 
 nowhere : (p : Place) → isNowhere p ≡ true → p ≡ Nowhere
 unfolding isNowhere

@@ -60,7 +60,7 @@ module _ (mesh : List Float) (floor r : Float) (a : Accepted mesh floor r) where
   grid-some = (omega arith, omega arith)
 
   pub grid-gridded : (lent : ℕ) → Passed (gridOf mesh (trianglesIn mesh) r .columns) (gridOf mesh (trianglesIn mesh) r .rows) lent → Gridded mesh (trianglesIn mesh) (gridOf mesh (trianglesIn mesh) r)
-  grid-gridded lent p = record { nine = omega (arith, a .nine); few = a .few; some = grid-some; wide = p .wide; tall = p .tall }
+  grid-gridded lent p = record { nine = omega (arith, a .nine); few = a .few; some = grid-some; wide = p .wide; tall = p .tall; numbers = a .numbers }
 
   lies : (i : ℕ) → i < trianglesIn mesh → InGrid (gridOf mesh (trianglesIn mesh) r) (cellsOf mesh (gridOf mesh (trianglesIn mesh) r) i)
   lies i h =

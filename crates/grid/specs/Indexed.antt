@@ -6,8 +6,7 @@ use mathlib.Core.Path.{_≡_}
 use Prim.Native.Nat.{ℕ, _+_, _*_, _^_, _≤_, _<_}
 use lib.ListN.{length, getD}
 use lib.Ieee.{Float}
-use Rattle.numbers.specs.Reals.{num}
-use Rattle.spans.specs.Mesh.{isCoordinate}
+use Rattle.spans.specs.Good.{AllGood}
 use Rattle.cells.specs.Cover.{membersOf, stretch}
 use Rattle.cells.specs.declared.Cells.{Cells}
 use Rattle.grid.specs.declared.Grid.{Grid}
@@ -25,7 +24,7 @@ pub record InGrid (g : Grid) (b : Cells) : Type 0 where
 pub record Indexed (mesh : List Float) (h : Header) (starts members : List ℕ) : Type 0 where
   pub nine : length mesh ≡ h .n * 9
   pub ranges : inRanges h ≡ true
-  pub numbers : (k : ℕ) → k < length mesh → isCoordinate (num mesh k) ≡ true
+  pub numbers : AllGood mesh
   pub room : cellsIn (gridIn h) + 1 ≤ length starts
   pub rise : (c : ℕ) → c < cellsIn (gridIn h) → getD starts c 0 ≤ getD starts (c + 1) 0
   pub within : (c : ℕ) → c < cellsIn (gridIn h) → getD starts (c + 1) 0 ≤ length members
@@ -34,10 +33,11 @@ pub record Indexed (mesh : List Float) (h : Header) (starts members : List ℕ) 
 
 -- ---- what the builder's parts may rely on
 
--- n triangles, and a grid of at least one cell and not too many.
+-- n triangles of coordinates, and a grid of at least one cell and not too many.
 pub record Gridded (mesh : List Float) (n : ℕ) (g : Grid) : Type 0 where
   pub nine : n * 9 ≤ length mesh
   pub few : n ≤ 65536
   pub some : (0 < g .columns) × (0 < g .rows)
   pub wide : g .columns ≤ 65536
   pub tall : g .rows ≤ 65536
+  pub numbers : AllGood mesh

@@ -2,6 +2,7 @@
 ghost use mathlib.Core.Path.{_≡_};
 ghost use Prim.Native.Nat.{_+_, _*_, _/_, _^_, _<_, _≤_};
 ghost use lib.ListN.{length};
+ghost use Rattle.spans.specs.Good.{AllGood};
 ghost use Rattle.cells.specs.Cover.{startsOf, membersTable};
 ghost use Rattle.cells.specs.Steps.{Room, CountedAll, Ready, Filled, Fits};
 ghost use Rattle.grid.specs.Grid.{trianglesIn, gridOf, cellsIn, cellsOf, coverOf, totalOf};
@@ -103,6 +104,7 @@ fn refusal_of_numbers(mesh: &[f64], floor: f64, r: f64) -> u32
 // The grid over the first n triangles.
 fn grid_of(mesh: &[f64], n: usize, r: f64) -> Grid
     requires { ⌜ n * 9 ≤ length (now mesh) ⌝ }
+    requires { ⌜ AllGood (now mesh) ⌝ }
     requires { ⌜ (gridOf (now mesh) n r .columns < 2 ^ 64) × (gridOf (now mesh) n r .rows < 2 ^ 64) ⌝ }
     ensures { λ g. ⌜ g ≡ gridOf (now (mesh .entry)) n r ⌝ }
 {
@@ -192,6 +194,7 @@ fn fill_grid(
 // What is recorded of n triangles under a grid.
 fn header_of(mesh: &[f64], n: usize, g: Grid, floor: f64, r: f64) -> Header
     requires { ⌜ n * 9 ≤ length (now mesh) ⌝ }
+    requires { ⌜ AllGood (now mesh) ⌝ }
     ensures { λ h. ⌜ h ≡ headed (now (mesh .entry)) n g floor r ⌝ }
 {
     let eps = spans::eps(mesh, n);
@@ -211,6 +214,7 @@ fn header_of(mesh: &[f64], n: usize, g: Grid, floor: f64, r: f64) -> Header
 // The cells of triangle i.
 fn cells_of(mesh: &[f64], g: Grid, i: usize) -> cells::Cells
     requires { ⌜ (i * 9 + 9 ≤ length (now mesh)) × (0 < g .columns) × (0 < g .rows) ⌝ }
+    requires { ⌜ AllGood (now mesh) ⌝ }
     ensures { λ b. ⌜ b ≡ cellsOf (now (mesh .entry)) g i ⌝ }
 {
     let b = spans::box_of(mesh, i);

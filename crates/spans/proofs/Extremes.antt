@@ -22,7 +22,7 @@ lt-le : (x y : Float) → lt x y ≡ true → T (le x y)
 unfolding le
 lt-le x y e = rw e tt
 
-min-either : (P : Float → Type 0) (x y : Float) → P x → P y → P (minOf x y)
+pub min-either : (P : Float → Type 0) (x y : Float) → P x → P y → P (minOf x y)
 unfolding minOf
 min-either P x y p q = by-test (isNan x) (λ e. rw e q) (λ e. by-test (lt y x) (λ f. rw (e, f) q) (λ f. rw (e, f) p))
 
@@ -184,11 +184,11 @@ module _ (mesh : List Float) where
   top-is (suc n) = ap (λ (v : Float). maxOf v (boxOf mesh n .«high_y»)) (top-is n)
 
   module _ (good : (k : ℕ) → k < length mesh → isCoordinate (num mesh k) ≡ true) where
-    box-x : (i : ℕ) → i * 9 + 9 ≤ length mesh → (isCoordinate (boxOf mesh i .«low_x») ≡ true) × (isCoordinate (boxOf mesh i .«high_x») ≡ true) × T (le (boxOf mesh i .«low_x») (boxOf mesh i .«high_x»))
+    pub box-x : (i : ℕ) → i * 9 + 9 ≤ length mesh → (isCoordinate (boxOf mesh i .«low_x») ≡ true) × (isCoordinate (boxOf mesh i .«high_x») ≡ true) × T (le (boxOf mesh i .«low_x») (boxOf mesh i .«high_x»))
     unfolding boxOf boundsOf triangleOf
     box-x i h = three _ _ _ (good _ (omega arith)) (good _ (omega arith)) (good _ (omega arith))
 
-    box-y : (i : ℕ) → i * 9 + 9 ≤ length mesh → (isCoordinate (boxOf mesh i .«low_y») ≡ true) × (isCoordinate (boxOf mesh i .«high_y») ≡ true) × T (le (boxOf mesh i .«low_y») (boxOf mesh i .«high_y»))
+    pub box-y : (i : ℕ) → i * 9 + 9 ≤ length mesh → (isCoordinate (boxOf mesh i .«low_y») ≡ true) × (isCoordinate (boxOf mesh i .«high_y») ≡ true) × T (le (boxOf mesh i .«low_y») (boxOf mesh i .«high_y»))
     unfolding boxOf boundsOf triangleOf
     box-y i h = three _ _ _ (good _ (omega arith)) (good _ (omega arith)) (good _ (omega arith))
 

@@ -7,3 +7,4 @@ pub mod Ranges
 pub mod Sizes
 pub mod Extremes
 pub mod Scales
+pub mod Plain

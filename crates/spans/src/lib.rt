@@ -1,11 +1,18 @@
 // Where a mesh lies, how large the cells over it are, and which of them a stretch of an axis covers.
+ghost use mathlib.Core.Bool.{true, false};
 ghost use mathlib.Core.Path.{_≡_};
 ghost use Prim.Native.Nat.{_+_, _-_, _*_, _^_, _<_, _≤_, min};
 ghost use lib.ListN.{length};
 ghost use Rattle.spans.specs.Mesh.{isCoordinate, isRadius, firstBad, boxOf, widened, extentOf, farther, farthestOf, scaleOf, epsOf};
+ghost use lib.Ieee.{isNan};
+ghost use Rattle.numbers.specs.Reals.{maxOf, minOf, absOf};
+ghost use Rattle.plane.specs.Mesh.{lowest, highest, boundsOf};
+ghost use Rattle.spans.specs.Good.{Good, AllGood, Corners, Ends, upright};
 ghost use Rattle.spans.specs.Axis.{spanOf, sizeOf, truncated, cellAt, cellsAlong, stretchOf};
 
 const MILLION: f64 = 1e6;
+
+const MINUS_MILLION: f64 = -1e6;
 
 // A place in a mesh, or none.
 pub enum Place {
@@ -31,7 +38,7 @@ pub struct Stretch {
 pub fn is_coordinate(x: f64) -> bool
     ensures { λ a. ⌜ a ≡ isCoordinate x ⌝ }
 {
-    numbers::abs(x) <= MILLION
+    x >= MINUS_MILLION && x <= MILLION
 }
 
 // Whether r can be an index radius.
@@ -55,29 +62,78 @@ pub fn first_bad(mesh: &[f64]) -> Place
     Place::Nowhere
 }
 
+// The smaller of two numbers, the first of which is no NaN.
+fn lower(x: f64, y: f64) -> f64
+    requires { ⌜ isNan x ≡ false ⌝ }
+    ensures { λ m. ⌜ m ≡ minOf x y ⌝ }
+{
+    if y < x { y } else { x }
+}
+
+// The larger of two numbers, the first of which is no NaN.
+fn higher(x: f64, y: f64) -> f64
+    requires { ⌜ isNan x ≡ false ⌝ }
+    ensures { λ m. ⌜ m ≡ maxOf x y ⌝ }
+{
+    if x < y { y } else { x }
+}
+
+// The smallest of three coordinates.
+fn low(a: f64, b: f64, c: f64) -> f64
+    requires { ⌜ Good a × Good b ⌝ }
+    ensures { λ m. ⌜ m ≡ lowest a b c ⌝ }
+{
+    lower(lower(a, b), c)
+}
+
+// The largest of three coordinates.
+fn high(a: f64, b: f64, c: f64) -> f64
+    requires { ⌜ Good a × Good b ⌝ }
+    ensures { λ m. ⌜ m ≡ highest a b c ⌝ }
+{
+    higher(higher(a, b), c)
+}
+
+// The box of a triangle.
+fn bounds(t: plane::Triangle) -> plane::Bounds
+    requires { ⌜ Corners t ⌝ }
+    ensures { λ b. ⌜ b ≡ boundsOf t ⌝ }
+{
+    plane::Bounds {
+        low_x: low(t.ax, t.bx, t.cx),
+        low_y: low(t.ay, t.by, t.cy),
+        high_x: high(t.ax, t.bx, t.cx),
+        high_y: high(t.ay, t.by, t.cy),
+        top: high(t.az, t.bz, t.cz),
+    }
+}
+
 // The box of triangle i.
 pub fn box_of(mesh: &[f64], i: usize) -> plane::Bounds
     requires { ⌜ 9 * i + 9 ≤ length (now mesh) ⌝ }
+    requires { ⌜ AllGood (now mesh) ⌝ }
     ensures { λ b. ⌜ b ≡ boxOf (now (mesh .entry)) i ⌝ }
 {
-    plane::bounds_of(plane::triangle_at(mesh, i))
+    bounds(plane::triangle_at(mesh, i))
 }
 
 // The extremes with those of one box more.
 fn widen(e: Extent, b: plane::Bounds) -> Extent
+    requires { ⌜ Ends e ⌝ }
     ensures { λ w. ⌜ w ≡ widened e b ⌝ }
 {
     Extent {
-        left: numbers::min(e.left, b.low_x),
-        bottom: numbers::min(e.bottom, b.low_y),
-        right: numbers::max(e.right, b.high_x),
-        top: numbers::max(e.top, b.high_y),
+        left: lower(e.left, b.low_x),
+        bottom: lower(e.bottom, b.low_y),
+        right: higher(e.right, b.high_x),
+        top: higher(e.top, b.high_y),
     }
 }
 
 // The extremes of the first n triangles.
 pub fn extent_of(mesh: &[f64], n: usize) -> Extent
     requires { ⌜ n * 9 ≤ length (now mesh) ⌝ }
+    requires { ⌜ AllGood (now mesh) ⌝ }
     ensures { λ e. ⌜ e ≡ extentOf (now (mesh .entry)) n ⌝ }
 {
     let mut e = Extent {
@@ -92,17 +148,25 @@ pub fn extent_of(mesh: &[f64], n: usize) -> Extent
     e
 }
 
+// The larger of m and the magnitude of x: m, x or -x.
+fn beyond(m: f64, x: f64) -> f64
+    requires { ⌜ (upright m ≡ true) × Good x ⌝ }
+    ensures { λ d. ⌜ d ≡ maxOf m (absOf x) ⌝ }
+{
+    higher(higher(m, x), -x)
+}
+
 // The larger of m and the magnitudes of a corner's numbers.
 fn far(m: f64, x: f64, y: f64, z: f64) -> f64
+    requires { ⌜ (upright m ≡ true) × Good x × Good y × Good z ⌝ }
     ensures { λ d. ⌜ d ≡ farther m x y z ⌝ }
 {
-    let a = numbers::max(m, numbers::abs(x));
-    let b = numbers::max(a, numbers::abs(y));
-    numbers::max(b, numbers::abs(z))
+    beyond(beyond(beyond(m, x), y), z)
 }
 
 // The largest magnitude of a triangle's numbers.
 fn farthest(t: plane::Triangle) -> f64
+    requires { ⌜ Corners t ⌝ }
     ensures { λ d. ⌜ d ≡ farthestOf t ⌝ }
 {
     let a = far(0.0, t.ax, t.ay, t.az);
@@ -113,6 +177,7 @@ fn farthest(t: plane::Triangle) -> f64
 // The scale of the first n triangles.
 fn scale(mesh: &[f64], n: usize) -> f64
     requires { ⌜ n * 9 ≤ length (now mesh) ⌝ }
+    requires { ⌜ AllGood (now mesh) ⌝ }
     ensures { λ s. ⌜ s ≡ scaleOf (now (mesh .entry)) n ⌝ }
 {
     let mut s = 1.0;
@@ -125,6 +190,7 @@ fn scale(mesh: &[f64], n: usize) -> f64
 // The eps of the first n triangles.
 pub fn eps(mesh: &[f64], n: usize) -> f64
     requires { ⌜ n * 9 ≤ length (now mesh) ⌝ }
+    requires { ⌜ AllGood (now mesh) ⌝ }
     ensures { λ e. ⌜ e ≡ epsOf (now (mesh .entry)) n ⌝ }
 {
     1e-12 * numbers::max(scale(mesh, n), 1.0)

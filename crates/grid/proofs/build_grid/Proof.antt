@@ -14,7 +14,7 @@ use Rattle.grid.proofs.build_grid.Statement.{statement}
 use Rattle.grid.proofs.build_grid.Tie as tie
 
 grid-of-requires : tie.Need-grid-of-requires
-grid-of-requires c κs = let a = accepted _ _ _ (c .before .before .before .pre) in (omega (arith, a .nine), grid-fits _ _ _ a)
+grid-of-requires c κs = let a = accepted _ _ _ (c .before .before .before .pre) in (omega (arith, a .nine), (a .numbers, grid-fits _ _ _ a))
 
 returns : tie.Need-returns
 returns c =

@@ -8,12 +8,12 @@ use Rattle.grid.proofs.grid_of.Tie as tie
 cells-along-requires : tie.Need-cells-along-requires
 cells-along-requires c κs =
     let b = c .before .before in
-    omega (arith, columns-are _ _ _ _ _ _ (b .extent-of .ensures) (c .before .span .ensures) (c .size .ensures), b .before .before .pre .1 .0)
+    omega (arith, columns-are _ _ _ _ _ _ (b .extent-of .ensures) (c .before .span .ensures) (c .size .ensures), b .before .before .pre .1 .1 .0)
 
 cells-along-requires-2 : tie.Need-cells-along-requires-2
 cells-along-requires-2 c κs =
     let b = c .before .before .before in
-    omega (arith, rows-are _ _ _ _ _ _ (b .extent-of .ensures) (c .before .before .span .ensures) (c .before .size .ensures), b .before .before .pre .1 .1)
+    omega (arith, rows-are _ _ _ _ _ _ (b .extent-of .ensures) (c .before .before .span .ensures) (c .before .size .ensures), b .before .before .pre .1 .1 .1)
 
 returns : tie.Need-returns
 returns c =

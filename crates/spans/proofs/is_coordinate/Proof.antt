@@ -1,14 +1,15 @@
 -- `spans::is_coordinate` meets its contract.
-use mathlib.Core.Path.{ap}
-use lib.Ieee.{Float, le}
-use Rattle.numbers.specs.Reals.{million}
-use Rattle.spans.specs.Mesh.{isCoordinate}
+use mathlib.Core.Path.{refl, _∙_}
+use Rattle.numbers.proofs.Branches.{and-on, and-off}
+use Rattle.spans.proofs.Plain.{coordinate-sides}
 use Rattle.spans.proofs.is_coordinate.Statement.{statement}
 use Rattle.spans.proofs.is_coordinate.Tie as tie
 
 returns : tie.Need-returns
-unfolding isCoordinate
-returns c = ap (λ (v : Float). le v million) (c .abs .ensures)
+returns c = and-on _ _ _ (c .if1 .taken) refl ∙ coordinate-sides _
+
+returns-2 : tie.Need-returns-2
+returns-2 c = and-off _ _ _ (c .if1 .left) (c .if1 .left) ∙ coordinate-sides _
 
 pub is-coordinate-spec : {M : Type 1} → statement M
-is-coordinate-spec = tie.close (tie.spec (λ c κs. tt) returns)
+is-coordinate-spec = tie.close (tie.spec returns returns-2)

@@ -1,0 +1,165 @@
+-- Where no number is a NaN a comparison gives the maximum, the minimum and the magnitude.
+use mathlib.Core.Bool.{Bool, true, false, _&&_, _||_}
+use mathlib.Core.List.{List}
+use mathlib.Core.Path.{_≡_, refl, ap, sym, _∙_}
+use Prim.Native.Nat.{ℕ, zero, suc, _+_, _*_, _≤_, _<_}
+use native.Mathlib.Omega.{arith}
+use borrow.Author.Tests.{eqb-true, eqb-false, eq-eqb, ne-eqb}
+use lib.Dec.{eqb, ltb}
+use lib.IntN.{ℤ, pos}
+use lib.ListN.{length}
+use lib.Ieee.{Float, nan, inf, fin, binary64, ofBits, up, down, neg, lt, le, isNan}
+use Rattle.numbers.specs.Reals.{f0, million, num, maxOf, minOf, absOf}
+use Rattle.plane.specs.Mesh.{triangleOf}
+use Rattle.plane.specs.declared.Triangle.{Triangle}
+use Rattle.plane.specs.declared.Bounds.{Bounds}
+use Rattle.spans.specs.Mesh.{isCoordinate, boxOf, widened, extentOf, farther}
+use Rattle.spans.specs.Good.{Good, AllGood, Corners, Ends, upright}
+use Rattle.spans.specs.declared.Extent.{Extent}
+use Rattle.spans.proofs.Signed.{le-apart}
+use Rattle.spans.proofs.Ranges.{million-is}
+use Rattle.spans.proofs.Sizes.{by-test, either-of}
+use Rattle.spans.proofs.Extremes.{min-either, box-x, box-y}
+use Rattle.spans.proofs.Scales.{true-of}
+
+no : true ≡ false → ⊥
+no z = let k : _≡_ {A = ℕ} 0 1 = cc in omega arith
+
+-- ---- a coordinate lies from -1e6 to 1e6
+abbrev pub minusMillion : Float
+minusMillion = ofBits binary64 0xc12e_8480_0000_0000
+
+minus-is : minusMillion ≡ fin true 15625 (pos 6)
+unfolding ofBits
+minus-is = refl
+
+turned : (a b : ℕ) → eqb a b ≡ eqb b a
+turned a b = by-test (eqb a b) (λ e. e ∙ sym (eq-eqb b a (sym (eqb-true a b e)))) (λ e. e ∙ sym (ne-eqb b a (λ z. eqb-false a b e (sym z))))
+
+mirrored : (m : ℕ) (k : ℤ) → le (fin true 15625 (pos 6)) (fin true m k) ≡ le (fin false m k) (fin false 15625 (pos 6))
+unfolding le
+mirrored m k = ap (λ (t : Bool). ltb (m * up k * 1) (1000000 * down k) || (t && true)) (turned (1000000 * down k) (m * up k * 1))
+
+on-left : (a b : Bool) → a ≡ true → (a && b) ≡ b
+on-left a b e = rw e
+
+off-right : (a b : Bool) → b ≡ true → a ≡ (a && b)
+off-right true b e = sym e
+off-right false b e = refl
+
+sides : (x : Float) → (le (fin true 15625 (pos 6)) x && le x (fin false 15625 (pos 6))) ≡ le (absOf x) (fin false 15625 (pos 6))
+unfolding absOf
+sides nan = unfold le in refl
+sides (inf true) = unfold le in refl
+sides (inf false) = unfold le in refl
+sides (fin false m k) = on-left (le (fin true 15625 (pos 6)) (fin false m k)) (le (fin false m k) (fin false 15625 (pos 6))) (true-of _ (le-apart (fin true 15625 (pos 6)) (fin false m k) tt tt))
+sides (fin true m k) =
+    sym (off-right (le (fin true 15625 (pos 6)) (fin true m k)) (le (fin true m k) (fin false 15625 (pos 6))) (true-of _ (le-apart (fin true m k) (fin false 15625 (pos 6)) tt tt))) ∙ mirrored m k
+
+pub coordinate-sides : (x : Float) → (le minusMillion x && le x million) ≡ isCoordinate x
+unfolding isCoordinate
+coordinate-sides x = rw (minus-is, million-is) (sides x)
+
+-- ---- no NaN
+pub good-not-nan : (x : Float) → Good x → isNan x ≡ false
+unfolding isCoordinate absOf isNan le
+good-not-nan nan e = sym e
+good-not-nan (inf s) e = refl
+good-not-nan (fin s m k) e = refl
+
+pub min-not-nan : (x y : Float) → isNan x ≡ false → isNan y ≡ false → isNan (minOf x y) ≡ false
+min-not-nan x y p q = min-either (λ v. isNan v ≡ false) x y p q
+
+pub max-not-nan : (x y : Float) → isNan x ≡ false → isNan y ≡ false → isNan (maxOf x y) ≡ false
+max-not-nan x y p q = either-of (λ v. isNan v ≡ false) x y p q
+
+-- ---- magnitudes
+upright-not-nan : (m : Float) → upright m ≡ true → isNan m ≡ false
+unfolding upright isNan
+upright-not-nan nan e = sym e
+upright-not-nan (inf s) e = refl
+upright-not-nan (fin s n k) e = refl
+
+not-under : (m : Float) (n : ℕ) (k : ℤ) → upright m ≡ true → lt m (fin true n k) ≡ false
+unfolding upright lt
+not-under nan n k e = refl
+not-under (inf false) n k e = refl
+not-under (inf true) n k e = sym e
+not-under (fin false a b) n k e = refl
+not-under (fin true a b) n k e = absurd (no (sym e))
+
+max-stays : (v w : Float) → isNan v ≡ false → lt v w ≡ false → maxOf v w ≡ v
+unfolding maxOf
+max-stays v w p q = rw (p, q)
+
+bad-nan : Good nan → ⊥
+unfolding isCoordinate absOf le
+bad-nan g = no (sym g)
+
+over : le (inf false) (fin false 15625 (pos 6)) ≡ true → ⊥
+unfolding le
+over e = no (sym e)
+
+bad-inf : (s : Bool) → Good (inf s) → ⊥
+unfolding isCoordinate absOf
+bad-inf s g = over (rw million-is at g)
+
+size-upright : (x : Float) → Good x → upright (absOf x) ≡ true
+unfolding upright absOf
+size-upright nan g = absurd (bad-nan g)
+size-upright (inf s) g = refl
+size-upright (fin s n k) g = refl
+
+pub upright-more : (m x : Float) → upright m ≡ true → Good x → upright (maxOf m (absOf x)) ≡ true
+upright-more m x u g = either-of (λ v. upright v ≡ true) m (absOf x) u (size-upright x g)
+
+pub upright-zero : upright f0 ≡ true
+unfolding upright ofBits
+upright-zero = refl
+
+pub upright-farther : (m x y z : Float) → upright m ≡ true → Good x → Good y → Good z → upright (farther m x y z) ≡ true
+unfolding farther
+upright-farther m x y z u p q r = upright-more _ z (upright-more _ y (upright-more m x u p) q) r
+
+pub larger-not-nan : (m x : Float) → upright m ≡ true → Good x → (isNan m ≡ false) × (isNan (maxOf m x) ≡ false)
+larger-not-nan m x u g = let p = upright-not-nan m u in (p, max-not-nan m x p (good-not-nan x g))
+
+pub beyond-is : (m x : Float) → upright m ≡ true → Good x → maxOf (maxOf m x) (neg x) ≡ maxOf m (absOf x)
+unfolding neg absOf
+beyond-is m nan u g = absurd (bad-nan g)
+beyond-is m (inf s) u g = absurd (bad-inf s g)
+beyond-is m (fin false n k) u g =
+    let v = either-of (λ v. upright v ≡ true) m (fin false n k) u (unfold upright in refl) in
+    max-stays _ _ (upright-not-nan _ v) (not-under _ n k v)
+beyond-is m (fin true n k) u g = ap (λ (v : Float). maxOf v (fin false n k)) (max-stays m (fin true n k) (upright-not-nan m u) (not-under m n k u))
+
+-- ---- of a mesh
+module _ (mesh : List Float) (good : AllGood mesh) where
+  pub corners : (i : ℕ) → 9 * i + 9 ≤ length mesh → Corners (triangleOf mesh i)
+  unfolding triangleOf
+  corners i h =
+      record {
+        ax = good _ (omega arith);
+        ay = good _ (omega arith);
+        az = good _ (omega arith);
+        bx = good _ (omega arith);
+        by = good _ (omega arith);
+        bz = good _ (omega arith);
+        cx = good _ (omega arith);
+        cy = good _ (omega arith);
+        cz = good _ (omega arith);
+      }
+
+  pub ends : (n : ℕ) → n * 9 ≤ length mesh → Ends (extentOf mesh n)
+  unfolding extentOf widened
+  ends zero h = unfold isNan in record { left = refl; bottom = refl; right = refl; top = refl }
+  ends (suc n) h =
+      let e = ends n (omega arith) in
+      let x = box-x mesh good n (omega arith) in
+      let y = box-y mesh good n (omega arith) in
+      record {
+        left = min-not-nan _ _ (e .left) (good-not-nan _ (x .0));
+        bottom = min-not-nan _ _ (e .bottom) (good-not-nan _ (y .0));
+        right = max-not-nan _ _ (e .right) (good-not-nan _ (x .1));
+        top = max-not-nan _ _ (e .top) (good-not-nan _ (y .1));
+      }

@@ -1,0 +1,44 @@
+-- What the parts of the builder rely on once refusal 4 has passed: no number is a NaN, so that a plain comparison is a maximum or a minimum.
+use mathlib.Core.Bool.{Bool, true, false, not}
+use mathlib.Core.List.{List}
+use mathlib.Core.Path.{_≡_}
+use Prim.Native.Nat.{ℕ, _<_}
+use lib.ListN.{length}
+use lib.Ieee.{Float, nan, inf, fin, isNan}
+use Rattle.numbers.specs.Reals.{num}
+use Rattle.plane.specs.declared.Triangle.{Triangle}
+use Rattle.spans.specs.Mesh.{isCoordinate}
+use Rattle.spans.specs.declared.Extent.{Extent}
+
+-- x is a coordinate.
+abbrev pub Good : Float → Type 0
+Good x = isCoordinate x ≡ true
+
+-- Every number of a mesh is a coordinate.
+abbrev pub AllGood : List Float → Type 0
+AllGood mesh = (k : ℕ) → k < length mesh → Good (num mesh k)
+
+-- Every number of a triangle is one.
+pub record Corners (t : Triangle) : Type 0 where
+  pub ax : Good (t .ax)
+  pub ay : Good (t .ay)
+  pub az : Good (t .az)
+  pub bx : Good (t .bx)
+  pub by : Good (t .by)
+  pub bz : Good (t .bz)
+  pub cx : Good (t .cx)
+  pub cy : Good (t .cy)
+  pub cz : Good (t .cz)
+
+-- Extremes, of which none is a NaN.
+pub record Ends (e : Extent) : Type 0 where
+  pub left : isNan (e .left) ≡ false
+  pub bottom : isNan (e .bottom) ≡ false
+  pub right : isNan (e .right) ≡ false
+  pub top : isNan (e .top) ≡ false
+
+-- No NaN, and its sign is plus.
+unfoldable pub upright : Float → Bool
+upright nan = false
+upright (inf s) = not s
+upright (fin s m e) = not s
