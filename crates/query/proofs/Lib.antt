@@ -1,3 +1,4 @@
 pub mod Patches
 pub mod Testing
 pub mod Using
+pub mod Looks

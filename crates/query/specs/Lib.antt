@@ -1,3 +1,4 @@
 pub mod Asked
 pub mod Patch
 pub mod Usable
+pub mod Looked
