@@ -9,7 +9,7 @@ use Rattle.numbers.proofs.Branches.{taken, left}
 use Rattle.plane.specs.declared.Triangle.{Triangle}
 use Rattle.plane.specs.declared.Contact.{Contact}
 use Rattle.plane.specs.Mesh.{triangleOf, topOf}
-use Rattle.capsule.specs.Peaks.{maxInCapsule}
+use Rattle.capsule.specs.Candidates.{maxInCapsule}
 use Rattle.walk.specs.Walk.{Walk, fold}
 use Rattle.walk.specs.Steps.{look, Below}
 use Rattle.walk.proofs.Rings.{Kept, look-keeps, fold-keeps}

@@ -7,7 +7,7 @@ use Rattle.numbers.specs.Reals.{maxOf}
 use Rattle.plane.specs.declared.Contact.{Contact}
 use Rattle.plane.specs.declared.Contact.the-variants.{Nothing, Height}
 use Rattle.plane.specs.Mesh.{triangleOf, topOf}
-use Rattle.capsule.specs.Peaks.{maxInCapsule}
+use Rattle.capsule.specs.Candidates.{maxInCapsule}
 use Rattle.walk.specs.Walk.{Walk, block, walked, nextStamp, readyMarks}
 use Rattle.walk.specs.Steps.{Walkable}
 use Rattle.grid.specs.declared.Header.{Header}
