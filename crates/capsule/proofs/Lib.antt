@@ -1,3 +1,4 @@
 pub mod Picking
 pub mod Gathering
 pub mod Extremes
+pub mod Answers

@@ -1,6 +1,7 @@
 -- Document 01, the row of `max_in_capsule`: the capsule that the disk sweeps, seen from above, and what its points make of a contact.
 use mathlib.Core.Bool.{Bool, true, false, cond}
-use mathlib.Core.List.{List, [], _∷_, _++_}
+use mathlib.Core.Path.{_≡_}
+use mathlib.Core.List.{List, [], _∷_, List·Memᴰ}
 use Prim.Native.Nat.{ℕ}
 use lib.Dec.{eqb}
 use lib.Ieee.{Float, lt, le, neg}
@@ -50,6 +51,11 @@ offerOf k c v = cond (inCapsule k (v .x) (v .y)) (takeOf c (v .z)) c
 unfoldable pub gathered : Capsule → Contact → List Point → Contact
 gathered k c [] = c
 gathered k c (v ∷ vs) = gathered k (offerOf k c v) vs
+
+-- what the points of a list can make of no contact: none, or the height of one of them that lies in the capsule
+pub data Among (k : Capsule) (vs : List Point) : Contact → Type 0 where
+  none : Among k vs Nothing
+  met : (v : Point) → List·Memᴰ v vs → inCapsule k (v .x) (v .y) ≡ true → Among k vs (Height (v .z))
 
 -- the contact that a count of heights found and the best of them stand for
 unfoldable pub contactOf : Best → Contact

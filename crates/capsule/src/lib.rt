@@ -4,15 +4,14 @@ ghost use mathlib.Core.Bool.{cond};
 ghost use mathlib.Core.Path.{_≡_};
 ghost use lib.Ieee.{lt};
 ghost use lib.ListN.{getD};
-ghost use Rattle.numbers.specs.Reals.{f0, f1};
+ghost use Rattle.numbers.specs.Reals.{f0};
 ghost use Rattle.plane.specs.Contacts.{takeOf};
-ghost use Rattle.capsule.specs.Region.{normalOf, capsuleOf, offerOf, gathered, contactOf};
+ghost use Rattle.capsule.specs.Region.{normalOf, capsuleOf, offerOf, gathered, Among, contactOf};
 ghost use Rattle.capsule.specs.Candidates.{each, corners, edgeOf, edges, ends, onEdge, reached, circled, sided, sides, crossed};
-ghost use Rattle.capsule.specs.Candidates.{upright, riseOf, tangents, flank, flanks, places, over, inner, highestIn, maxInCapsule};
+ghost use Rattle.capsule.specs.Candidates.{upright, riseOf, tangents, flank, flanks, places, over, inner, candidates, highestIn, maxInCapsule};
 use plane::Contact;
 use plane::Spot;
 use plane::Triangle;
-use plane::Weights;
 
 const MINUS_ONE: f64 = -1.0;
 
@@ -115,10 +114,17 @@ fn normal_of(dx: f64, dy: f64, len: f64) -> Place
 pub fn highest_in(k: Capsule, t: Triangle) -> Contact
     ensures { λ c. ⌜ c ≡ highestIn k t ⌝ }
 {
+    contact_of(found_in(k, t))
+}
+
+// The same before a contact is made of it: none, or the height of one of the candidates.
+fn found_in(k: Capsule, t: Triangle) -> Best
+    ensures { λ b. ⌜ (contactOf b ≡ highestIn k t) × Among k (candidates k t) (contactOf b) ⌝ }
+{
     let none = Best { found: 0, z: 0.0 };
     let corners = offer_corners(k, none, t);
     let crossings = offer_edges(k, corners, t);
-    contact_of(offer_inner(k, crossings, t))
+    offer_inner(k, crossings, t)
 }
 
 // The contact that was found.
