@@ -1,13 +1,16 @@
 -- What a C function leaves behind: its answer, the lent tables, and the fixed arrays with the rest of the library's answer.
-use mathlib.Core.Bool.{Bool, true, false}
+use mathlib.Core.Bool.{Bool, true, false, cond}
 use mathlib.Core.List.{List, [], _∷_}
 use Prim.Native.Nat.{ℕ}
+use lib.Dec.{eqb}
 use lib.Ieee.{Float}
 use Rattle.numbers.specs.Reals.{f0, num}
 use Rattle.plane.specs.declared.Contact.{Contact}
 use Rattle.plane.specs.declared.Contact.the-variants.{Nothing, Height}
 use Rattle.section.specs.declared.Section.{Section}
-use Rattle.job.specs.Reader.{Outcome}
+use Rattle.grid.specs.declared.Header.{Header}
+use Rattle.grid.specs.Build.{Outcome}
+use Rattle.job.specs.Reader as reader
 
 -- A job read: the refusal, both tables, floor and radius, the numbers of triangles and questions.
 pub record JobLeft : Type 0 where
@@ -20,7 +23,7 @@ pub record JobLeft : Type 0 where
 abbrev pub jobLeft : ℕ → List Float → List Float → List Float → List ℕ → JobLeft
 jobLeft k ms qs fs ns = record { refusal = k; mesh = ms; questions = qs; measures = fs; sizes = ns }
 
-unfoldable pub jobLeftBy : Outcome → JobLeft
+unfoldable pub jobLeftBy : reader.Outcome → JobLeft
 jobLeftBy o =
     let a = o .answer in
     jobLeft (a .refusal) (o .mesh) (o .questions) (a .floor ∷ a .radius ∷ []) (a .n ∷ a .m ∷ [])
@@ -40,3 +43,29 @@ contactLeftBy (Height z) = contactLeft true (z ∷ [])
 -- A section from its four numbers.
 unfoldable pub sectionFrom : List Float → Section
 sectionFrom xs = record { z0 = num xs 0; r0 = num xs 1; r1 = num xs 2; rise = num xs 3 }
+
+-- A header as C holds it: its measures (origin x, origin y, cell, floor, eps, r) and its sizes (n, columns, rows).
+abbrev pub measuresOf : Header → List Float
+measuresOf h = h .«origin_x» ∷ h .«origin_y» ∷ h .cell ∷ h .floor ∷ h .eps ∷ h .r ∷ []
+
+abbrev pub sizesOf : Header → List ℕ
+sizesOf h = h .n ∷ h .columns ∷ h .rows ∷ []
+
+-- An index built: the refusal, both tables, measures and sizes; a refusal leaves zeros in the last two.
+pub record BuiltLeft : Type 0 where
+  pub refusal : ℕ
+  pub starts : List ℕ
+  pub members : List ℕ
+  pub measures : List Float
+  pub sizes : List ℕ
+
+abbrev pub builtLeft : ℕ → List ℕ → List ℕ → List Float → List ℕ → BuiltLeft
+builtLeft k s m fs ns = record { refusal = k; starts = s; members = m; measures = fs; sizes = ns }
+
+unfoldable pub builtLeftBy : Outcome → BuiltLeft
+builtLeftBy o =
+    let k = o .built .refusal in
+    let h = o .built .header in
+    cond (eqb k 0)
+    (builtLeft k (o .starts) (o .members) (measuresOf h) (sizesOf h))
+    (builtLeft k (o .starts) (o .members) (f0 ∷ f0 ∷ f0 ∷ f0 ∷ f0 ∷ f0 ∷ []) (0 ∷ 0 ∷ 0 ∷ []))

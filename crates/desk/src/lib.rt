@@ -7,9 +7,11 @@ ghost use Rattle.numbers.specs.Rounding.{roundDownOf, roundUpOf};
 ghost use Rattle.numbers.specs.Hypot.{hypotOf};
 ghost use Rattle.numbers.specs.Order.{totalLess};
 ghost use Rattle.job.specs.Reader.{readOf};
+ghost use Rattle.capsule.specs.Candidates.{maxInCapsule};
 ghost use Rattle.bull.specs.Bull.{bullProfile, bullContactAbove};
 ghost use Rattle.section.specs.Section.{sectionContact};
-ghost use Rattle.desk.specs.Doors.{jobLeft, jobLeftBy, contactLeft, contactLeftBy, sectionFrom};
+ghost use Rattle.desk.specs.Doors.{jobLeft, jobLeftBy, contactLeft, contactLeftBy, sectionFrom, builtLeft, builtLeftBy};
+ghost use Rattle.grid.specs.Build.{buildOf};
 ghost use Rattle.plane.specs.Mesh.{triangleOf};
 ghost use Rattle.plane.specs.Distance.{dist2ToSegment, distanceXy};
 use bull::Bull;
@@ -141,6 +143,14 @@ fn lay(c: Contact, height: &mut [f64; 1]) -> bool
     }
 }
 
+// The disk of radius r swept from (px, py) to (qx, qy), and one triangle.
+#[no_mangle]
+pub extern "C" fn mandrikelo_max_in_capsule(triangle: &[f64; 9], px: f64, py: f64, qx: f64, qy: f64, r: f64, eps: f64, height: &mut [f64; 1]) -> bool
+    ensures { λ b. ⌜ contactLeft b (now (height .exit)) ≡ contactLeftBy (maxInCapsule (triangleOf (now (triangle .entry)) 0) px py qx qy r eps) ⌝ }
+{
+    lay(capsule::max_in_capsule(plane::triangle_at(triangle, 0), px, py, qx, qy, r, eps), height)
+}
+
 // The height of a bull-nose cutter over its tip, at distance d from its axis.
 #[no_mangle]
 pub extern "C" fn mandrikelo_bull_profile(d: f64, r: f64, rc: f64) -> f64
@@ -195,4 +205,22 @@ pub extern "C" fn mandrikelo_section_contact(
         section::section_contact(plane::triangle_at(triangle, 0), px, py, s),
         height,
     )
+}
+
+// The index of a mesh: starts and members get its tables, measures and sizes its header.
+#[no_mangle]
+pub extern "C" fn mandrikelo_build(mesh: &[f64], floor: f64, r: f64, starts: &mut [u32], members: &mut [u32], measures: &mut [f64; 6], sizes: &mut [u32; 3]) -> u32
+    ensures { λ k. ⌜ builtLeft k (now (starts .exit)) (now (members .exit)) (now (measures .exit)) (now (sizes .exit)) ≡ builtLeftBy (buildOf (now (mesh .entry)) floor r (now (starts .entry)) (now (members .entry))) ⌝ }
+{
+    let b = grid::build(mesh, floor, r, starts, members);
+    let k = b.refusal;
+    if k != 0 {
+        *measures = [0.0, 0.0, 0.0, 0.0, 0.0, 0.0];
+        *sizes = [0, 0, 0];
+        return k;
+    }
+    let h = b.header;
+    *measures = [h.origin_x, h.origin_y, h.cell, h.floor, h.eps, h.r];
+    *sizes = [h.n as u32, h.columns as u32, h.rows as u32];
+    k
 }

@@ -1,0 +1,57 @@
+-- What the builder leaves, refused and accepted, and that a header in its ranges fits the arrays of C.
+use mathlib.Core.Bool.{Bool, true, _&&_}
+use mathlib.Core.List.{[], _∷_}
+use mathlib.Core.Path.{_≡_, refl}
+use Prim.Native.Nat.{ℕ, _*_, _^_, _<_}
+use native.Mathlib.Omega.{arith}
+use borrow.Author.Tests.{eq-eqb, ne-eqb}
+use lib.Dec.{eqb}
+use lib.Ieee.{lt, le}
+use Rattle.numbers.specs.Reals.{f0, millionth, twoMillion, twoMillionths}
+use Rattle.numbers.proofs.Branches.{taken, left}
+use Rattle.cells.specs.Cover.{isFrom}
+use Rattle.spans.specs.Mesh.{isCoordinate, isRadius}
+use Rattle.grid.specs.declared.Header.{Header}
+use Rattle.grid.specs.Header.{inRanges}
+use Rattle.grid.specs.Build.{Outcome}
+use Rattle.header.proofs.Ands.{both, from-is}
+use Rattle.desk.specs.Doors.{measuresOf, sizesOf, builtLeft, builtLeftBy}
+
+pub record Narrow (h : Header) : Type 0 where
+  pub n : h .n < 2 ^ 32
+  pub columns : h .columns < 2 ^ 32
+  pub rows : h .rows < 2 ^ 32
+
+fits : (k : ℕ) → isFrom 1 65536 k ≡ true → k < 2 ^ 32
+fits k e = let most = from-is 1 65536 k e .1 in omega (arith, most)
+
+pub narrow : (h : Header) → inRanges h ≡ true → Narrow h
+unfolding inRanges
+narrow h e =
+    let i : Bool = isFrom 1 1048576 (h .rows * h .columns) && ((lt f0 (h .eps) && le (h .eps) twoMillionths) && isRadius (h .r)) in
+    let g : Bool = isFrom 1 65536 (h .rows) && i in
+    let f : Bool = (le millionth (h .cell) && le (h .cell) twoMillion) && (isFrom 1 65536 (h .columns) && g) in
+    let a = both (isFrom 1 65536 (h .n)) (isCoordinate (h .«origin_x») && (isCoordinate (h .«origin_y») && (isCoordinate (h .floor) && f))) e in
+    let b = both (isCoordinate (h .«origin_x»)) (isCoordinate (h .«origin_y») && (isCoordinate (h .floor) && f)) (a .1) in
+    let c = both (isCoordinate (h .floor)) f (both (isCoordinate (h .«origin_y»)) (isCoordinate (h .floor) && f) (b .1) .1) in
+    let d = both (isFrom 1 65536 (h .columns)) g (both (le millionth (h .cell) && le (h .cell) twoMillion) (isFrom 1 65536 (h .columns) && g) (c .1) .1) in
+    let k = both (isFrom 1 65536 (h .rows)) i (d .1) in
+    record { n = fits (h .n) (a .0); columns = fits (h .columns) (d .0); rows = fits (h .rows) (k .0) }
+
+pub refused-left : (o : Outcome) → (o .built .refusal ≡ 0 → ⊥) → builtLeft (o .built .refusal) (o .starts) (o .members) (f0 ∷ f0 ∷ f0 ∷ f0 ∷ f0 ∷ f0 ∷ []) (0 ∷ 0 ∷ 0 ∷ []) ≡ builtLeftBy o
+unfolding builtLeftBy
+refused-left o some =
+    let k = o .built .refusal in
+    left (eqb k 0) (builtLeft k (o .starts) (o .members) (f0 ∷ f0 ∷ f0 ∷ f0 ∷ f0 ∷ f0 ∷ []) (0 ∷ 0 ∷ 0 ∷ []))
+    (builtLeft k (o .starts) (o .members) (measuresOf (o .built .header)) (sizesOf (o .built .header)))
+    (builtLeft k (o .starts) (o .members) (f0 ∷ f0 ∷ f0 ∷ f0 ∷ f0 ∷ f0 ∷ []) (0 ∷ 0 ∷ 0 ∷ []))
+    (ne-eqb k 0 some) refl
+
+pub accepted-left : (o : Outcome) → o .built .refusal ≡ 0 → builtLeft (o .built .refusal) (o .starts) (o .members) (measuresOf (o .built .header)) (sizesOf (o .built .header)) ≡ builtLeftBy o
+unfolding builtLeftBy
+accepted-left o none =
+    let k = o .built .refusal in
+    taken (eqb k 0) (builtLeft k (o .starts) (o .members) (measuresOf (o .built .header)) (sizesOf (o .built .header)))
+    (builtLeft k (o .starts) (o .members) (measuresOf (o .built .header)) (sizesOf (o .built .header)))
+    (builtLeft k (o .starts) (o .members) (f0 ∷ f0 ∷ f0 ∷ f0 ∷ f0 ∷ f0 ∷ []) (0 ∷ 0 ∷ 0 ∷ []))
+    (eq-eqb k 0 none) refl

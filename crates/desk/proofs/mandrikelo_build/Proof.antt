@@ -1,0 +1,47 @@
+use borrow.Author.Needs.{needs}
+use mathlib.Core.Path.{ap, _∙_}
+use Rattle.grid.specs.Build.{outcome}
+use Rattle.desk.specs.Doors.{builtLeftBy}
+use Rattle.desk.proofs.Left.{narrow, refused-left, accepted-left}
+use Rattle.desk.proofs.mandrikelo_build.Statement.{statement}
+use Rattle.desk.proofs.mandrikelo_build.Tie as tie
+
+returns : tie.Need-returns
+returns c =
+    let b = c .before .before .before .before .before .before .before .build in
+    refused-left (outcome (b .result) (b .last .1 .1 .1 .0) (b .last .1 .1 .1 .1 .0)) (c .before .before .if1 .taken) ∙ ap builtLeftBy (b .ensures .0)
+
+cast-t16 : tie.Need-cast-t16
+cast-t16 c =
+    let b = c .before .before .before .before .before .before .before .before .build in
+    record { fits = narrow (b .result .header) (b .ensures .1 (c .before .before .before .if1 .left) .ranges) .n }
+
+cast-t17 : tie.Need-cast-t17
+cast-t17 c =
+    let b = c .before .before .before .before .before .before .before .before .before .build in
+    record { fits = narrow (b .result .header) (b .ensures .1 (c .before .before .before .before .if1 .left) .ranges) .columns }
+
+cast-t18 : tie.Need-cast-t18
+cast-t18 c =
+    let b = c .before .before .before .before .before .before .before .before .before .before .build in
+    record { fits = narrow (b .result .header) (b .ensures .1 (c .before .before .before .before .before .if1 .left) .ranges) .rows }
+
+returns-2 : tie.Need-returns-2
+returns-2 c =
+    let b = c .before .before .before .before .before .before .before .before .before .before .before .build in
+    accepted-left (outcome (b .result) (b .last .1 .1 .1 .0) (b .last .1 .1 .1 .1 .0)) (c .before .before .before .before .before .before .if1 .left) ∙ ap builtLeftBy (b .ensures .0)
+
+pub mandrikelo-build-spec : {M : Type 1} → statement M
+mandrikelo-build-spec =
+    tie.close
+    (tie.spec
+    (λ c κs. tt)
+    (λ c. search needs)
+    (λ c. search needs)
+    returns
+    cast-t16
+    cast-t17
+    cast-t18
+    (λ c. search needs)
+    (λ c. search needs)
+    returns-2)
