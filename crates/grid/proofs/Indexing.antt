@@ -14,7 +14,7 @@ use Rattle.spans.specs.Mesh.{isCoordinate, extentOf, boxOf}
 use Rattle.spans.specs.Axis.{spanOf, sizeOf, cellsAlong, stretchOf}
 use Rattle.spans.proofs.Ranges.{coordinate, two}
 use Rattle.spans.proofs.Sizes.{Size, by-test, radius, size-range}
-use Rattle.spans.proofs.Extremes.{Ordered, ordered-x, ordered-y, along-few, in-order}
+use Rattle.spans.proofs.Extremes.{Ordered, ordered-x, ordered-y, along-few, in-order, near-ends}
 use Rattle.spans.proofs.Scales.{true-of, eps-above, eps-under}
 use Rattle.cells.specs.Cover.{isFrom, startOf, startsOf, membersTable, entries}
 use Rattle.cells.proofs.Building.{entries-length}
@@ -25,7 +25,7 @@ use Rattle.grid.specs.declared.Built.{Built}
 use Rattle.grid.specs.Grid.{trianglesIn, gridOf, cellsIn, cellsOf, coverOf}
 use Rattle.grid.specs.Header.{headed, gridIn, coversOf, inRanges}
 use Rattle.grid.specs.Build.{refusalOfMesh, refusalOfGrid, refusalOfMembers, Outcome, outcome, refusedBy, acceptedWith, unless, filledOf, gridded, buildOf}
-use Rattle.grid.specs.Indexed.{InGrid, Indexed, Gridded}
+use Rattle.grid.specs.Indexed.{InGrid, Indexed, NearBox, Gridded}
 use Rattle.grid.proofs.Gridding.{within}
 use Rattle.grid.proofs.Accepting.{Accepted, accepted, Passed, passed}
 
@@ -59,8 +59,24 @@ module _ (mesh : List Float) (floor r : Float) (a : Accepted mesh floor r) where
   unfolding gridOf cellsAlong
   grid-some = (omega arith, omega arith)
 
+  near-box : (i : ℕ) → i < trianglesIn mesh → gridOf mesh (trianglesIn mesh) r .columns ≤ 65536 → gridOf mesh (trianglesIn mesh) r .rows ≤ 65536 → NearBox (gridOf mesh (trianglesIn mesh) r) (boxOf mesh i)
+  unfolding gridOf
+  near-box i h c d =
+      let x = near-ends _ _ _ _ _ (across i h) size-good c in
+      let y = near-ends _ _ _ _ _ (upward i h) size-good d in
+      record { left = x .0; right = x .1; bottom = y .0; top = y .1 }
+
   pub grid-gridded : (lent : ℕ) → Passed (gridOf mesh (trianglesIn mesh) r .columns) (gridOf mesh (trianglesIn mesh) r .rows) lent → Gridded mesh (trianglesIn mesh) (gridOf mesh (trianglesIn mesh) r)
-  grid-gridded lent p = record { nine = omega (arith, a .nine); few = a .few; some = grid-some; wide = p .wide; tall = p .tall; numbers = a .numbers }
+  grid-gridded lent p =
+      record {
+        nine = omega (arith, a .nine);
+        few = a .few;
+        some = grid-some;
+        wide = p .wide;
+        tall = p .tall;
+        numbers = a .numbers;
+        near = λ i h. near-box i h (p .wide) (p .tall);
+      }
 
   lies : (i : ℕ) → i < trianglesIn mesh → InGrid (gridOf mesh (trianglesIn mesh) r) (cellsOf mesh (gridOf mesh (trianglesIn mesh) r) i)
   lies i h =

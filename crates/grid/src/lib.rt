@@ -2,13 +2,14 @@
 ghost use mathlib.Core.Path.{_≡_};
 ghost use Prim.Native.Nat.{_+_, _*_, _/_, _^_, _<_, _≤_};
 ghost use lib.ListN.{length};
+ghost use Rattle.spans.specs.Mesh.{boxOf};
 ghost use Rattle.spans.specs.Good.{AllGood};
 ghost use Rattle.cells.specs.Cover.{startsOf, membersTable};
 ghost use Rattle.cells.specs.Steps.{Room, CountedAll, Ready, Filled, Fits};
 ghost use Rattle.grid.specs.Grid.{trianglesIn, gridOf, cellsIn, cellsOf, coverOf, totalOf};
 ghost use Rattle.grid.specs.Header.{headed};
 ghost use Rattle.grid.specs.Build.{refusalOfNumbers, refusalOfMesh, refusalOfGrid, refusalOfMembers, outcome, refusedBy, filledOf, gridded, buildOf};
-ghost use Rattle.grid.specs.Indexed.{Indexed, Gridded};
+ghost use Rattle.grid.specs.Indexed.{Indexed, NearBox, Gridded};
 
 // Where a grid begins, how large its cells are, and how many there are.
 pub struct Grid {
@@ -215,6 +216,7 @@ fn header_of(mesh: &[f64], n: usize, g: Grid, floor: f64, r: f64) -> Header
 fn cells_of(mesh: &[f64], g: Grid, i: usize) -> cells::Cells
     requires { ⌜ (i * 9 + 9 ≤ length (now mesh)) × (0 < g .columns) × (0 < g .rows) ⌝ }
     requires { ⌜ AllGood (now mesh) ⌝ }
+    requires { ⌜ NearBox g (boxOf (now mesh) i) ⌝ }
     ensures { λ b. ⌜ b ≡ cellsOf (now (mesh .entry)) g i ⌝ }
 {
     let b = spans::box_of(mesh, i);

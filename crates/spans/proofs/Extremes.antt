@@ -13,9 +13,10 @@ use Rattle.numbers.specs.Reals.{_⊖_, _⊘_, num, maxOf, minOf}
 use Rattle.plane.specs.Mesh.{triangleOf, lowest, highest, boundsOf}
 use Rattle.spans.specs.Mesh.{isCoordinate, boxOf, widened, extentOf}
 use Rattle.spans.specs.Axis.{cellAt, cellsAlong, stretchOf}
+use Rattle.spans.specs.Good.{Near}
 use Rattle.spans.proofs.Rounding.{round-down-cuts}
 use Rattle.spans.proofs.Ranges.{Coordinate, coordinate, coordinate-finite, le-trans-finite}
-use Rattle.spans.proofs.Sizes.{Size, by-test, either-of, le-self, not-below, cells-few, cells-mono}
+use Rattle.spans.proofs.Sizes.{Size, f0-is, by-test, either-of, le-self, not-below, quotient-low, cells-few, cells-mono}
 
 -- ---- the smaller and the larger of two finite numbers
 lt-le : (x y : Float) → lt x y ≡ true → T (le x y)
@@ -232,3 +233,9 @@ module _ (lo low high hi s : Float) (o : Ordered lo low high hi) (z : Size s) wh
   unfolding stretchOf
   in-order =
       omega (arith, along, cells-mono lo low high s lo-c low-c high-c z (o .above) (o .order), cells-mono lo high hi s lo-c high-c hi-c z lo-high (o .under))
+
+  pub near-ends : cellsAlong lo hi s ≤ 65536 → Near lo s low × Near lo s high
+  near-ends k =
+      let a = cells-mono lo low high s lo-c low-c high-c z (o .above) (o .order) in
+      let b = cells-mono lo high hi s lo-c high-c hi-c z lo-high (o .under) in
+      (record { above = rw f0-is (quotient-low lo low s lo-c low-c z (o .above)); few = omega (arith, along) }, record { above = rw f0-is (quotient-low lo high s lo-c high-c z lo-high); few = omega (arith, along) })

@@ -8,3 +8,4 @@ pub mod Sizes
 pub mod Extremes
 pub mod Scales
 pub mod Plain
+pub mod Nearby

@@ -109,7 +109,7 @@ above-finite a x p h f = go x f (above-of-le a x p h)
     go (fin true m e) f t = absurd t
     go (fin false m e) f t = t
 
-f0-is : f0 ≡ fin false 0 (pos 0)
+pub f0-is : f0 ≡ fin false 0 (pos 0)
 unfolding ofBits
 f0-is = refl
 

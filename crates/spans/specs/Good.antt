@@ -4,10 +4,12 @@ use mathlib.Core.List.{List}
 use mathlib.Core.Path.{_≡_}
 use Prim.Native.Nat.{ℕ, _<_}
 use lib.ListN.{length}
-use lib.Ieee.{Float, nan, inf, fin, isNan}
-use Rattle.numbers.specs.Reals.{num}
+use lib.Dec.{T}
+use lib.Ieee.{Float, nan, inf, fin, le, isNan}
+use Rattle.numbers.specs.Reals.{_⊖_, _⊘_, f0, num}
 use Rattle.plane.specs.declared.Triangle.{Triangle}
 use Rattle.spans.specs.Mesh.{isCoordinate}
+use Rattle.spans.specs.Axis.{cellAt}
 use Rattle.spans.specs.declared.Extent.{Extent}
 
 -- x is a coordinate.
@@ -42,3 +44,8 @@ unfoldable pub upright : Float → Bool
 upright nan = false
 upright (inf s) = not s
 upright (fin s m e) = not s
+
+-- x is not below lo, and its cell is one of the first 65,536.
+pub record Near (lo size x : Float) : Type 0 where
+  pub above : T (le f0 ((x ⊖ lo) ⊘ size))
+  pub few : cellAt lo size x < 65536

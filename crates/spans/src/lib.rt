@@ -4,15 +4,19 @@ ghost use mathlib.Core.Path.{_≡_};
 ghost use Prim.Native.Nat.{_+_, _-_, _*_, _^_, _<_, _≤_, min};
 ghost use lib.ListN.{length};
 ghost use Rattle.spans.specs.Mesh.{isCoordinate, isRadius, firstBad, boxOf, widened, extentOf, farther, farthestOf, scaleOf, epsOf};
-ghost use lib.Ieee.{isNan};
-ghost use Rattle.numbers.specs.Reals.{maxOf, minOf, absOf};
+ghost use lib.Dec.{T};
+ghost use lib.Ieee.{isNan, le};
+ghost use Rattle.numbers.specs.Reals.{f0, maxOf, minOf, absOf};
 ghost use Rattle.plane.specs.Mesh.{lowest, highest, boundsOf};
-ghost use Rattle.spans.specs.Good.{Good, AllGood, Corners, Ends, upright};
+ghost use Rattle.spans.specs.Good.{Good, AllGood, Corners, Ends, upright, Near};
 ghost use Rattle.spans.specs.Axis.{spanOf, sizeOf, truncated, cellAt, cellsAlong, stretchOf};
 
 const MILLION: f64 = 1e6;
 
 const MINUS_MILLION: f64 = -1e6;
+
+// 2^52: from there on to 2^53 a float has no fraction.
+const SHIFT: f64 = 4503599627370496.0;
 
 // A place in a mesh, or none.
 pub enum Place {
@@ -225,11 +229,25 @@ pub fn cut(x: f64) -> u64
     0
 }
 
+// The same of an x from 0 on that is not too large: n is the whole number nearest to x, which is x without its fraction or one more.
+fn whole(x: f64) -> u64
+    requires { ⌜ T (le f0 x) × (truncated x < 65536) ⌝ }
+    ensures { λ k. ⌜ k ≡ truncated x ⌝ }
+{
+    let n = (x + SHIFT) - SHIFT;
+    let k = n as u32;
+    if x < n {
+        return (k - 1) as u64;
+    }
+    k as u64
+}
+
 // The cell that x lies in.
 fn cell_at(lo: f64, size: f64, x: f64) -> u64
+    requires { ⌜ Near lo size x ⌝ }
     ensures { λ k. ⌜ k ≡ cellAt lo size x ⌝ }
 {
-    cut((x - lo) / size)
+    whole((x - lo) / size)
 }
 
 // The cells on an axis.
@@ -251,7 +269,7 @@ fn held(k: u64, count: usize) -> usize
 
 // The cells from low to high on an axis of so many cells.
 pub fn stretch_of(lo: f64, size: f64, count: usize, low: f64, high: f64) -> Stretch
-    requires { ⌜ 0 < count ⌝ }
+    requires { ⌜ (0 < count) × Near lo size low × Near lo size high ⌝ }
     ensures { λ s. ⌜ s ≡ stretchOf lo size count low high ⌝ }
 {
     let first = cell_at(lo, size, low);

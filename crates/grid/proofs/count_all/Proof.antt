@@ -24,7 +24,7 @@ abbrev μ-loop : tie.MeasureT-loop
 μ-loop mesh n g starts₀ columns i₀ starts i = n - i
 
 cells-of-requires : tie.Need-cells-of-requires Inv-loop μ-loop
-cells-of-requires c κs = let s = c .before .before .before .before .before in (omega (arith, s .pre .0), s .pre .0 .numbers)
+cells-of-requires c κs = let s = c .before .before .before .before .before in (omega (arith, s .pre .0), (s .pre .0 .numbers, s .pre .0 .near _ (omega arith)))
 
 count-cells-requires : tie.Need-count-cells-requires Inv-loop μ-loop
 count-cells-requires c κs =

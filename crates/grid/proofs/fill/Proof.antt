@@ -27,7 +27,7 @@ loop-holds : tie.Need-loop-holds Inv-loop μ-loop
 loop-holds c = (filled-none _ _ _ _ _ (c .before .before .before .pre .1), omega arith)
 
 cells-of-requires : tie.Need-cells-of-requires Inv-loop μ-loop
-cells-of-requires c κs = let s = c .before .before .before .before .before .before .before in (omega (arith, s .pre .0), s .pre .0 .numbers)
+cells-of-requires c κs = let s = c .before .before .before .before .before .before .before in (omega (arith, s .pre .0), (s .pre .0 .numbers, s .pre .0 .near _ (omega arith)))
 
 cast-place-cells : tie.Need-cast-place-cells Inv-loop μ-loop
 cast-place-cells c = let s = c .before .before .before .before .before .before .before .before in omega (arith, s .pre .0 .few)

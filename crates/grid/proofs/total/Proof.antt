@@ -21,7 +21,7 @@ abbrev μ-loop : tie.MeasureT-loop
 μ-loop mesh n g t₀ i₀ t i = n - i
 
 cells-of-requires : tie.Need-cells-of-requires Inv-loop μ-loop
-cells-of-requires c κs = (omega (arith, c .before .before .before .pre), c .before .before .before .pre .numbers)
+cells-of-requires c κs = (omega (arith, c .before .before .before .pre), (c .before .before .before .pre .numbers, c .before .before .before .pre .near _ (omega arith)))
 
 area-requires : tie.Need-area-requires Inv-loop μ-loop
 area-requires c κs =

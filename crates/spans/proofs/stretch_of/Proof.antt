@@ -9,4 +9,4 @@ unfolding stretchOf
 returns c = rw (c .held .ensures, c .before .cell-at2 .ensures, c .before .before .cell-at .ensures)
 
 pub stretch-of-spec : {M : Type 1} → statement M
-stretch-of-spec = tie.close (tie.spec (λ c κs. tt) (λ c κs. tt) (λ c κs. search needs) returns)
+stretch-of-spec = tie.close (tie.spec (λ c κs. search needs) (λ c κs. search needs) (λ c κs. search needs) returns)
