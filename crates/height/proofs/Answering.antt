@@ -17,8 +17,8 @@ use Rattle.query.specs.declared.Patch.{Patch}
 use Rattle.query.specs.Asked.{isMarked}
 use Rattle.query.specs.Patch.{patchOf}
 use Rattle.query.specs.Usable.{usable}
+use Rattle.capsule.specs.declared.Capsule.{Capsule}
 use Rattle.height.specs.declared.Answer.{Answer}
-use Rattle.height.specs.declared.Sweep.{Sweep}
 use Rattle.height.specs.Sweep.{sweepOf, sweptIn, sweptOf}
 use Rattle.height.specs.Height.{isSweep, refusalOfNumbers, refusalOf, Outcome, ended, refusedBy, answeredBy, maxHeightOf}
 
@@ -63,7 +63,7 @@ module _ (mesh : List Float) (h : Header) (starts members marks : List ℕ) (sta
     usable-is n = sym g ∙ not-false u n
 
     -- accepted
-    pub answered : (q : Sweep) (w : Walk Float) (next : ℕ) → not u ≡ false → q ≡ sweepOf h px py qx qy r → w ≡ sweptIn mesh h starts members marks stamp q p → next ≡ nextStamp stamp → answeredBy w next ≡ answer
+    pub answered : (q : Capsule) (w : Walk Float) (next : ℕ) → not u ≡ false → q ≡ sweepOf h px py qx qy r → w ≡ sweptIn mesh h starts members marks stamp q p → next ≡ nextStamp stamp → answeredBy w next ≡ answer
     unfolding maxHeightOf refusalOf sweptOf
     answered q w next n a b d =
         taken _ _ _ _ (eq-eqb _ 0 (sym (taken _ _ _ _ (eq-eqb _ 0 (sym e ∙ z)) (demand-next _ 7 0 0 (sym used ∙ not-false u n) refl))))

@@ -9,14 +9,14 @@ use Rattle.numbers.proofs.Branches.{taken, left}
 use Rattle.plane.specs.declared.Triangle.{Triangle}
 use Rattle.plane.specs.declared.Contact.{Contact}
 use Rattle.plane.specs.Mesh.{triangleOf, topOf}
-use Rattle.capsule.specs.Candidates.{maxInCapsule}
+use Rattle.capsule.specs.Candidates.{highestIn}
 use Rattle.walk.specs.Walk.{Walk, fold}
 use Rattle.walk.specs.Steps.{look, Below}
 use Rattle.walk.proofs.Rings.{Kept, look-keeps, fold-keeps}
-use Rattle.height.specs.declared.Sweep.{Sweep}
+use Rattle.capsule.specs.declared.Capsule.{Capsule}
 use Rattle.height.specs.Sweep.{heightOf, raisedBy, raised}
 
-module _ (mesh : List Float) (q : Sweep) (best : Float) (i : ℕ) (t : Triangle) (top : Float) (a : t ≡ triangleOf mesh i) (b : top ≡ topOf t) where
+module _ (mesh : List Float) (q : Capsule) (best : Float) (i : ℕ) (t : Triangle) (top : Float) (a : t ≡ triangleOf mesh i) (b : top ≡ topOf t) where
   top-is : topOf (triangleOf mesh i) ≡ top
   top-is = sym (b ∙ ap topOf a)
 
@@ -24,11 +24,11 @@ module _ (mesh : List Float) (q : Sweep) (best : Float) (i : ℕ) (t : Triangle)
   unfolding raised
   raise-skips e = taken _ _ _ _ (ap (λ (z : Float). le z best) top-is ∙ e) refl
 
-  pub raise-takes : le top best ≡ false → (k : Contact) (v : Float) → k ≡ maxInCapsule t (q .px) (q .py) (q .qx) (q .qy) (q .r) (q .eps) → v ≡ raisedBy k best → v ≡ raised mesh q best i
+  pub raise-takes : le top best ≡ false → (k : Contact) (v : Float) → k ≡ highestIn q t → v ≡ raisedBy k best → v ≡ raised mesh q best i
   unfolding raised heightOf
   raise-takes e k v c d =
       left _ _ _ _ (ap (λ (z : Float). le z best) top-is ∙ e)
-      (d ∙ ap (λ (u : Contact). raisedBy u best) (c ∙ ap (λ (u : Triangle). maxInCapsule u (q .px) (q .py) (q .qx) (q .qy) (q .r) (q .eps)) a))
+      (d ∙ ap (λ (u : Contact). raisedBy u best) (c ∙ ap (highestIn q) a))
 
 -- what the step over one cell keeps
 pub cell-keeps : (stamp : ℕ) (step : Float → ℕ → Float) (ms : List ℕ) {w w′ : Walk Float} → w′ ≡ fold (look stamp step) w ms → Below (length (w .marks)) ms → Kept stamp w w′

@@ -4,10 +4,8 @@ use mathlib.Core.List.{List}
 use mathlib.Core.Path.{_≡_, refl, ap, sym, _∙_}
 use Prim.Native.Nat.{ℕ, _+_, _*_, _≤_, _<_, _^_}
 use native.Mathlib.Omega.{arith}
-use lib.Dec.{eqb}
 use lib.Ieee.{Float}
-use lib.ListN.{length, replicate, length-replicate}
-use Rattle.numbers.proofs.Branches.{either}
+use lib.ListN.{length}
 use Rattle.walk.specs.Walk.{Walk, block, fold, nextStamp, readyMarks}
 use Rattle.walk.specs.Steps.{seen, look, unmarked, Room, Walkable}
 use Rattle.walk.specs.declared.Seen.{Seen}
@@ -15,13 +13,9 @@ use Rattle.walk.proofs.Rings.{unmarked-length}
 use Rattle.walk.proofs.Lists.{walk-is}
 use Rattle.grid.specs.declared.Header.{Header}
 use Rattle.query.specs.declared.Patch.{Patch}
-use Rattle.height.specs.declared.Sweep.{Sweep}
+use Rattle.query.proofs.Looks.{ready-length}
+use Rattle.capsule.specs.declared.Capsule.{Capsule}
 use Rattle.height.specs.Sweep.{raised, sweptIn, Sweepable}
-
-ready-length : (marks : List ℕ) (stamp : ℕ) → length (readyMarks marks stamp) ≡ length marks
-unfolding readyMarks
-ready-length marks stamp =
-    either (λ (l : List ℕ). length l ≡ length marks) (eqb stamp 4294967295) _ _ (λ _. length-replicate (length marks) 0) (λ _. refl)
 
 module _ (mesh : List Float) (h : Header) (starts members marks : List ℕ) (stamp : ℕ) (p : Patch) (m : List ℕ) (next : ℕ) (e : m ≡ readyMarks marks stamp) where
   pub sweep-ready : length mesh ≡ length marks * 9 → length marks ≤ 65536 → Sweepable starts members (length marks) h p → (length mesh ≡ length m * 9) × Sweepable starts members (length m) h p × Room next (seen m (record { count = 0; best = h .floor }))
@@ -29,6 +23,6 @@ module _ (mesh : List Float) (h : Header) (starts members marks : List ℕ) (sta
       let l : length m ≡ length marks = ap length e ∙ ready-length marks stamp in
       (omega arith, rw l walk, omega (arith, unmarked-length next m))
 
-  pub sweep-is : (q : Sweep) (w : Walk Float) → next ≡ nextStamp stamp → w ≡ fold (look next (raised mesh q)) (seen m (record { count = 0; best = h .floor })) (block starts members (h .columns) (p .x0) (p .x1) (p .y0) (p .y1)) → w ≡ sweptIn mesh h starts members marks stamp q p
+  pub sweep-is : (q : Capsule) (w : Walk Float) → next ≡ nextStamp stamp → w ≡ fold (look next (raised mesh q)) (seen m (record { count = 0; best = h .floor })) (block starts members (h .columns) (p .x0) (p .x1) (p .y0) (p .y1)) → w ≡ sweptIn mesh h starts members marks stamp q p
   unfolding sweptIn
   sweep-is q w n f = f ∙ walk-is next (raised mesh q) _ _ ∙ (rw (e, n))

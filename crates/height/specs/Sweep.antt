@@ -7,18 +7,19 @@ use Rattle.numbers.specs.Reals.{maxOf}
 use Rattle.plane.specs.declared.Contact.{Contact}
 use Rattle.plane.specs.declared.Contact.the-variants.{Nothing, Height}
 use Rattle.plane.specs.Mesh.{triangleOf, topOf}
-use Rattle.capsule.specs.Candidates.{maxInCapsule}
+use Rattle.capsule.specs.declared.Capsule.{Capsule}
+use Rattle.capsule.specs.Region.{capsuleOf}
+use Rattle.capsule.specs.Candidates.{highestIn}
 use Rattle.walk.specs.Walk.{Walk, block, walked, nextStamp, readyMarks}
 use Rattle.walk.specs.Steps.{Walkable}
 use Rattle.grid.specs.declared.Header.{Header}
 use Rattle.query.specs.declared.Patch.{Patch}
 use Rattle.query.specs.Patch.{patchOf}
-use Rattle.height.specs.declared.Sweep.{Sweep}
 use Rattle.height.specs.declared.Swept.{Swept}
 
--- the computed height of triangle i: none, or a height
-unfoldable pub heightOf : List Float → Sweep → ℕ → Contact
-heightOf mesh q i = maxInCapsule (triangleOf mesh i) (q .px) (q .py) (q .qx) (q .qy) (q .r) (q .eps)
+-- The computed height of triangle i in the capsule that the disk sweeps: none, or a height.
+unfoldable pub heightOf : List Float → Capsule → ℕ → Contact
+heightOf mesh q i = highestIn q (triangleOf mesh i)
 
 -- the best so far, with one contact more
 unfoldable pub raisedBy : Contact → Float → Float
@@ -26,18 +27,18 @@ raisedBy Nothing best = best
 raisedBy (Height z) best = maxOf best z
 
 -- One triangle of the walk: it counts only where its top is above the best so far.
-unfoldable pub raised : List Float → Sweep → Float → ℕ → Float
+unfoldable pub raised : List Float → Capsule → Float → ℕ → Float
 raised mesh q best i = cond (le (topOf (triangleOf mesh i)) best) best (raisedBy (heightOf mesh q i) best)
 
 -- The walk of a sweep over the cells p: it begins at the header's floor, with the next stamp.
-unfoldable pub sweptIn : List Float → Header → List ℕ → List ℕ → List ℕ → ℕ → Sweep → Patch → Walk Float
+unfoldable pub sweptIn : List Float → Header → List ℕ → List ℕ → List ℕ → ℕ → Capsule → Patch → Walk Float
 sweptIn mesh h starts members marks stamp q p =
     walked (nextStamp stamp) (raised mesh q) (record { marks = readyMarks marks stamp; count = 0; value = h .floor })
     (block starts members (h .columns) (p .x0) (p .x1) (p .y0) (p .y1))
 
--- the sweep from p to q with radius r over a header's grid, and its walk over its own cells
-abbrev pub sweepOf : Header → Float → Float → Float → Float → Float → Sweep
-sweepOf h px py qx qy r = record { px = px; py = py; qx = qx; qy = qy; r = r; eps = h .eps }
+-- The capsule of a sweep from p to q with radius r, with the header's eps; and its walk over its own cells.
+abbrev pub sweepOf : Header → Float → Float → Float → Float → Float → Capsule
+sweepOf h px py qx qy r = capsuleOf px py qx qy r (h .eps)
 
 unfoldable pub sweptOf : List Float → Header → List ℕ → List ℕ → List ℕ → ℕ → Float → Float → Float → Float → Float → Walk Float
 sweptOf mesh h starts members marks stamp px py qx qy r =

@@ -5,22 +5,15 @@ ghost use lib.ListN.{length};
 ghost use Rattle.walk.specs.Walk.{block, fold, nextStamp};
 ghost use Rattle.walk.specs.Steps.{seen, look, Below, Room, Walkable};
 ghost use Rattle.query.specs.Patch.{patchOf};
+ghost use Rattle.query.specs.Looked.{IndexOf};
+ghost use Rattle.height.specs.Demand.{Demand3};
 ghost use Rattle.height.specs.Sweep.{raisedBy, raised, sweepOf, swept, sweptIn, sweptOf, Sweepable};
 ghost use Rattle.height.specs.Height.{arePoints, isSweep, refusalOfNumbers, refusedBy, ended, maxHeightOf};
+use capsule::Capsule;
 use grid::Header;
 use plane::Contact;
 use query::Patch;
 use walk::Seen;
-
-// A sweep from p to q with radius r; eps is the slack of the contacts.
-pub struct Sweep {
-    pub px: f64,
-    pub py: f64,
-    pub qx: f64,
-    pub qy: f64,
-    pub r: f64,
-    pub eps: f64,
-}
 
 // A question's answer: its refusal or 0, the height, how many triangles were looked at, and the stamp.
 pub struct Answer {
@@ -52,6 +45,7 @@ pub fn max_height(
     r: f64,
 ) -> Answer
     ensures { λ a. ⌜ ended a (now (marks .exit)) ≡ maxHeightOf (now (mesh .entry)) h (now (starts .entry)) (now (members .entry)) (now (marks .entry)) stamp px py qx qy r ⌝ }
+    ensures { λ a. ⌜ (IndexOf (now (mesh .entry)) h (now (starts .entry)) (now (members .entry)) → a .refusal ≡ 0 → Demand3 (now (mesh .entry)) h (now (starts .entry)) (now (members .entry)) (now (marks .entry)) stamp px py qx qy r a) ⌝ }
 {
     let k = refusal(mesh, marks, px, py, qx, qy, r);
     if k != 0 {
@@ -61,7 +55,16 @@ pub fn max_height(
     if !query::usable(mesh, h, starts, members, marks, stamp, p) {
         return refused(7, stamp);
     }
-    let s = sweep_in(mesh, h, starts, members, marks, stamp, sweep_of(h, px, py, qx, qy, r), p);
+    let s = sweep_in(
+        mesh,
+        h,
+        starts,
+        members,
+        marks,
+        stamp,
+        capsule::capsule_of(px, py, qx, qy, r, h.eps),
+        p,
+    );
     Answer {
         refusal: 0,
         height: s.height,
@@ -88,7 +91,16 @@ pub fn swept_height(
     ensures { λ s. ⌜ (swept s (now (marks .exit)) ≡ sweptOf (now (mesh .entry)) h (now (starts .entry)) (now (members .entry)) (now (marks .entry)) stamp px py qx qy r) × (s .stamp ≡ nextStamp stamp) ⌝ }
 {
     let p = query::patch_of(h, px, py, qx, qy, r);
-    sweep_in(mesh, h, starts, members, marks, stamp, sweep_of(h, px, py, qx, qy, r), p)
+    sweep_in(
+        mesh,
+        h,
+        starts,
+        members,
+        marks,
+        stamp,
+        capsule::capsule_of(px, py, qx, qy, r, h.eps),
+        p,
+    )
 }
 
 // A refusal: its number, zero height and count, and the stamp as handed.
@@ -146,20 +158,6 @@ fn refusal(mesh: &[f64], marks: &[u32], px: f64, py: f64, qx: f64, qy: f64, r: f
     0
 }
 
-// The sweep from p to q over a header's grid.
-fn sweep_of(h: Header, px: f64, py: f64, qx: f64, qy: f64, r: f64) -> Sweep
-    ensures { λ q. ⌜ q ≡ sweepOf h px py qx qy r ⌝ }
-{
-    Sweep {
-        px,
-        py,
-        qx,
-        qy,
-        r,
-        eps: h.eps,
-    }
-}
-
 // The walk of a sweep over the cells p: it begins at the floor, with the next stamp.
 fn sweep_in(
     mesh: &[f64],
@@ -168,7 +166,7 @@ fn sweep_in(
     members: &[u32],
     marks: &mut [u32],
     stamp: u32,
-    q: Sweep,
+    q: Capsule,
     p: Patch,
 ) -> Swept
     requires { ⌜ (length (now mesh) ≡ length (now marks) * 9) × (length (now marks) ≤ 65536) × Sweepable (now starts) (now members) (length (now marks)) h p ⌝ }
@@ -199,7 +197,7 @@ fn raise_by(c: Contact, best: f64) -> f64
 }
 
 // The best so far with triangle i.
-fn raise(mesh: &[f64], q: Sweep, best: f64, i: usize) -> f64
+fn raise(mesh: &[f64], q: Capsule, best: f64, i: usize) -> f64
     requires { ⌜ 9 * i + 9 ≤ length (now mesh) ⌝ }
     ensures { λ r. ⌜ r ≡ raised (now (mesh .entry)) q best i ⌝ }
 {
@@ -207,11 +205,14 @@ fn raise(mesh: &[f64], q: Sweep, best: f64, i: usize) -> f64
     if plane::top(t) <= best {
         return best;
     }
-    raise_by(capsule::max_in_capsule(t, q.px, q.py, q.qx, q.qy, q.r, q.eps), best)
+    raise_by(
+        capsule::highest_in(q, t),
+        best,
+    )
 }
 
 // Looks at triangle i, unless its mark is the stamp.
-fn look_at(mesh: &[f64], marks: &mut [u32], stamp: u32, q: Sweep, s: Seen, i: usize) -> Seen
+fn look_at(mesh: &[f64], marks: &mut [u32], stamp: u32, q: Capsule, s: Seen, i: usize) -> Seen
     requires { ⌜ (length (now mesh) ≡ length (now marks) * 9) × (i < length (now marks)) × Room stamp (seen (now marks) s) ⌝ }
     ensures { λ r. ⌜ seen (now (marks .exit)) r ≡ look stamp (raised (now (mesh .entry)) q) (seen (now (marks .entry)) s) i ⌝ }
 {
@@ -227,7 +228,7 @@ fn look_at(mesh: &[f64], marks: &mut [u32], stamp: u32, q: Sweep, s: Seen, i: us
 }
 
 // The step over one cell: looks at each of its numbers.
-fn visit_cell(mesh: &[f64], part: &[u32], marks: &mut [u32], stamp: u32, q: Sweep, s: Seen) -> Seen
+fn visit_cell(mesh: &[f64], part: &[u32], marks: &mut [u32], stamp: u32, q: Capsule, s: Seen) -> Seen
     requires { ⌜ (length (now mesh) ≡ length (now marks) * 9) × Below (length (now marks)) (now part) × Room stamp (seen (now marks) s) ⌝ }
     ensures { λ r. ⌜ seen (now (marks .exit)) r ≡ fold (look stamp (raised (now (mesh .entry)) q)) (seen (now (marks .entry)) s) (now (part .entry)) ⌝ }
 {
@@ -247,7 +248,7 @@ fn visit(
     stamp: u32,
     columns: usize,
     p: Patch,
-    q: Sweep,
+    q: Capsule,
     s: Seen,
 ) -> Seen
     requires { ⌜ (length (now mesh) ≡ length (now marks) * 9) × Walkable (now starts) (now members) (length (now marks)) columns (p .x0) (p .x1) (p .y0) (p .y1) × Room stamp (seen (now marks) s) ⌝ }

@@ -8,11 +8,23 @@ use native.Mathlib.Nat.{eq-or-lt-of-le}
 use native.Mathlib.Omega.{arith}
 use borrow.Author.Tests.{eqb-true, eqb-false, eq-eqb, ne-eqb}
 use lib.Dec.{eqb}
-use lib.ListN.{length, getD, set, length-set}
+use lib.Ieee.{Float}
+use lib.ListN.{length, getD, set, length-set, length-replicate, getD-replicate}
 use lib.Seq.{getD-set-same, getD-set-other}
 use Rattle.numbers.proofs.Branches.{either}
 use Rattle.cells.specs.Cover.{times, weight}
-use Rattle.walk.specs.Walk.{over, looked}
+use Rattle.cells.proofs.Reading.{once}
+use Rattle.walk.specs.Walk.{over, cell, row, block, looked, nextStamp, readyMarks}
+use Rattle.grid.specs.declared.Header.{Header}
+use Rattle.grid.specs.Header.{coversOf}
+use Rattle.grid.specs.Build.{outcome}
+use Rattle.grid.specs.Indexed.{Indexed}
+use Rattle.grid.proofs.Indexing.{built-indexed}
+use Rattle.query.specs.declared.Patch.{Patch}
+use Rattle.query.specs.Usable.{usable}
+use Rattle.query.specs.Looked.{IndexOf, lookedIn, Shares, LooksOnce}
+use Rattle.query.proofs.Testing.{in-rows}
+use Rattle.query.proofs.Using.{usable-member}
 
 by-test : {A : Type 0} (b : Bool) → (b ≡ true → A) → (b ≡ false → A) → A
 by-test {A} b p q = either (λ (_ : Bool). A) b true false p q
@@ -88,3 +100,112 @@ module _ (stamp i : ℕ) where
       let u : 0 < times i xs = omega (arith, rw p at t) in
       let r = looked-once xs (set marks x stamp) (rw (length-set marks x stamp) l) (λ z. n (sym (getD-set-other marks x i stamp 0 (eqb-false i x p)) ∙ z)) u in
       either (λ (k : List ℕ). times i k ≡ 1) (eqb (getD marks x 0) stamp) _ _ (λ e. looked-once xs marks l n u) (λ e. rw p (omega arith)))
+
+-- a number that stands in a list has a place there
+pub record Place (i : ℕ) (ms : List ℕ) : Type 0 where
+  pub at : ℕ
+  pub inside : at < length ms
+  pub is : getD ms at 0 ≡ i
+
+pub place-of : (i : ℕ) (ms : List ℕ) → 0 < times i ms → Place i ms
+unfolding times
+place-of i [] t = absurd (omega arith)
+place-of i (x ∷ xs) t =
+    by-test (eqb i x) (λ e. record { at = 0; inside = omega arith; is = sym (eqb-true i x e) })
+    (λ e.
+    let r = place-of i xs (omega (arith, rw e at t)) in
+    record { at = suc (r .at); inside = omega (arith, r .inside); is = r .is })
+
+positive : (k : ℕ) → (k ≡ 0 → ⊥) → 0 < k
+positive zero n = absurd (n refl)
+positive (suc k) n = omega arith
+
+-- the marks that a walk begins with are as many, and none of those not above the handed stamp is the new one
+pub ready-length : (marks : List ℕ) (stamp : ℕ) → length (readyMarks marks stamp) ≡ length marks
+unfolding readyMarks
+ready-length marks stamp =
+    either (λ (l : List ℕ). length l ≡ length marks) (eqb stamp 4294967295) _ _ (λ _. length-replicate (length marks) 0) (λ _. refl)
+
+ready-fresh : (marks : List ℕ) (stamp i : ℕ) → i < length marks → getD marks i 0 ≤ stamp → getD (readyMarks marks stamp) i 0 ≡ nextStamp stamp → ⊥
+unfolding readyMarks nextStamp
+ready-fresh marks stamp i l h =
+    by-test (eqb stamp 4294967295)
+    (λ e. rw e (λ z. omega (arith, z, getD-replicate {A = ℕ} (length marks) i 0 0 l)))
+    (λ e. rw e (λ z. omega (arith, z, h)))
+
+-- ---- demand 3, first half
+module _ (mesh : List Float) (h : Header) (starts members marks : List ℕ) (stamp : ℕ) (p : Patch) (d : Indexed mesh h starts members) (u : usable mesh h starts members marks stamp p ≡ true) (nine : length mesh ≡ length marks * 9) (right : p .x1 ≤ h .columns) (top : p .y1 ≤ h .rows) where
+  abbrev numbers : List ℕ
+  numbers = block starts members (h .columns) (p .x0) (p .x1) (p .y0) (p .y1)
+
+  in-cells : (x y : ℕ) → x < p .x1 → y < p .y1 → y * h .columns + x < h .rows * h .columns
+  in-cells x y a b = omega (arith, in-rows (h .columns) (x + 1) y (h .rows) (omega arith) (omega arith))
+
+  -- in a cell of the question a triangle stands once if it covers the cell, and else not
+  in-cell : (i x y : ℕ) → x < p .x1 → y < p .y1 → i < h .n → times i (cell starts members (y * h .columns + x)) ≡ weight (coversOf mesh h i (y * h .columns + x))
+  in-cell i x y a b l =
+      ap (times i) (d .cell (y * h .columns + x) (in-cells x y a b)) ∙ once (coversOf mesh h) (y * h .columns + x) (h .n) i l
+
+  stands : (i : ℕ) → Shares mesh h p i → 0 < times i numbers
+  stands i s =
+      let t : times i (cell starts members (s .y * h .columns + s .x)) ≡ 1 = rw (in-cell i (s .x) (s .y) (s .column .1) (s .row .1) (s .triangle), s .covers) in
+      over-has (row starts members (h .columns) (p .x0) (p .x1)) (p .y0) (p .y1 - p .y0) i (s .y) (s .row .0) (omega arith)
+      (over-has (λ x. cell starts members (s .y * h .columns + x)) (p .x0) (p .x1 - p .x0) i (s .x) (s .column .0) (omega arith) (omega arith))
+
+  -- and where it stands, the two share that cell
+  shares : (i : ℕ) → 0 < times i numbers → Shares mesh h p i
+  shares i t =
+      let b = over-in (row starts members (h .columns) (p .x0) (p .x1)) (p .y0) (p .y1 - p .y0) i t in
+      let a = over-in (λ x. cell starts members (b .at * h .columns + x)) (p .x0) (p .x1 - p .x0) i (b .stands) in
+      let k = place-of i (cell starts members (b .at * h .columns + a .at)) (a .stands) in
+      let x1 : a .at < p .x1 = omega arith in
+      let y1 : b .at < p .y1 = omega arith in
+      let m = usable-member mesh h starts members marks stamp p u (a .at) (b .at) (k .at) (a .from) x1 (b .from) y1 (k .inside) .below in
+      let l : i < h .n = rw (k .is) at m in
+      record {
+        triangle = l;
+        x = a .at;
+        y = b .at;
+        column = (a .from, x1);
+        row = (b .from, y1);
+        covers = some (coversOf mesh h i (b .at * h .columns + a .at)) (rw (in-cell i (a .at) (b .at) x1 y1 l) at (a .stands));
+      }
+    where
+      some : (b : Bool) → 0 < weight b → b ≡ true
+      some true l = refl
+      some false l = absurd (omega arith)
+
+  -- its mark is not the new stamp
+  not-marked : (i : ℕ) → 0 < times i numbers → (i < length marks) × (getD (readyMarks marks stamp) i 0 ≡ nextStamp stamp → ⊥)
+  not-marked i t =
+      let s = shares i t in
+      let k = place-of i (cell starts members (s .y * h .columns + s .x)) (omega (arith, rw (s .covers) at (in-cell i (s .x) (s .y) (s .column .1) (s .row .1) (s .triangle)))) in
+      let m = usable-member mesh h starts members marks stamp p u (s .x) (s .y) (k .at) (s .column .0) (s .column .1) (s .row .0) (s .row .1) (k .inside) .mark in
+      let l : i < length marks = omega (arith, s .triangle, d .nine) in
+      (l, ready-fresh marks stamp i l (rw (k .is) at m))
+
+  pub looks-once : LooksOnce mesh h p (lookedIn h starts members marks stamp p)
+  unfolding lookedIn
+  looks-once =
+      record {
+        each = λ i s.
+            let t = stands i s in
+            let n = not-marked i t in
+            looked-once (nextStamp stamp) i numbers (readyMarks marks stamp) (rw (ready-length marks stamp) (n .0)) (n .1) t;
+        noOther = λ i n.
+            looked-none (nextStamp stamp) i numbers (readyMarks marks stamp)
+            (by-test (eqb (times i numbers) 0) (λ e. eqb-true _ _ e) (λ e. absurd (n (shares i (positive (times i numbers) (eqb-false _ _ e))))));
+      }
+
+  -- so one that stands in the list stands there once
+  pub looks-one : (i : ℕ) → 0 < times i (lookedIn h starts members marks stamp p) → times i (lookedIn h starts members marks stamp p) ≡ 1
+  unfolding lookedIn
+  looks-one i t =
+      by-test (eqb (times i numbers) 0)
+      (λ e. absurd (omega (arith, t, looked-none (nextStamp stamp) i numbers (readyMarks marks stamp) (eqb-true _ _ e))))
+      (λ e. looks-once .each i (shares i (positive (times i numbers) (eqb-false _ _ e))))
+
+-- the index that `build` makes is one
+pub index-of : (mesh : List Float) (h : Header) (starts members : List ℕ) → IndexOf mesh h starts members → Indexed mesh h starts members
+index-of mesh h starts members x =
+    built-indexed mesh (x .floor) (x .r) (x .oldStarts) (x .oldMembers) (outcome (record { refusal = 0; header = h }) starts members) (sym (x .built)) refl

@@ -27,7 +27,11 @@ pub fn is_marked(mesh: &[f64], marks: &[u32]) -> bool
     ensures { λ r. ⌜ r ≡ isMarked (now (mesh .entry)) (now (marks .entry)) ⌝ }
 {
     let n = marks.len();
-    if n <= 65536 { mesh.len() == n * 9 } else { false }
+    if n <= 65536 {
+        mesh.len() == n * 9
+    } else {
+        false
+    }
 }
 
 // Whether x can be a coordinate of a question's point.

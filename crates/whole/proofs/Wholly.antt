@@ -50,20 +50,21 @@ module _ (mesh : List Float) (h : Header) (starts members : List ℕ) (e : usabl
   unfolding cellUsable
   whole-walkable x0 x1 y0 y1 right top =
       record {
-          stretch = λ x y a b c d.
+        stretch = λ x y a b c d.
             let i : ℕ = y * h .columns + x in
             let u = both (leb (getD starts i 0) (getD starts (i + 1) 0)) (leb (getD starts (i + 1) 0) (length members) && each test (cell starts members i)) (at x y b d) in
             let v = both (leb (getD starts (i + 1) 0) (length members)) (each test (cell starts members i)) (u .1) in
             record { inside = omega (arith, below x y b d, whole-head .room); rises = leb-true _ _ (u .0); within = leb-true _ _ (v .0) };
-          below = λ x y a b c d k l.
+        below = λ x y a b c d k l.
             let i : ℕ = y * h .columns + x in
             let u = both (leb (getD starts i 0) (getD starts (i + 1) 0)) (leb (getD starts (i + 1) 0) (length members) && each test (cell starts members i)) (at x y b d) in
             let v = both (leb (getD starts (i + 1) 0) (length members)) (each test (cell starts members i)) (u .1) in
-            ltb-true _ _ (each-at test (cell starts members i) k (v .1) l)
+            ltb-true _ _ (each-at test (cell starts members i) k (v .1) l);
       }
     where
       below : (x y : ℕ) → x < x1 → y < y1 → y * h .columns + x < h .rows * h .columns
       below x y b d = omega (arith, in-rows (h .columns) (x + 1) y (h .rows) (omega arith) (omega arith))
+
       at : (x y : ℕ) → x < x1 → y < y1 → cellUsable test starts members (y * h .columns + x) ≡ true
       at x y b d =
           every-at (cellUsable test starts members) 0 (h .rows * h .columns) (y * h .columns + x) (both (every (triangleUsable mesh) 0 (h .n)) tables (parts .1) .1) (omega arith) (omega (arith, below x y b d))

@@ -58,7 +58,11 @@ fn cell_below(starts: &[u32], members: &[u32], n: usize, c: usize) -> bool
     let a = starts[c] as usize;
     let e = starts[c + 1] as usize;
     if a <= e {
-        if e <= members.len() { members_below(&members[a..e], n) } else { false }
+        if e <= members.len() {
+            members_below(&members[a..e], n)
+        } else {
+            false
+        }
     } else {
         false
     }

@@ -5,6 +5,7 @@ use native.Mathlib.Omega.{arith}
 use Rattle.query.proofs.Patches.{patch-inside}
 use Rattle.query.proofs.Using.{walkable, usable-head}
 use Rattle.height.proofs.Answering.{Marked, marked-is, numbers-refused, cells-refused, usable-is, answered}
+use Rattle.height.proofs.Demanding.{demand-3}
 use Rattle.height.proofs.max_height.Statement.{statement}
 use Rattle.height.proofs.max_height.Tie as tie
 
@@ -13,7 +14,8 @@ same l a n p q = omega arith
 
 returns : tie.Need-returns
 returns c =
-    numbers-refused _ _ _ _ _ _ _ _ _ _ _ _ _ (c .before .before .refusal .ensures) (c .before .if1 .taken) (c .refused .ensures)
+    let e = numbers-refused _ _ _ _ _ _ _ _ _ _ _ _ _ (c .before .before .refusal .ensures) (c .before .if1 .taken) (c .refused .ensures) in
+    (e, demand-3 _ _ _ _ _ _ _ _ _ _ _ _ _ e)
 
 usable-requires : tie.Need-usable-requires
 usable-requires c κs =
@@ -24,7 +26,8 @@ usable-requires c κs =
 returns-2 : tie.Need-returns-2
 returns-2 c =
     let d = c .before .before .before .before in
-    cells-refused _ _ _ _ _ _ _ _ _ _ _ _ (d .before .before .refusal .ensures) (d .before .if1 .left) _ (d .patch-of .ensures) _ (c .before .before .usable .ensures) _ (c .before .if2 .taken) (c .refused2 .ensures)
+    let e = cells-refused _ _ _ _ _ _ _ _ _ _ _ _ (d .before .before .refusal .ensures) (d .before .if1 .left) _ (d .patch-of .ensures) _ (c .before .before .usable .ensures) _ (c .before .if2 .taken) (c .refused2 .ensures) in
+    (e, demand-3 _ _ _ _ _ _ _ _ _ _ _ _ _ e)
 
 sweep-in-requires : tie.Need-sweep-in-requires
 sweep-in-requires c κs =
@@ -41,10 +44,11 @@ returns-3 : tie.Need-returns-3
 returns-3 c =
     let d = c .before .before in
     let e = d .before .before .before in
-    answered _ _ _ _ _ _ _ _ _ _ _ _ (e .before .before .before .before .before .refusal .ensures) (e .before .before .before .before .if1 .left) _ (e .before .before .before .patch-of .ensures) _ (e .before .usable .ensures) _ _ _ (e .if2 .left) (d .before .sweep-of .ensures) (d .sweep-in .ensures .0) (d .sweep-in .ensures .1)
+    let f = answered _ _ _ _ _ _ _ _ _ _ _ _ (e .before .before .before .before .before .refusal .ensures) (e .before .before .before .before .if1 .left) _ (e .before .before .before .patch-of .ensures) _ (e .before .usable .ensures) _ _ _ (e .if2 .left) (d .before .capsule-of .ensures) (d .sweep-in .ensures .0) (d .sweep-in .ensures .1) in
+    (f, demand-3 _ _ _ _ _ _ _ _ _ _ _ _ _ f)
 
 pub max-height-spec : {M : Type 1} → statement M
-max-height-spec = 
+max-height-spec =
     tie.close
     (tie.spec (λ c κs. tt) (λ c κs. tt) (λ c. search needs) returns (λ c κs. tt) usable-requires (λ c κs. tt) (λ c. search needs) returns-2
     (λ c κs. tt) sweep-in-requires (λ c. search needs) returns-3)

@@ -13,7 +13,7 @@ returns : tie.Need-returns
 unfolding sweptOf
 returns c =
     let d = c .before .before in
-    (d .sweep-in .ensures .0 ∙ (rw (d .before .sweep-of .ensures, d .before .before .before .patch-of .ensures)), d .sweep-in .ensures .1)
+    (d .sweep-in .ensures .0 ∙ (rw (d .before .capsule-of .ensures, d .before .before .before .patch-of .ensures)), d .sweep-in .ensures .1)
 
 pub swept-height-spec : {M : Type 1} → statement M
 swept-height-spec = tie.close (tie.spec (λ c κs. tt) (λ c κs. tt) sweep-in-requires (λ c. search needs) returns)

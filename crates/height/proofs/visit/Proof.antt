@@ -50,8 +50,7 @@ visit-cell-requires c κs =
     let d = c .before .before in
     let s = d .before .before .before .before .before .before .before .before in
     let l = d .before .before .before .loop in
-    let k = kept-trans (l .inv .0 .kept) (d .before .loop2 .inv .0 .kept) in
-    (
+    let k = kept-trans (l .inv .0 .kept) (d .before .loop2 .inv .0 .kept) in (
       omega (arith, s .pre .0, k .size),
       rw (c .before .stretch .ensures, k .size) (s .pre .1 .below (d .before .loop2 .x) (l .y) (d .before .loop2 .inv .1) (d .loop2-test .taken) (l .inv .1) (d .before .before .loop-test .taken)),
       kept-room k (s .pre .2),
@@ -61,16 +60,14 @@ loop2-again : tie.Need-loop2-again Inv-loop2 μ-loop2 Inv-loop μ-loop
 loop2-again c =
     let v = c .before .before .visit-cell in
     let a = visit-cell-requires (c .before .before .before) (v .lifetimes) in
-    let d = c .before .before .before .before .before in
-    (
+    let d = c .before .before .before .before .before in (
       ring-turns _ (d .before .loop2 .x) _ (d .loop2-test .taken) (cell-keeps _ _ _ (v .ensures) (a .1)) (d .before .loop2 .inv .0) (v .ensures ∙ ap (fold _ _) (c .before .before .before .before .stretch .ensures)),
       omega arith,
     )
 
 loop-again : tie.Need-loop-again Inv-loop2 μ-loop2 Inv-loop μ-loop
 loop-again c =
-    let l = c .before .loop2 .inv .0 in
-    (
+    let l = c .before .loop2 .inv .0 in (
       ring-turns _ (c .before .before .before .loop .y) _ (c .before .before .loop-test .taken) (l .kept) (c .before .before .before .loop .inv .0) (ring-ends _ (c .before .loop2 .x) _ (omega arith) l),
       omega arith,
     )
