@@ -4,12 +4,14 @@ use mathlib.Core.List.{List, [], _∷_}
 use Prim.Native.Nat.{ℕ}
 use lib.Dec.{eqb}
 use lib.Ieee.{Float}
+use lib.ListN.{getD}
 use Rattle.numbers.specs.Reals.{f0, num}
 use Rattle.plane.specs.declared.Contact.{Contact}
 use Rattle.plane.specs.declared.Contact.the-variants.{Nothing, Height}
 use Rattle.section.specs.declared.Section.{Section}
 use Rattle.grid.specs.declared.Header.{Header}
 use Rattle.grid.specs.Build.{Outcome}
+use Rattle.height.specs.Height as swept
 use Rattle.job.specs.Reader as reader
 
 -- A job read: the refusal, both tables, floor and radius, the numbers of triangles and questions.
@@ -69,3 +71,33 @@ builtLeftBy o =
     cond (eqb k 0)
     (builtLeft k (o .starts) (o .members) (measuresOf h) (sizesOf h))
     (builtLeft k (o .starts) (o .members) (f0 ∷ f0 ∷ f0 ∷ f0 ∷ f0 ∷ f0 ∷ []) (0 ∷ 0 ∷ 0 ∷ []))
+
+-- The header that C hands over.
+unfoldable pub headerFrom : List Float → List ℕ → Header
+headerFrom fs ns =
+    record {
+      n = getD ns 0 0;
+      «origin_x» = num fs 0;
+      «origin_y» = num fs 1;
+      cell = num fs 2;
+      columns = getD ns 1 0;
+      rows = getD ns 2 0;
+      floor = num fs 3;
+      eps = num fs 4;
+      r = num fs 5;
+    }
+
+-- A height asked: the refusal, the marks, the height, the count and the stamp afterwards.
+pub record HeightLeft : Type 0 where
+  pub refusal : ℕ
+  pub marks : List ℕ
+  pub height : List Float
+  pub counts : List ℕ
+
+abbrev pub heightLeft : ℕ → List ℕ → List Float → List ℕ → HeightLeft
+heightLeft k ms hs ns = record { refusal = k; marks = ms; height = hs; counts = ns }
+
+unfoldable pub heightLeftBy : swept.Outcome → HeightLeft
+heightLeftBy o =
+    let a = o .answer in
+    heightLeft (a .refusal) (o .marks) (a .height ∷ []) (a .count ∷ a .stamp ∷ [])

@@ -10,11 +10,13 @@ ghost use Rattle.job.specs.Reader.{readOf};
 ghost use Rattle.capsule.specs.Candidates.{maxInCapsule};
 ghost use Rattle.bull.specs.Bull.{bullProfile, bullContactAbove};
 ghost use Rattle.section.specs.Section.{sectionContact};
-ghost use Rattle.desk.specs.Doors.{jobLeft, jobLeftBy, contactLeft, contactLeftBy, sectionFrom, builtLeft, builtLeftBy};
+ghost use Rattle.desk.specs.Doors.{jobLeft, jobLeftBy, contactLeft, contactLeftBy, sectionFrom, builtLeft, builtLeftBy, headerFrom, heightLeft, heightLeftBy};
 ghost use Rattle.grid.specs.Build.{buildOf};
+ghost use Rattle.height.specs.Height.{maxHeightOf};
 ghost use Rattle.plane.specs.Mesh.{triangleOf};
 ghost use Rattle.plane.specs.Distance.{dist2ToSegment, distanceXy};
 use bull::Bull;
+use grid::Header;
 use plane::Contact;
 use section::Section;
 
@@ -222,5 +224,44 @@ pub extern "C" fn mandrikelo_build(mesh: &[f64], floor: f64, r: f64, starts: &mu
     let h = b.header;
     *measures = [h.origin_x, h.origin_y, h.cell, h.floor, h.eps, h.r];
     *sizes = [h.n as u32, h.columns as u32, h.rows as u32];
+    k
+}
+
+// A size from C, as the header has it.
+fn wide(x: u32) -> usize
+    ensures { λ n. ⌜ n ≡ x ⌝ }
+{
+    x as usize
+}
+
+// The header that C hands over in two arrays.
+fn header_from(measures: &[f64; 6], sizes: &[u32; 3]) -> Header
+    ensures { λ h. ⌜ h ≡ headerFrom (now (measures .entry)) (now (sizes .entry)) ⌝ }
+{
+    Header {
+        n: wide(sizes[0]),
+        origin_x: measures[0],
+        origin_y: measures[1],
+        cell: measures[2],
+        columns: wide(sizes[1]),
+        rows: wide(sizes[2]),
+        floor: measures[3],
+        eps: measures[4],
+        r: measures[5],
+    }
+}
+
+// The highest part point under the disk of radius r swept from (px, py) to (qx, qy).
+#[no_mangle]
+pub extern "C" fn mandrikelo_max_height(mesh: &[f64], measures: &[f64; 6], sizes: &[u32; 3], starts: &[u32], members: &[u32], marks: &mut [u32], stamp: u32, px: f64, py: f64, qx: f64, qy: f64, r: f64, found: &mut [f64; 1], counts: &mut [u32; 2]) -> u32
+    ensures { λ k. ⌜ heightLeft k (now (marks .exit)) (now (found .exit)) (now (counts .exit)) ≡ heightLeftBy (maxHeightOf (now (mesh .entry)) (headerFrom (now (measures .entry)) (now (sizes .entry))) (now (starts .entry)) (now (members .entry)) (now (marks .entry)) stamp px py qx qy r) ⌝ }
+{
+    let a = height::max_height(mesh, header_from(measures, sizes), starts, members, marks, stamp, px, py, qx, qy, r);
+    let k = a.refusal;
+    let z = a.height;
+    let count = a.count;
+    let next = a.stamp;
+    *found = [z];
+    *counts = [count, next];
     k
 }

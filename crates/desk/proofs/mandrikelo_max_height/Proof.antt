@@ -1,0 +1,18 @@
+use borrow.Author.Needs.{needs}
+use mathlib.Core.Path.{ap, _∙_}
+use Rattle.height.specs.Height.{maxHeightOf}
+use Rattle.desk.specs.Doors.{heightLeftBy}
+use Rattle.desk.proofs.mandrikelo_max_height.Statement.{statement}
+use Rattle.desk.proofs.mandrikelo_max_height.Tie as tie
+
+returns : tie.Need-returns
+unfolding heightLeftBy
+returns c =
+    let b = c .before .before .before .before .before .before in
+    let a = b .before .before .before .before .before .args in
+    ap heightLeftBy
+    (c .before .before .before .before .max-height .ensures
+    ∙ ap (λ h. maxHeightOf (a .mesh .now) h (a .starts .now) (a .members .now) (a .marks .now) (a .stamp) (a .px) (a .py) (a .qx) (a .qy) (a .r)) (b .header-from .ensures))
+
+pub mandrikelo-max-height-spec : {M : Type 1} → statement M
+mandrikelo-max-height-spec = tie.close (tie.spec (λ c κs. tt) (λ c κs. tt) (λ c. search needs) returns)
