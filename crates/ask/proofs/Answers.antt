@@ -1,0 +1,108 @@
+-- What a question's code knows and owes, for any question: what an accepted one may rely on, and its answer on each way.
+use mathlib.Core.Bool.{Bool, true, false, cond}
+use mathlib.Core.List.{List}
+use mathlib.Core.Path.{_≡_, refl, ap, sym, _∙_}
+use Prim.Native.Nat.{ℕ, _+_, _*_, _^_, _≤_, _<_}
+use native.Mathlib.Omega.{arith}
+use borrow.Author.Tests.{leb-true, eqb-true, eq-eqb, ne-eqb}
+use lib.Dec.{eqb, leb, lit<}
+use lib.Ieee.{Float}
+use lib.ListN.{length, replicate, length-replicate}
+use Rattle.numbers.proofs.Branches.{either, taken, left}
+use Rattle.header.proofs.Ands.{both}
+use Rattle.walk.specs.Walk.{Walk, nextStamp, readyMarks, fold, walked, chased}
+use Rattle.walk.specs.Steps.{Below, Room, Walkable, seen, judged, look, strike}
+use Rattle.walk.specs.declared.Seen.{Seen}
+use Rattle.walk.specs.declared.Verdict.{Verdict}
+use Rattle.walk.proofs.Rings.{Kept, unmarked-length, look-keeps, fold-keeps}
+use Rattle.walk.proofs.Lists.{walk-is, chase-is}
+use Rattle.grid.specs.declared.Header.{Header}
+use Rattle.grid.proofs.Ladder.{demanded}
+use Rattle.query.specs.declared.Patch.{Patch}
+use Rattle.query.specs.Asked.{isMarked}
+use Rattle.query.specs.Usable.{usable}
+use Rattle.query.proofs.Using.{walkable, usable-head}
+use Rattle.ask.specs.Ask.{refusalOf, begun, within, Outcome, ended, refusedBy, answeredBy, answerOf, heightOver, refusedChord, blockedEarly, ruledBy, rulingOf, chordOver}
+use Rattle.ask.specs.declared.Answer.{Answer}
+use Rattle.ask.specs.declared.Ruling.{Ruling}
+use Rattle.ask.specs.declared.Finding.{Finding}
+use Rattle.ask.specs.declared.Finding.the-variants.{Clear, Blocked}
+
+-- ---- a question that was not refused
+record Passed (mesh index : Bool) : Type 0 where
+  pub mesh-fits : mesh ≡ true
+  pub index-stands : index ≡ true
+
+passed : (mesh numbers tool index : Bool) → refusalOf mesh numbers tool index ≡ 0 → Passed mesh index
+unfolding refusalOf
+passed mesh numbers tool index e =
+    let a = demanded mesh 1 _ (lit< tt) e in
+    let b = demanded numbers 2 _ (lit< tt) (a .1) in
+    let c = demanded tool 8 _ (lit< tt) (b .1) in
+    record { mesh-fits = a .0; index-stands = demanded index 7 _ (lit< tt) (c .1) .0 }
+
+pub record Marked (mesh : List Float) (marks : List ℕ) : Type 0 where
+  pub few : length marks ≤ 65536
+  pub nine : length mesh ≡ length marks * 9
+
+pub marked-is : (mesh : List Float) (marks : List ℕ) → isMarked mesh marks ≡ true → Marked mesh marks
+unfolding isMarked
+marked-is mesh marks e =
+    let a = both (leb (length marks) 65536) (eqb (length mesh) (length marks * 9)) e in
+    record { few = leb-true _ _ (a .0); nine = eqb-true _ _ (a .1) }
+
+ready-length : (marks : List ℕ) (stamp : ℕ) → length (readyMarks marks stamp) ≡ length marks
+unfolding readyMarks
+ready-length marks stamp =
+    either (λ (l : List ℕ). length l ≡ length marks) (eqb stamp 4294967295) _ _ (λ e. length-replicate (length marks) 0) (λ e. refl)
+
+-- n is the refusal that the code found
+module _ (numbers tool : Bool) (mesh : List Float) (h : Header) (starts members marks : List ℕ) (stamp : ℕ) (p : Patch) (n : ℕ) (e : n ≡ refusalOf (isMarked mesh marks) numbers tool (usable mesh h starts members marks stamp p)) where
+  -- where the walk of an accepted question begins, with the marks m
+  pub ready : {A : Type 0} (next : ℕ) (m : List ℕ) (v : A) → n ≡ 0 → m ≡ readyMarks marks stamp → p .x1 ≤ h .columns → p .y1 ≤ h .rows → (length mesh ≡ length m * 9) × Walkable starts members (length m) (h .columns) (p .x0) (p .x1) (p .y0) (p .y1) × Room next (record { marks = m; count = 0; value = v })
+  ready next m v z f right top =
+      let a = passed _ _ _ _ (sym e ∙ z) in
+      let k = marked-is mesh marks (a .mesh-fits) in
+      let l : length m ≡ length marks = ap length f ∙ ready-length marks stamp in
+      let d : length mesh ≡ h .n * 9 = usable-head mesh h starts members marks stamp p (a .index-stands) .nine in
+      let s : length m ≡ h .n = omega (arith, k .nine) in
+      (omega (arith, k .nine), rw s (walkable mesh h starts members marks stamp p (a .index-stands) right top), omega (arith, unmarked-length next m, k .few))
+
+  -- ---- a height question
+  module _ (step : Float → ℕ → Float) where
+    pub height-refused : (n ≡ 0 → ⊥) → ended (refusedBy n stamp) marks ≡ heightOver numbers tool step mesh h starts members marks stamp p
+    unfolding heightOver answerOf
+    height-refused z = left _ _ _ _ (ne-eqb _ 0 (λ k. z (e ∙ k))) (ap (λ (j : ℕ). ended (refusedBy j stamp) marks) e)
+
+    pub height-answered : (next : ℕ) (m m′ : List ℕ) (s : Seen) → n ≡ 0 → next ≡ nextStamp stamp → m ≡ readyMarks marks stamp → seen m′ s ≡ fold (look next step) (seen m (record { count = 0; best = h .floor })) (within h starts members p) → ended (record { refusal = 0; height = s .best; count = s .count; stamp = next }) m′ ≡ heightOver numbers tool step mesh h starts members marks stamp p
+    unfolding heightOver answerOf
+    height-answered next m m′ s z f g w =
+        let v : Walk Float = walked (nextStamp stamp) step (begun marks stamp (h .floor)) (within h starts members p) in
+        let i : seen m′ s ≡ v = w ∙ walk-is next step _ _ ∙ (rw (g, f)) in
+        taken _ _ _ _ (eq-eqb _ 0 (sym e ∙ z))
+        (ap (λ (u : Walk Float). ended (answeredBy u next) (u .marks)) i ∙ ap (λ (k : ℕ). ended (answeredBy v k) (v .marks)) f)
+
+  -- ---- a chord question
+  module _ (early : Bool) (blocks : ℕ → Bool) where
+    pub chord-refused : (n ≡ 0 → ⊥) → ended (refusedChord n stamp) marks ≡ chordOver numbers tool early blocks mesh h starts members marks stamp p
+    unfolding chordOver rulingOf
+    chord-refused z = left _ _ _ _ (ne-eqb _ 0 (λ k. z (e ∙ k))) (ap (λ (j : ℕ). ended (refusedChord j stamp) marks) e)
+
+    pub chord-early : n ≡ 0 → early ≡ true → ended (blockedEarly stamp) marks ≡ chordOver numbers tool early blocks mesh h starts members marks stamp p
+    unfolding chordOver rulingOf
+    chord-early z b = taken _ _ _ _ (eq-eqb _ 0 (sym e ∙ z)) (taken _ _ _ _ b refl)
+
+    pub chord-ruled : (next : ℕ) (m m′ : List ℕ) (v : Verdict) (f : Finding) → n ≡ 0 → early ≡ false → next ≡ nextStamp stamp → m ≡ readyMarks marks stamp → judged m′ v ≡ fold (strike next blocks) (judged m (record { count = 0; clear = true })) (within h starts members p) → f ≡ cond (v .clear) Clear Blocked → ended (record { refusal = 0; finding = f; count = v .count; stamp = next }) m′ ≡ chordOver numbers tool early blocks mesh h starts members marks stamp p
+    unfolding chordOver rulingOf
+    chord-ruled next m m′ v f z b g k w r =
+        let u : Walk Bool = chased (nextStamp stamp) blocks (begun marks stamp true) (within h starts members p) in
+        let i : judged m′ v ≡ u = w ∙ chase-is next blocks _ _ refl ∙ (rw (k, g)) in
+        taken _ _ _ _ (eq-eqb _ 0 (sym e ∙ z))
+        (left _ _ _ _ b
+        (ap (λ (x : Finding). ended (record { refusal = 0; finding = x; count = v .count; stamp = next }) m′) r
+        ∙ ap (λ (x : Walk Bool). ended (ruledBy x next) (x .marks)) i
+        ∙ ap (λ (x : ℕ). ended (ruledBy u x) (u .marks)) g))
+
+-- what the step over one cell keeps
+pub cell-keeps : (stamp : ℕ) (step : Float → ℕ → Float) (ms : List ℕ) {w w′ : Walk Float} → w′ ≡ fold (look stamp step) w ms → Below (length (w .marks)) ms → Kept stamp w w′
+cell-keeps stamp step ms {w} e b = rw e (fold-keeps stamp (look stamp step) (look-keeps stamp step) ms w b)

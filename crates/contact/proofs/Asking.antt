@@ -1,0 +1,28 @@
+-- A question with what its code found out: the cells, and whether the numbers and the tool are in their ranges.
+use mathlib.Core.Bool.{Bool}
+use mathlib.Core.List.{List}
+use mathlib.Core.Path.{_≡_, refl, ap, sym, _∙_}
+use Prim.Native.Nat.{ℕ, _≤_}
+use lib.Ieee.{Float}
+use Rattle.bull.specs.declared.Bull.{Bull}
+use Rattle.grid.specs.declared.Header.{Header}
+use Rattle.query.specs.declared.Patch.{Patch}
+use Rattle.query.specs.Patch.{patchOf}
+use Rattle.query.proofs.Patches.{patch-inside}
+use Rattle.ask.specs.declared.Answer.{Answer}
+use Rattle.ask.specs.Ask.{isCorner, Outcome, heightOver}
+use Rattle.tool.specs.Tool.{sectionsIn, isTool, widestOf, lowestOf}
+use Rattle.contact.specs.Contact.{bullStep, isStand, maxBullOf, toolStep, isPlace, maxSectionsOf}
+
+-- a question's cells are in the grid
+pub inside : (h : Header) (px py qx qy reach : Float) (p : Patch) → p ≡ patchOf h px py qx qy reach → (p .x1 ≤ h .columns) × (p .y1 ≤ h .rows)
+inside h px py qx qy reach p e = rw e (patch-inside h px py qx qy reach)
+
+module _ (mesh : List Float) (h : Header) (starts members marks : List ℕ) (stamp : ℕ) (o : Outcome Answer) (p : Patch) (a b : Bool) where
+  pub bull-is : (k : Bull) → p ≡ patchOf h (k .x) (k .y) (k .x) (k .y) (k .r) → a ≡ isStand (k .x) (k .y) (k .r) → b ≡ isCorner (k .r) (k .rc) → o ≡ heightOver a b (bullStep mesh k) mesh h starts members marks stamp p → o ≡ maxBullOf mesh h starts members marks stamp k
+  unfolding maxBullOf
+  bull-is k e f g i = i ∙ (rw (e, f, g))
+
+  pub tool-is : (x y reach low : Float) (table : List Float) → reach ≡ widestOf table (sectionsIn table) → low ≡ lowestOf table (sectionsIn table) → p ≡ patchOf h x y x y reach → a ≡ isPlace x y → b ≡ isTool table → o ≡ heightOver a b (toolStep mesh (record { x = x; y = y; low = low }) table) mesh h starts members marks stamp p → o ≡ maxSectionsOf mesh h starts members marks stamp x y table
+  unfolding maxSectionsOf
+  tool-is x y reach low table r l e f g i = i ∙ (rw (e, r, l, f, g))

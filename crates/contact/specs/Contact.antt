@@ -1,0 +1,58 @@
+-- Document 01, "Questions": `max_bull` and `max_sections`, the highest tip of a tool that rests on the part, at least the floor.
+use mathlib.Core.Bool.{Bool, cond, _&&_}
+use mathlib.Core.List.{List}
+use Prim.Native.Nat.{ℕ}
+use lib.Ieee.{Float, le}
+use Rattle.numbers.specs.Reals.{_⊖_}
+use Rattle.plane.specs.declared.Triangle.{Triangle}
+use Rattle.plane.specs.Mesh.{triangleOf, topOf}
+use Rattle.spans.specs.Mesh.{isRadius}
+use Rattle.bull.specs.declared.Bull.{Bull}
+use Rattle.bull.specs.Bull.{bullContactAbove}
+use Rattle.grid.specs.declared.Header.{Header}
+use Rattle.query.specs.Asked.{isPoint}
+use Rattle.query.specs.Patch.{patchOf}
+use Rattle.ask.specs.declared.Answer.{Answer}
+use Rattle.ask.specs.Ask.{isCorner, raisedBy, Outcome, heightOver}
+use Rattle.tool.specs.Tool.{sectionsIn, isTool, widestOf, lowestOf, raisedOver}
+use Rattle.contact.specs.declared.Axis.{Axis}
+
+-- ---- a bull-nose cutter
+
+-- The best so far with one triangle: it counts only where its top is above the best so far, and its edges only where they can exceed it.
+unfoldable pub bullRaised : Triangle → Bull → Float → Float
+bullRaised t k best = cond (le (topOf t) best) best (raisedBy (bullContactAbove t k best) best)
+
+unfoldable pub bullStep : List Float → Bull → Float → ℕ → Float
+bullStep mesh k best i = bullRaised (triangleOf mesh i) k best
+
+-- 2: the axis is a point, the radius in its range.
+unfoldable pub isStand : Float → Float → Float → Bool
+isStand x y r = isPoint x && (isPoint y && isRadius r)
+
+-- max_bull: 1, 2, 8 (the corner radius) and 7; reach is the radius.
+unfoldable pub maxBullOf : List Float → Header → List ℕ → List ℕ → List ℕ → ℕ → Bull → Outcome Answer
+maxBullOf mesh h starts members marks stamp k =
+    heightOver (isStand (k .x) (k .y) (k .r)) (isCorner (k .r) (k .rc)) (bullStep mesh k) mesh h starts members marks stamp
+    (patchOf h (k .x) (k .y) (k .x) (k .y) (k .r))
+
+-- ---- a tool of sections
+
+-- The best so far with one triangle: it counts only where its top less the lowest z0 is above the best so far.
+unfoldable pub toolRaised : Triangle → Axis → List Float → Float → Float
+toolRaised t a table best =
+    cond (le (topOf t ⊖ a .low) best) best (raisedOver t (a .x) (a .y) table best (sectionsIn table))
+
+unfoldable pub toolStep : List Float → Axis → List Float → Float → ℕ → Float
+toolStep mesh a table best i = toolRaised (triangleOf mesh i) a table best
+
+-- 2: the axis is a point.
+unfoldable pub isPlace : Float → Float → Bool
+isPlace x y = isPoint x && isPoint y
+
+-- max_sections: 1, 2, 8 (the sections) and 7; reach is the largest r1.
+unfoldable pub maxSectionsOf : List Float → Header → List ℕ → List ℕ → List ℕ → ℕ → Float → Float → List Float → Outcome Answer
+maxSectionsOf mesh h starts members marks stamp x y table =
+    heightOver (isPlace x y) (isTool table)
+    (toolStep mesh (record { x = x; y = y; low = lowestOf table (sectionsIn table) }) table)
+    mesh h starts members marks stamp (patchOf h x y x y (widestOf table (sectionsIn table)))

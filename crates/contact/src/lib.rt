@@ -1,0 +1,320 @@
+// The highest tip of a tool that rests on the part: a bull-nose cutter, or a table of sections.
+ghost use mathlib.Core.Path.{_≡_};
+ghost use Prim.Native.Nat.{_+_, _*_, _≤_, _<_};
+ghost use lib.ListN.{length};
+ghost use Rattle.walk.specs.Walk.{block, fold};
+ghost use Rattle.walk.specs.Steps.{seen, look, Below, Room, Walkable};
+ghost use Rattle.ask.specs.Ask.{ended};
+ghost use Rattle.contact.specs.Contact.{bullRaised, bullStep, isStand, maxBullOf, toolRaised, toolStep, isPlace, maxSectionsOf};
+use ask::Answer;
+use bull::Bull;
+use grid::Header;
+use plane::Triangle;
+use query::Patch;
+use walk::Seen;
+
+// Where a tool stands, and the lowest z0 of its sections.
+pub struct Axis {
+    pub x: f64,
+    pub y: f64,
+    pub low: f64,
+}
+
+// The highest tip of a bull-nose cutter of the radius r and the corner radius rc at (px, py), or why the question is refused.
+pub fn max_bull(
+    mesh: &[f64],
+    h: Header,
+    starts: &[u32],
+    members: &[u32],
+    marks: &mut [u32],
+    stamp: u32,
+    px: f64,
+    py: f64,
+    r: f64,
+    rc: f64,
+) -> Answer
+    ensures { λ a. ⌜ ended a (now (marks .exit)) ≡ maxBullOf (now (mesh .entry)) h (now (starts .entry)) (now (members .entry)) (now (marks .entry)) stamp (record { x = px; y = py; r = r; rc = rc }) ⌝ }
+{
+    let k = Bull {
+        x: px,
+        y: py,
+        r,
+        rc,
+    };
+    let columns = h.columns;
+    let first = Seen {
+        count: 0,
+        best: h.floor,
+    };
+    let p = query::patch_of(h, px, py, px, py, r);
+    let stands = is_stand(px, py, r);
+    let corner = ask::is_corner(r, rc);
+    let n = ask::refusal(mesh, h, starts, members, marks, stamp, p, stands, corner);
+    if n != 0 {
+        return Answer {
+            refusal: n,
+            height: 0.0,
+            count: 0,
+            stamp,
+        };
+    }
+    let next = walk::next_stamp(marks, stamp);
+    let s = visit_bull(mesh, starts, members, marks, next, columns, p, k, first);
+    Answer {
+        refusal: 0,
+        height: s.best,
+        count: s.count,
+        stamp: next,
+    }
+}
+
+// The highest tip of a tool at (px, py) whose sections are four numbers each of a table, or why the question is refused.
+pub fn max_sections(
+    mesh: &[f64],
+    h: Header,
+    starts: &[u32],
+    members: &[u32],
+    marks: &mut [u32],
+    stamp: u32,
+    px: f64,
+    py: f64,
+    table: &[f64],
+) -> Answer
+    ensures { λ a. ⌜ ended a (now (marks .exit)) ≡ maxSectionsOf (now (mesh .entry)) h (now (starts .entry)) (now (members .entry)) (now (marks .entry)) stamp px py (now (table .entry)) ⌝ }
+{
+    let columns = h.columns;
+    let first = Seen {
+        count: 0,
+        best: h.floor,
+    };
+    let reach = tool::widest(table);
+    let low = tool::lowest(table);
+    let p = query::patch_of(h, px, py, px, py, reach);
+    let stands = is_place(px, py);
+    let valid = tool::is_tool(table);
+    let n = ask::refusal(mesh, h, starts, members, marks, stamp, p, stands, valid);
+    if n != 0 {
+        return Answer {
+            refusal: n,
+            height: 0.0,
+            count: 0,
+            stamp,
+        };
+    }
+    let next = walk::next_stamp(marks, stamp);
+    let a = Axis { x: px, y: py, low };
+    let s = visit_tool(
+        mesh,
+        starts,
+        members,
+        marks,
+        next,
+        columns,
+        p,
+        a,
+        table,
+        first,
+    );
+    Answer {
+        refusal: 0,
+        height: s.best,
+        count: s.count,
+        stamp: next,
+    }
+}
+
+// Whether a cutter's axis is a point and its radius in its range.
+fn is_stand(x: f64, y: f64, r: f64) -> bool
+    ensures { λ b. ⌜ b ≡ isStand x y r ⌝ }
+{
+    if query::is_point(x) {
+        if query::is_point(y) {
+            spans::is_radius(r)
+        } else {
+            false
+        }
+    } else {
+        false
+    }
+}
+
+// Whether a tool's axis is a point.
+fn is_place(x: f64, y: f64) -> bool
+    ensures { λ b. ⌜ b ≡ isPlace x y ⌝ }
+{
+    if query::is_point(x) {
+        query::is_point(y)
+    } else {
+        false
+    }
+}
+
+// The best so far with a triangle.
+fn raise_bull_on(t: Triangle, k: Bull, best: f64) -> f64
+    ensures { λ r. ⌜ r ≡ bullRaised t k best ⌝ }
+{
+    if plane::top(t) <= best {
+        return best;
+    }
+    ask::raise_by(bull::bull_contact_above(t, k, best), best)
+}
+
+// The best so far with triangle i.
+fn raise_bull(mesh: &[f64], k: Bull, best: f64, i: usize) -> f64
+    requires { ⌜ 9 * i + 9 ≤ length (now mesh) ⌝ }
+    ensures { λ r. ⌜ r ≡ bullStep (now (mesh .entry)) k best i ⌝ }
+{
+    raise_bull_on(plane::triangle_at(mesh, i), k, best)
+}
+
+// Looks at triangle i, unless its mark is the stamp.
+fn look_bull(mesh: &[f64], marks: &mut [u32], stamp: u32, k: Bull, s: Seen, i: usize) -> Seen
+    requires { ⌜ (length (now mesh) ≡ length (now marks) * 9) × (i < length (now marks)) × Room stamp (seen (now marks) s) ⌝ }
+    ensures { λ r. ⌜ seen (now (marks .exit)) r ≡ look stamp (bullStep (now (mesh .entry)) k) (seen (now (marks .entry)) s) i ⌝ }
+{
+    let count = s.count;
+    let best = s.best;
+    if !walk::fresh(marks, stamp, i) {
+        return s;
+    }
+    Seen {
+        count: count + 1,
+        best: raise_bull(mesh, k, best, i),
+    }
+}
+
+// The step over one cell: looks at each of its numbers.
+fn cell_bull(mesh: &[f64], part: &[u32], marks: &mut [u32], stamp: u32, k: Bull, s: Seen) -> Seen
+    requires { ⌜ (length (now mesh) ≡ length (now marks) * 9) × Below (length (now marks)) (now part) × Room stamp (seen (now marks) s) ⌝ }
+    ensures { λ r. ⌜ seen (now (marks .exit)) r ≡ fold (look stamp (bullStep (now (mesh .entry)) k)) (seen (now (marks .entry)) s) (now (part .entry)) ⌝ }
+{
+    let mut found = s;
+    for j in 0..part.len() {
+        found = look_bull(mesh, marks, stamp, k, found, part[j] as usize);
+    }
+    found
+}
+
+// The walk over the cells of a patch: rows, then columns, then the numbers of each cell.
+fn visit_bull(
+    mesh: &[f64],
+    starts: &[u32],
+    members: &[u32],
+    marks: &mut [u32],
+    stamp: u32,
+    columns: usize,
+    p: Patch,
+    k: Bull,
+    s: Seen,
+) -> Seen
+    requires { ⌜ (length (now mesh) ≡ length (now marks) * 9) × Walkable (now starts) (now members) (length (now marks)) columns (p .x0) (p .x1) (p .y0) (p .y1) × Room stamp (seen (now marks) s) ⌝ }
+    ensures { λ r. ⌜ seen (now (marks .exit)) r ≡ fold (look stamp (bullStep (now (mesh .entry)) k)) (seen (now (marks .entry)) s) (block (now (starts .entry)) (now (members .entry)) columns (p .x0) (p .x1) (p .y0) (p .y1)) ⌝ }
+{
+    let x0 = p.x0;
+    let x1 = p.x1;
+    let y0 = p.y0;
+    let y1 = p.y1;
+    let mut found = s;
+    for y in y0..y1 {
+        for x in x0..x1 {
+            let part = walk::stretch(starts, members, y * columns + x);
+            found = cell_bull(mesh, part, marks, stamp, k, found);
+        }
+    }
+    found
+}
+
+// The best so far with a triangle.
+fn raise_tool_on(t: Triangle, a: Axis, table: &[f64], best: f64) -> f64
+    ensures { λ r. ⌜ r ≡ toolRaised t a (now (table .entry)) best ⌝ }
+{
+    let x = a.x;
+    let y = a.y;
+    let low = a.low;
+    if plane::top(t) - low <= best {
+        return best;
+    }
+    tool::raise_over(t, x, y, table, best)
+}
+
+// The best so far with triangle i.
+fn raise_tool(mesh: &[f64], a: Axis, table: &[f64], best: f64, i: usize) -> f64
+    requires { ⌜ 9 * i + 9 ≤ length (now mesh) ⌝ }
+    ensures { λ r. ⌜ r ≡ toolStep (now (mesh .entry)) a (now (table .entry)) best i ⌝ }
+{
+    raise_tool_on(plane::triangle_at(mesh, i), a, table, best)
+}
+
+// Looks at triangle i, unless its mark is the stamp.
+fn look_tool(
+    mesh: &[f64],
+    marks: &mut [u32],
+    stamp: u32,
+    a: Axis,
+    table: &[f64],
+    s: Seen,
+    i: usize,
+) -> Seen
+    requires { ⌜ (length (now mesh) ≡ length (now marks) * 9) × (i < length (now marks)) × Room stamp (seen (now marks) s) ⌝ }
+    ensures { λ r. ⌜ seen (now (marks .exit)) r ≡ look stamp (toolStep (now (mesh .entry)) a (now (table .entry))) (seen (now (marks .entry)) s) i ⌝ }
+{
+    let count = s.count;
+    let best = s.best;
+    if !walk::fresh(marks, stamp, i) {
+        return s;
+    }
+    Seen {
+        count: count + 1,
+        best: raise_tool(mesh, a, table, best, i),
+    }
+}
+
+// The step over one cell: looks at each of its numbers.
+fn cell_tool(
+    mesh: &[f64],
+    part: &[u32],
+    marks: &mut [u32],
+    stamp: u32,
+    a: Axis,
+    table: &[f64],
+    s: Seen,
+) -> Seen
+    requires { ⌜ (length (now mesh) ≡ length (now marks) * 9) × Below (length (now marks)) (now part) × Room stamp (seen (now marks) s) ⌝ }
+    ensures { λ r. ⌜ seen (now (marks .exit)) r ≡ fold (look stamp (toolStep (now (mesh .entry)) a (now (table .entry)))) (seen (now (marks .entry)) s) (now (part .entry)) ⌝ }
+{
+    let mut found = s;
+    for j in 0..part.len() {
+        found = look_tool(mesh, marks, stamp, a, table, found, part[j] as usize);
+    }
+    found
+}
+
+// The walk over the cells of a patch: rows, then columns, then the numbers of each cell.
+fn visit_tool(
+    mesh: &[f64],
+    starts: &[u32],
+    members: &[u32],
+    marks: &mut [u32],
+    stamp: u32,
+    columns: usize,
+    p: Patch,
+    a: Axis,
+    table: &[f64],
+    s: Seen,
+) -> Seen
+    requires { ⌜ (length (now mesh) ≡ length (now marks) * 9) × Walkable (now starts) (now members) (length (now marks)) columns (p .x0) (p .x1) (p .y0) (p .y1) × Room stamp (seen (now marks) s) ⌝ }
+    ensures { λ r. ⌜ seen (now (marks .exit)) r ≡ fold (look stamp (toolStep (now (mesh .entry)) a (now (table .entry)))) (seen (now (marks .entry)) s) (block (now (starts .entry)) (now (members .entry)) columns (p .x0) (p .x1) (p .y0) (p .y1)) ⌝ }
+{
+    let x0 = p.x0;
+    let x1 = p.x1;
+    let y0 = p.y0;
+    let y1 = p.y1;
+    let mut found = s;
+    for y in y0..y1 {
+        for x in x0..x1 {
+            let part = walk::stretch(starts, members, y * columns + x);
+            found = cell_tool(mesh, part, marks, stamp, a, table, found);
+        }
+    }
+    found
+}

@@ -1,0 +1,43 @@
+-- The loops over a tool's sections: one section more.
+use mathlib.Core.Bool.{Bool, true, false, not}
+use mathlib.Core.List.{List}
+use mathlib.Core.Path.{_≡_, refl, ap, sym, _∙_}
+use Prim.Native.Nat.{ℕ, suc, _+_, _-_}
+use native.Mathlib.Numerals.{add-one}
+use native.Mathlib.Omega.{arith}
+use lib.Ieee.{Float}
+use Rattle.numbers.specs.Reals.{maxOf, minOf}
+use Rattle.plane.specs.declared.Triangle.{Triangle}
+use Rattle.plane.specs.declared.Bounds.{Bounds}
+use Rattle.plane.specs.declared.Contact.{Contact}
+use Rattle.plane.specs.Mesh.{boundsOf}
+use Rattle.reach.specs.declared.Chord.{Chord}
+use Rattle.section.specs.declared.Section.{Section}
+use Rattle.section.specs.Section.{validSection, sectionContact}
+use Rattle.section_gap.specs.Blocks.{sectionBlocks}
+use Rattle.query.specs.Usable.{every}
+use Rattle.ask.specs.Ask.{raisedBy}
+use Rattle.tool.specs.Tool.{sectionOf, widestOf, lowestOf, raisedOver}
+
+module _ (table : List Float) (i : ℕ) (s : Section) (here : s ≡ sectionOf table i) where
+  pub wider : (v r : Float) → v ≡ widestOf table i → r ≡ maxOf v (s .r1) → r ≡ widestOf table (i + 1)
+  unfolding widestOf
+  wider v r e p = rw (add-one i, p, e, here)
+
+  pub lower : (v r : Float) → v ≡ lowestOf table i → r ≡ minOf v (s .z0) → r ≡ lowestOf table (i + 1)
+  unfolding lowestOf
+  lower v r e p = rw (add-one i, p, e, here)
+
+  pub higher : (t : Triangle) (x y best v r : Float) (k : Contact) → v ≡ raisedOver t x y table best i → k ≡ sectionContact t x y s → r ≡ raisedBy k v → r ≡ raisedOver t x y table best (i + 1)
+  unfolding raisedOver
+  higher t x y best v r k e p q = rw (add-one i, q, p, e, here)
+
+  pub valid-here : (b : Bool) → b ≡ validSection s → b ≡ validSection (sectionOf table i)
+  valid-here b e = e ∙ ap validSection here
+
+  pub blocks-here : (t : Triangle) (m : Chord) (box : Bounds) (b : Bool) → box ≡ boundsOf t → b ≡ sectionBlocks t box m s → not b ≡ not (sectionBlocks t (boundsOf t) m (sectionOf table i))
+  blocks-here t m box b p e = rw (e, p, here)
+
+-- before the first section, all are left
+pub all-left : (test : ℕ → Bool) (n : ℕ) → every test 0 (n - 0) ≡ every test 0 n
+all-left test n = let e : n - 0 ≡ n = omega arith in rw e
