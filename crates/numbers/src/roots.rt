@@ -60,7 +60,7 @@ fn candidate(m: u64, odd: u64) -> u64
 // A float near the root of z, for z from 1/2 to 2. The line gives p near 1 / sqrt(z) to 16 digits, and a step of Newton's makes that 32 in g. The last line adds what
 // z less the square of g still asks for; it is found from w, g0 to 26 digits, whose square is exact.
 fn guess(z: f64, line: seeds::Line) -> f64 {
-    let p = line.start - line.fall * z;
+    let p = line.0 - line.1 * z;
     let g0 = z * p;
     let h0 = 0.5 * p;
     let k = 1.5 - g0 * h0;
