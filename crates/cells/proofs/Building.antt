@@ -1,5 +1,5 @@
 -- The builder's steps put together: cleared, counted, summed, filled. At the end the tables are those of the definition.
-use mathlib.Core.Bool.{Bool, true, false}
+use mathlib.Core.Bool.{true}
 use mathlib.Core.List.{List, [], _∷_, _++_}
 use mathlib.Core.Path.{_≡_, refl, ap, sym, _∙_}
 use Prim.Native.Nat.{ℕ, zero, suc, _+_, _-_, _^_, _≤_, _<_}
@@ -11,7 +11,6 @@ use Rattle.cells.specs.Cover.{Cover, membersOf, listed, startOf, entries
 use Rattle.cells.specs.Steps.{entry, sums, Cleared, Room, CountedAll, Summed, Ready, Filled, Fits}
 use Rattle.cells.proofs.Sets.{by-lt, by-test, weight-off}
 use Rattle.cells.proofs.Members.{members-suc, start-more, all-members}
-use Rattle.cells.proofs.Entries.{sums-more}
 
 -- ---- a table whose first entries are xs and whose others are as they were
 pub front-is : (xs old t : List ℕ) → length xs ≤ length old → length t ≡ length old

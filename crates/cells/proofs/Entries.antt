@@ -1,9 +1,9 @@
 -- What a store does at each entry, and the steps of the builder put together, entry by entry.
-use mathlib.Core.Bool.{Bool, true, false, cond, _&&_}
+use mathlib.Core.Bool.{true}
 use mathlib.Core.List.{List}
-use mathlib.Core.Logic.{_⊎_, inl, inr, ⊎-elim}
-use mathlib.Core.Path.{_≡_, refl, ap, sym, _∙_}
-use Prim.Native.Nat.{ℕ, zero, suc, _+_, _-_, _*_, _^_, _≤_, _<_}
+use mathlib.Core.Logic.{inl, inr, ⊎-elim}
+use mathlib.Core.Path.{_≡_, refl, sym, _∙_}
+use Prim.Native.Nat.{ℕ, zero, suc, _+_, _-_, _≤_, _<_}
 use native.Mathlib.Numerals.{add-one}
 use native.Mathlib.Omega.{arith}
 use borrow.Author.Tests.{eqb-true, eqb-false, eq-eqb}
@@ -12,7 +12,7 @@ use lib.Dec.{eqb}
 use lib.ListN.{length, getD, set, length-set}
 use lib.Seq.{getD-set-same, getD-set-other}
 use Rattle.cells.specs.Cover.{Cover, membersOf, weight}
-use Rattle.cells.specs.Steps.{Set, between, Counted, CountedAll, Cleared, entry, sums, Summed, Open, Placed}
+use Rattle.cells.specs.Steps.{Set, Counted, CountedAll, Cleared, entry, sums, Summed, Open, Placed}
 use Rattle.cells.proofs.Sets.{Split, by-test, by-lt, weight-on, weight-off, weight-le, weight-up, on-of-weight}
 use Rattle.cells.proofs.Members.{members-more}
 

@@ -1,14 +1,14 @@
 -- The members filled in from the last triangle back: where it starts, one triangle more, and what each placing asks.
-use mathlib.Core.Bool.{Bool, true, false}
+use mathlib.Core.Bool.{true}
 use mathlib.Core.List.{List}
 use mathlib.Core.Path.{_≡_, refl, ap, sym, _∙_}
-use Prim.Native.Nat.{ℕ, zero, suc, _+_, _-_, _≤_, _<_}
+use Prim.Native.Nat.{ℕ, _+_, _≤_, _<_}
 use native.Mathlib.Omega.{arith}
 use lib.ListN.{length, getD}
-use Rattle.cells.specs.Cover.{Cover, membersOf, startOf, weight}
+use Rattle.cells.specs.Cover.{Cover, membersOf, startOf}
 use Rattle.cells.specs.Steps.{Open, Placed, Ready, Filled}
 use Rattle.cells.proofs.Sets.{by-lt, by-test, weight-on, weight-off}
-use Rattle.cells.proofs.Members.{members-more, members-mono, member-at, start-more, start-mono, cell-before}
+use Rattle.cells.proofs.Members.{members-more, members-mono, member-at, start-more, cell-before}
 
 module _ (on : Cover) (n cells : ℕ) (s₀ m₀ : List ℕ) (ready : Ready on n cells s₀ m₀) where
   pub filled-none : Filled on n cells n s₀ m₀ s₀ m₀

@@ -1,16 +1,14 @@
 -- What a walk reads in the tables: between two starts stand the members of the cell, each triangle that covers it once and no other.
-use mathlib.Core.Bool.{Bool, true, false, cond, _&&_}
+use mathlib.Core.Bool.{true, cond}
 use mathlib.Core.List.{List, [], _∷_, _++_, append-assoc, append-nil}
-use mathlib.Core.Path.{_≡_, refl, ap, sym, _∙_}
+use mathlib.Core.Path.{_≡_, refl, ap, _∙_}
 use Prim.Native.Nat.{ℕ, zero, suc, _+_, _-_, _≤_, _<_}
-use native.Mathlib.Numerals.{add-one}
 use native.Mathlib.Omega.{arith}
-use borrow.Author.Tests.{eqb-true, eqb-false, eq-eqb, ne-eqb}
-use lib.Dec.{eqb, ltb}
-use lib.ListN.{length, getD, take, drop, length-append, List·getD-append}
+use borrow.Author.Tests.{eq-eqb, ne-eqb}
+use lib.ListN.{length, getD, drop, length-append, List·getD-append}
 use lib.Seq.{take-at, drop-at, getD-append-seam}
 use Rattle.cells.specs.Cover.{Cover, membersOf, listed, startOf, entries, startsOf, membersTable, stretch, weight, times}
-use Rattle.cells.proofs.Sets.{by-lt, by-test, weight-on, weight-off}
+use Rattle.cells.proofs.Sets.{by-lt, by-test}
 use Rattle.cells.proofs.Members.{start-more, start-mono}
 use Rattle.cells.proofs.Building.{entries-length, entries-at}
 

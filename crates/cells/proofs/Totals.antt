@@ -1,17 +1,15 @@
 -- The number of members, counted triangle by triangle, is that of the cells' lists.
-use mathlib.Core.Bool.{Bool, true, false}
-use mathlib.Core.List.{List, []}
+use mathlib.Core.List.{[]}
 use mathlib.Core.Logic.{_⊎_, inl, inr}
 use mathlib.Core.Path.{_≡_, refl, ap, sym, _∙_}
 use Prim.Native.Nat.{ℕ, zero, suc, _+_, _-_, _*_, _≤_, _<_, min}
 use native.Mathlib.Nat.{mul-le-mul-right, mul-comm, add-mul, suc-mul}
-use native.Mathlib.Numerals.{add-one}
 use native.Mathlib.Omega.{arith}
-use lib.ListN.{length, length-append}
+use lib.ListN.{length-append}
 use Rattle.cells.specs.declared.Cells.{Cells}
 use Rattle.cells.specs.Cover.{Cover, covers, areaOf, membersOf, listed, startOf, weight}
 use Rattle.cells.specs.Steps.{Set, between, sums}
-use Rattle.cells.proofs.Sets.{Split, by-lt, rowsUnder, row-more, rows-none, rows-all, under-between, in-between, over-between, none-covered, below, above, weight-off}
+use Rattle.cells.proofs.Sets.{Split, by-lt, rowsUnder, row-more, rows-none, rows-all, under-between, in-between, over-between, none-covered}
 use Rattle.cells.proofs.Members.{members-suc}
 
 -- how many of the first k cells are in a set

@@ -1,17 +1,16 @@
 -- The refusals, rung by rung: what a call that passes them may rely on, and what the builder answers.
-use mathlib.Core.Bool.{Bool, true, false}
+use mathlib.Core.Bool.{true}
 use mathlib.Core.List.{List}
 use mathlib.Core.Path.{_≡_, refl, ap, sym, _∙_, subst}
-use Prim.Native.Nat.{ℕ, _+_, _*_, _/_, _%_, _≤_, _<_}
+use Prim.Native.Nat.{ℕ, _+_, _*_, _%_, _≤_, _<_}
 use native.Mathlib.Nat.{div-add-mod'}
 use native.Mathlib.Omega.{arith}
 use borrow.Author.Tests.{eq-eqb, ne-eqb, eqb-true, eqb-false, ltb-false}
 use lib.Dec.{lit<}
 use lib.Ieee.{Float}
 use lib.ListN.{length}
-use Rattle.numbers.specs.Reals.{num}
 use Rattle.numbers.proofs.Branches.{taken, left}
-use Rattle.spans.specs.Mesh.{isCoordinate, isRadius, firstBad}
+use Rattle.spans.specs.Mesh.{isCoordinate, isRadius}
 use Rattle.spans.specs.Good.{AllGood}
 use Rattle.spans.specs.declared.Place.{Place}
 use Rattle.spans.specs.declared.Place.the-variants.{Nowhere, At}
@@ -21,9 +20,9 @@ use Rattle.grid.specs.declared.Grid.{Grid}
 use Rattle.grid.specs.declared.Header.{Header}
 use Rattle.grid.specs.declared.Built.{Built}
 use Rattle.grid.specs.Grid.{trianglesIn, gridOf, cellsIn, coverOf, totalOf}
-use Rattle.grid.specs.Header.{headed}
+use Rattle.grid.specs.Header.{headerOf}
 use Rattle.grid.specs.Build.{isNowhere, refusalOfNumbers, refusalOfMesh, refusalOfGrid, refusalOfMembers, Outcome, outcome, refusedBy, acceptedWith, unless, filledOf, gridded, buildOf}
-use Rattle.grid.specs.Indexed.{Gridded}
+use Rattle.grid.specs.Parts.{Gridded}
 use Rattle.grid.proofs.Ladder.{refused-not, demanded}
 use Rattle.grid.proofs.Gridding.{counted}
 
@@ -104,7 +103,7 @@ module _ (mesh : List Float) (n : ℕ) (g : Grid) (floor r : Float) (s m : List 
   unfolding filledOf
   filled-refused b e h = unless-refused _ s m _ b (e ∙ ap refusedBy asked) (λ z. h (asked ∙ z))
 
-  pub filled-accepted : (h : Header) (s′ m′ : List ℕ) → k ≡ 0 → h ≡ headed mesh n g floor r → s′ ≡ startsOf (coverOf mesh g) n (cellsIn g) s
+  pub filled-accepted : (h : Header) (s′ m′ : List ℕ) → k ≡ 0 → h ≡ headerOf mesh n g floor r → s′ ≡ startsOf (coverOf mesh g) n (cellsIn g) s
       → m′ ≡ membersTable (coverOf mesh g) n (cellsIn g) m → outcome (record { refusal = 0; header = h }) s′ m′ ≡ filledOf mesh n g floor r s m
   unfolding filledOf acceptedWith
   filled-accepted h s′ m′ e a b c = unless-next _ s m _ _ (sym asked ∙ e) (rw (a, b, c) refl)

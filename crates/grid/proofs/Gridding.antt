@@ -1,7 +1,7 @@
 -- A triangle's cells lie in the grid, since their ends are held to it, and how many members there are.
 use mathlib.Core.List.{List}
 use mathlib.Core.Path.{_≡_, refl, ap, ap₂, _∙_}
-use Prim.Native.Nat.{ℕ, _+_, _-_, _*_, _≤_, _<_, min}
+use Prim.Native.Nat.{ℕ, _+_, _≤_, _<_}
 use native.Mathlib.Nat.{div-lt-iff-lt-mul}
 use native.Mathlib.Numerals.{add-one}
 use native.Mathlib.Omega.{arith}
@@ -19,7 +19,7 @@ use Rattle.cells.proofs.Sets.{covered-row}
 use Rattle.cells.proofs.Totals.{total-is}
 use Rattle.grid.specs.declared.Grid.{Grid}
 use Rattle.grid.specs.Grid.{gridOf, cellsIn, cellsOf, coverOf, totalOf}
-use Rattle.grid.specs.Indexed.{Gridded}
+use Rattle.grid.specs.Parts.{Gridded}
 
 -- a stretch of columns and one of rows
 abbrev pub joined : Stretch → Stretch → Cells

@@ -1,31 +1,28 @@
 -- What an accepted build leaves is an index: header in its ranges, tables that a question passes, and each triangle in the grid.
-use mathlib.Core.Bool.{Bool, true, false, _&&_}
+use mathlib.Core.Bool.{true}
 use mathlib.Core.List.{List}
-use mathlib.Core.Path.{_≡_, refl, ap, sym, _∙_, subst}
-use Prim.Native.Nat.{ℕ, _+_, _-_, _*_, _^_, _≤_, _<_}
+use mathlib.Core.Path.{_≡_, refl, sym, subst}
+use Prim.Native.Nat.{ℕ, _+_, _*_, _^_, _≤_, _<_}
 use native.Mathlib.Nat.{mul-pos}
 use native.Mathlib.Omega.{arith}
 use borrow.Author.Tests.{eqb-true, eqb-false, le-leb}
-use lib.Dec.{eqb, leb}
+use lib.Dec.{eqb}
 use lib.Ieee.{Float, ofBits, le}
-use lib.ListN.{length, length-append, length-drop}
-use Rattle.numbers.specs.Reals.{num, millionth, twoMillion}
+use lib.ListN.{length}
+use Rattle.numbers.specs.Reals.{millionth, twoMillion}
 use Rattle.spans.specs.Mesh.{isCoordinate, extentOf, boxOf}
-use Rattle.spans.specs.Axis.{spanOf, sizeOf, cellsAlong, stretchOf}
+use Rattle.spans.specs.Axis.{cellsAlong}
 use Rattle.spans.proofs.Ranges.{coordinate, two}
 use Rattle.spans.proofs.Sizes.{Size, by-test, radius, size-range}
 use Rattle.spans.proofs.Extremes.{Ordered, ordered-x, ordered-y, along-few, in-order, near-ends}
 use Rattle.spans.proofs.Scales.{true-of, eps-above, eps-under}
-use Rattle.cells.specs.Cover.{isFrom, startOf, startsOf, membersTable, entries}
-use Rattle.cells.proofs.Building.{entries-length}
-use Rattle.cells.proofs.Reading.{cell-is, starts-room, starts-rise, starts-within}
-use Rattle.grid.specs.declared.Grid.{Grid}
-use Rattle.grid.specs.declared.Header.{Header}
-use Rattle.grid.specs.declared.Built.{Built}
+use Rattle.cells.specs.Cover.{isFrom, startsOf, membersTable}
+use Rattle.cells.proofs.Reading.{cell-is, starts-room, starts-rise, starts-within, once, member-of}
 use Rattle.grid.specs.Grid.{trianglesIn, gridOf, cellsIn, cellsOf, coverOf}
-use Rattle.grid.specs.Header.{headed, gridIn, coversOf, inRanges}
-use Rattle.grid.specs.Build.{refusalOfMesh, refusalOfGrid, refusalOfMembers, Outcome, outcome, refusedBy, acceptedWith, unless, filledOf, gridded, buildOf}
-use Rattle.grid.specs.Indexed.{InGrid, Indexed, NearBox, Gridded}
+use Rattle.grid.specs.Header.{headerOf, inRanges}
+use Rattle.grid.specs.Build.{Outcome, refusedBy, acceptedWith, unless, filledOf, gridded, buildOf}
+use Rattle.grid.specs.Indexed.{InGrid, Indexed}
+use Rattle.grid.specs.Parts.{NearBox, Gridded}
 use Rattle.grid.proofs.Gridding.{within}
 use Rattle.grid.proofs.Accepting.{Accepted, accepted, Passed, passed}
 
@@ -90,8 +87,8 @@ module _ (mesh : List Float) (floor r : Float) (a : Accepted mesh floor r) where
 
   -- ---- the header's ranges
   pub header-ranges : (lent : ℕ) → Passed (gridOf mesh (trianglesIn mesh) r .columns) (gridOf mesh (trianglesIn mesh) r .rows) lent
-      → inRanges (headed mesh (trianglesIn mesh) (gridOf mesh (trianglesIn mesh) r) floor r) ≡ true
-  unfolding inRanges headed
+      → inRanges (headerOf mesh (trianglesIn mesh) (gridOf mesh (trianglesIn mesh) r) floor r) ≡ true
+  unfolding inRanges headerOf
   header-ranges lent p =
       let g = gridOf mesh (trianglesIn mesh) r in
       let n = trianglesIn mesh in
@@ -109,21 +106,23 @@ module _ (mesh : List Float) (floor r : Float) (a : Accepted mesh floor r) where
 
   -- ---- both tables
   module _ (s m : List ℕ) (p : Passed (gridOf mesh (trianglesIn mesh) r .columns) (gridOf mesh (trianglesIn mesh) r .rows) (length s)) where
-    indexed : Indexed mesh (headed mesh (trianglesIn mesh) (gridOf mesh (trianglesIn mesh) r) floor r)
+    indexed : Indexed mesh (headerOf mesh (trianglesIn mesh) (gridOf mesh (trianglesIn mesh) r) floor r)
         (startsOf (coverOf mesh (gridOf mesh (trianglesIn mesh) r)) (trianglesIn mesh) (cellsIn (gridOf mesh (trianglesIn mesh) r)) s)
         (membersTable (coverOf mesh (gridOf mesh (trianglesIn mesh) r)) (trianglesIn mesh) (cellsIn (gridOf mesh (trianglesIn mesh) r)) m)
-    unfolding headed
+    unfolding headerOf
     indexed =
         let g = gridOf mesh (trianglesIn mesh) r in
         let n = trianglesIn mesh in
         record {
           nine = a .nine;
-          ranges = unfold headed in header-ranges (length s) p;
+          ranges = unfold headerOf in header-ranges (length s) p;
           numbers = a .numbers;
           room = starts-room (coverOf mesh g) n (cellsIn g) s m;
           rise = starts-rise (coverOf mesh g) n (cellsIn g) s m;
           within = λ c h. starts-within (coverOf mesh g) n (cellsIn g) s m (c + 1) (omega arith);
           cell = cell-is (coverOf mesh g) n (cellsIn g) s m;
+          once = λ c i k h. rw (cell-is (coverOf mesh g) n (cellsIn g) s m c k) (once (coverOf mesh g) c n i h);
+          below = λ c j k h. let e = cell-is (coverOf mesh g) n (cellsIn g) s m c k in rw e (member-of (coverOf mesh g) c n j (rw e at h) .0);
           lies = lies;
         }
 

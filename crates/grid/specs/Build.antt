@@ -14,7 +14,7 @@ use Rattle.grid.specs.declared.Grid.{Grid}
 use Rattle.grid.specs.declared.Header.{Header}
 use Rattle.grid.specs.declared.Built.{Built}
 use Rattle.grid.specs.Grid.{trianglesIn, gridOf, cellsIn, coverOf}
-use Rattle.grid.specs.Header.{headed}
+use Rattle.grid.specs.Header.{headerOf}
 use Rattle.grid.specs.Ladder.{refuse, demand}
 
 -- No place was found.
@@ -83,7 +83,7 @@ unfoldable pub filledOf : List Float → ℕ → Grid → Float → Float → Li
 filledOf mesh n g floor r s m =
     let on = coverOf mesh g in
     unless (refusalOfMembers (startOf on n (cellsIn g)) (length m)) s m
-    (outcome (acceptedWith (headed mesh n g floor r)) (startsOf on n (cellsIn g) s) (membersTable on n (cellsIn g) m))
+    (outcome (acceptedWith (headerOf mesh n g floor r)) (startsOf on n (cellsIn g) s) (membersTable on n (cellsIn g) m))
 
 -- Refusal 5, then as above.
 unfoldable pub gridded : List Float → ℕ → Grid → Float → Float → List ℕ → List ℕ → Outcome

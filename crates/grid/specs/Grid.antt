@@ -1,7 +1,6 @@
 -- Document 01, "Mesh, grid and marks": the grid over a mesh, and the cells that a triangle covers.
-use mathlib.Core.Bool.{Bool}
 use mathlib.Core.List.{List}
-use Prim.Native.Nat.{ℕ, _+_, _*_, _/_, _≤_, _<_}
+use Prim.Native.Nat.{ℕ, _*_, _/_}
 use lib.ListN.{length}
 use lib.Ieee.{Float}
 use Rattle.spans.specs.Mesh.{boxOf, extentOf}

@@ -2,18 +2,17 @@
 use mathlib.Core.Bool.{Bool, _&&_}
 use mathlib.Core.List.{List}
 use Prim.Native.Nat.{ℕ, _*_}
-use lib.Dec.{leb}
 use lib.Ieee.{Float, lt, le}
 use Rattle.numbers.specs.Reals.{f0, millionth, twoMillion, twoMillionths}
 use Rattle.spans.specs.Mesh.{isCoordinate, isRadius, epsOf}
 use Rattle.cells.specs.Cover.{Cover, isFrom}
 use Rattle.grid.specs.declared.Grid.{Grid}
 use Rattle.grid.specs.declared.Header.{Header}
-use Rattle.grid.specs.Grid.{trianglesIn, gridOf, coverOf}
+use Rattle.grid.specs.Grid.{coverOf}
 
--- The header of a mesh, with the grid over it, floor and r.
-unfoldable pub headed : List Float → ℕ → Grid → Float → Float → Header
-headed mesh n g floor r =
+-- The header of n triangles: n, the grid over them, floor, eps and r.
+unfoldable pub headerOf : List Float → ℕ → Grid → Float → Float → Header
+headerOf mesh n g floor r =
     record {
       n = n;
       «origin_x» = g .x;
@@ -25,9 +24,6 @@ headed mesh n g floor r =
       eps = epsOf mesh n;
       r = r;
     }
-
-unfoldable pub headerOf : List Float → Float → Float → Header
-headerOf mesh floor r = headed mesh (trianglesIn mesh) (gridOf mesh (trianglesIn mesh) r) floor r
 
 -- The grid that a header records.
 abbrev pub gridIn : Header → Grid

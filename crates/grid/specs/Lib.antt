@@ -3,3 +3,4 @@ pub mod Grid
 pub mod Header
 pub mod Build
 pub mod Indexed
+pub mod Parts

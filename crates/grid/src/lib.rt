@@ -7,9 +7,10 @@ ghost use Rattle.spans.specs.Good.{AllGood};
 ghost use Rattle.cells.specs.Cover.{startsOf, membersTable};
 ghost use Rattle.cells.specs.Steps.{Room, CountedAll, Ready, Filled, Fits};
 ghost use Rattle.grid.specs.Grid.{trianglesIn, gridOf, cellsIn, cellsOf, coverOf, totalOf};
-ghost use Rattle.grid.specs.Header.{headed};
+ghost use Rattle.grid.specs.Header.{headerOf};
 ghost use Rattle.grid.specs.Build.{refusalOfNumbers, refusalOfMesh, refusalOfGrid, refusalOfMembers, outcome, refusedBy, filledOf, gridded, buildOf};
-ghost use Rattle.grid.specs.Indexed.{Indexed, NearBox, Gridded};
+ghost use Rattle.grid.specs.Indexed.{Indexed};
+ghost use Rattle.grid.specs.Parts.{NearBox, Gridded};
 
 // Where a grid begins, how large its cells are, and how many there are.
 pub struct Grid {
@@ -196,7 +197,7 @@ fn fill_grid(
 fn header_of(mesh: &[f64], n: usize, g: Grid, floor: f64, r: f64) -> Header
     requires { ⌜ n * 9 ≤ length (now mesh) ⌝ }
     requires { ⌜ AllGood (now mesh) ⌝ }
-    ensures { λ h. ⌜ h ≡ headed (now (mesh .entry)) n g floor r ⌝ }
+    ensures { λ h. ⌜ h ≡ headerOf (now (mesh .entry)) n g floor r ⌝ }
 {
     let eps = spans::eps(mesh, n);
     Header {

@@ -1,15 +1,14 @@
 -- Truncation where the fraction is all there is, and where the range ends.
-use mathlib.Core.Bool.{Bool, true, false, not, cond, _&&_, _||_}
-use mathlib.Core.Path.{_≡_, refl, ap, sym, _∙_}
-use Prim.Native.Nat.{ℕ, zero, suc, _+_, _-_, _*_, _/_, _^_, _≤_, _<_, min}
-use native.Mathlib.Nat.{one-mul, mul-one, div-eq-of-lt, le-div-iff-mul-le, eq-or-lt-of-le}
+use mathlib.Core.Bool.{Bool, true, false, not, _&&_, _||_}
+use mathlib.Core.Path.{_≡_, refl, sym}
+use Prim.Native.Nat.{ℕ, zero, _+_, _-_, _*_, _/_, _^_, _≤_, _<_, min}
+use native.Mathlib.Nat.{one-mul, mul-one, div-eq-of-lt, le-div-iff-mul-le}
 use native.Mathlib.Omega.{arith}
-use borrow.Author.Tests.{ltb-true, ltb-false, eqb-true, eqb-false}
+use borrow.Author.Tests.{ltb-false, eqb-true, eqb-false}
 use lib.Dec.{T, ltb, eqb, lt→ltb}
-use lib.IntN.{ℤ, pos, negsuc}
+use lib.IntN.{ℤ, pos}
 use lib.Ieee.{Float, nan, inf, fin, binary64, ofBits, up, down, lt, le, eq, toUnsigned}
 use lib.Ieee.Fits.{down-pos}
-use lib.Pow.{pow-pos}
 use Rattle.numbers.specs.Reals.{f1}
 
 -- 2 ^ 64

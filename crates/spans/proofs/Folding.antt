@@ -1,9 +1,9 @@
 -- Extremes and scale, triangle by triangle.
 use mathlib.Core.List.{List}
-use mathlib.Core.Path.{_≡_, refl, ap, _∙_}
+use mathlib.Core.Path.{_≡_, refl}
 use Prim.Native.Nat.{ℕ, _+_}
 use native.Mathlib.Numerals.{add-one}
-use lib.Ieee.{Float, binary64, ofBits, div, neg}
+use lib.Ieee.{Float, ofBits, div, neg}
 use Rattle.numbers.specs.Reals.{_⊘_, f0, f1, maxOf}
 use Rattle.plane.specs.Mesh.{triangleOf}
 use Rattle.plane.specs.declared.Triangle.{Triangle}

@@ -1,7 +1,7 @@
 -- A number from 0 on that is not too large, with 2 ^ 52 added and taken away again: between 2 ^ 52 and 2 ^ 53 every float is whole, and rounding keeps the
 -- order, so what is left is the number without its fraction or one more.
-use mathlib.Core.Bool.{Bool, true, false, cond, _&&_}
-use mathlib.Core.Path.{_≡_, refl, ap, ap₂, sym, _∙_, subst}
+use mathlib.Core.Bool.{true, false, _&&_}
+use mathlib.Core.Path.{_≡_, refl, ap, ap₂, sym, _∙_}
 use Prim.Native.Nat.{ℕ, zero, suc, _+_, _-_, _*_, _/_, _%_, _^_, _≤_, _<_, min}
 use native.Mathlib.Nat.{mul-one, mul-assoc, mul-pos, zero-mul, zero-div, add-mul, mul-right-comm, mul-le-mul-right, le-of-mul-le-mul-right, div-mul-le-self, div-lt-iff-lt-mul, le-div-iff-mul-le, pow-suc}
 use native.Mathlib.Omega.{arith}
@@ -10,10 +10,10 @@ use lib.Dec.{T, ltb, leb, eqb, ltb→lt, le→leb}
 use lib.IntN.{ℤ, pos, negsuc}
 use lib.Pow.{pow-pos}
 use lib.Ieee.{Float, nan, inf, fin, binary64, ofBits, up, down, round, sum, add, sub, neg, lt, le, fits, ofInt, inFloat, inUnsigned, toUnsigned, low, emax}
-use lib.Ieee.Fits.{down-pos, add-fits, ofInt-fits, and-l, and-r}
+use lib.Ieee.Fits.{down-pos, add-fits, and-l, and-r}
 use lib.Ieee.Order.{round-mono}
 use lib.Ieee.Exact.{HasValue}
-use lib.Ieee.Back.{round-whole, whole-unique, unsigned-back}
+use lib.Ieee.Back.{round-whole, unsigned-back}
 use lib.Ieee.Positive.{num, den, positive, own-value, between, positive-of-value, values-of-le}
 use Rattle.numbers.specs.Reals.{_⊕_, _⊖_, f0}
 use Rattle.spans.proofs.Signed.{le→parts}

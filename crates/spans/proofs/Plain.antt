@@ -2,20 +2,17 @@
 use mathlib.Core.Bool.{Bool, true, false, _&&_, _||_}
 use mathlib.Core.List.{List}
 use mathlib.Core.Path.{_≡_, refl, ap, sym, _∙_}
-use Prim.Native.Nat.{ℕ, zero, suc, _+_, _*_, _≤_, _<_}
+use Prim.Native.Nat.{ℕ, zero, suc, _+_, _*_, _≤_}
 use native.Mathlib.Omega.{arith}
 use borrow.Author.Tests.{eqb-true, eqb-false, eq-eqb, ne-eqb}
 use lib.Dec.{eqb, ltb}
 use lib.IntN.{ℤ, pos}
 use lib.ListN.{length}
 use lib.Ieee.{Float, nan, inf, fin, binary64, ofBits, up, down, neg, lt, le, isNan}
-use Rattle.numbers.specs.Reals.{f0, million, num, maxOf, minOf, absOf}
+use Rattle.numbers.specs.Reals.{f0, million, maxOf, minOf, absOf}
 use Rattle.plane.specs.Mesh.{triangleOf}
-use Rattle.plane.specs.declared.Triangle.{Triangle}
-use Rattle.plane.specs.declared.Bounds.{Bounds}
-use Rattle.spans.specs.Mesh.{isCoordinate, boxOf, widened, extentOf, farther}
+use Rattle.spans.specs.Mesh.{isCoordinate, widened, extentOf, farther}
 use Rattle.spans.specs.Good.{Good, AllGood, Corners, Ends, upright}
-use Rattle.spans.specs.declared.Extent.{Extent}
 use Rattle.spans.proofs.Signed.{le-apart}
 use Rattle.spans.proofs.Ranges.{million-is}
 use Rattle.spans.proofs.Sizes.{by-test, either-of}

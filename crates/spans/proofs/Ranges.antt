@@ -1,18 +1,18 @@
 -- Differences, quotients and truncations keep the order; of coordinates up to 1e6 and cells from 1e-6 on they have ranges.
-use mathlib.Core.Bool.{Bool, true, false, not, cond, _&&_, _||_}
-use mathlib.Core.Logic.{_⊎_, inl, inr}
-use mathlib.Core.Path.{_≡_, refl, ap, sym, _∙_, subst}
-use Prim.Native.Nat.{ℕ, zero, suc, _+_, _-_, _*_, _/_, _^_, _≤_, _<_, min}
-use native.Mathlib.Nat.{le-trans, le-of-eq, zero-mul, mul-zero, mul-one, one-mul, mul-comm, mul-assoc, mul-left-comm, add-mul, mul-add, mul-pos, mul-le-mul-right, mul-le-mul-left, zero-div, le-of-mul-le-mul-right}
+use mathlib.Core.Bool.{Bool, true, false, not}
+use mathlib.Core.Logic.{inl}
+use mathlib.Core.Path.{_≡_, refl}
+use Prim.Native.Nat.{ℕ, _+_, _-_, _*_, _^_, _≤_, _<_, min}
+use native.Mathlib.Nat.{zero-mul, mul-zero, mul-one, mul-comm, mul-assoc, mul-left-comm, add-mul, mul-add, mul-pos, mul-le-mul-right, zero-div, le-of-mul-le-mul-right}
 use native.Mathlib.Omega.{arith}
-use lib.Dec.{T, ltb, leb, eqb, ltb→lt}
-use lib.IntN.{ℤ, pos, negsuc}
-use lib.Ieee.{Float, nan, inf, fin, Format, binary64, up, down, sub, div, neg, lt, le, eq, toUnsigned, ofBits, isNan, round}
+use lib.Dec.{T, ltb, ltb→lt}
+use lib.IntN.{pos, negsuc}
+use lib.Ieee.{Float, nan, inf, fin, Format, binary64, up, down, sub, div, neg, lt, le, toUnsigned, ofBits, round}
 use lib.Ieee.Fits.{down-pos, up-pos}
 use lib.Ieee.Nearest.{div-mono}
 use lib.Ieee.Scale.{finite}
 use lib.Ieee.Positive.{num, den, den-pos, positive}
-use Rattle.numbers.specs.Reals.{_⊖_, _⊘_, f0, million, millionth, absOf}
+use Rattle.numbers.specs.Reals.{_⊖_, million, millionth, absOf}
 use Rattle.spans.specs.Mesh.{isCoordinate}
 use Rattle.spans.proofs.Signed.{upper, lower, le→parts, parts→le, Is, rounded, is-le, is-sub, is-div}
 

@@ -4,7 +4,6 @@ use mathlib.Core.Path.{_≡_, refl, ap, sym, _∙_}
 use Prim.Native.Nat.{ℕ, zero, suc, _+_, _-_, _*_, _/_, _^_, _≤_, _<_, min}
 use native.Mathlib.Omega.{arith}
 use lib.Dec.{ltb, le→leb}
-use lib.IntN.{pos}
 use lib.Ieee.{Float, nan, inf, fin, binary64, prec, emax, low, up, down, odd, units, round, ofInt, inFloat, toUnsigned}
 use lib.Ieee.Fits.{round-is}
 use lib.Ieee.Back.{unsigned-back}

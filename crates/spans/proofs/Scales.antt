@@ -16,7 +16,7 @@ use Rattle.numbers.specs.Reals.{_⊗_, f0, f1, slack, million, twoMillionths, n
 use Rattle.plane.specs.Mesh.{triangleOf}
 use Rattle.spans.specs.Mesh.{isCoordinate, farther, farthestOf, scaleOf, epsOf}
 use Rattle.spans.proofs.Signed.{parts→lt}
-use Rattle.spans.proofs.Ranges.{million-is, absolute-finite, le-trans-finite, num-pos}
+use Rattle.spans.proofs.Ranges.{million-is, absolute-finite, le-trans-finite}
 use Rattle.spans.proofs.Sizes.{either-of, max-least, above-finite, f1-is}
 
 -- 1e6, 1e-12

@@ -1,7 +1,7 @@
 -- The search for a number that is no coordinate: what is left of the mesh is searched as the whole is.
 use mathlib.Core.Bool.{Bool, true, false}
 use mathlib.Core.List.{List, [], _∷_}
-use mathlib.Core.Path.{_≡_, refl, sym, _∙_}
+use mathlib.Core.Path.{_≡_, refl, _∙_}
 use Prim.Native.Nat.{ℕ, zero, suc, _+_, _<_}
 use native.Mathlib.Numerals.{add-one}
 use native.Mathlib.Omega.{arith}
@@ -10,7 +10,6 @@ use lib.Seq.{drop-cons, drop-length}
 use lib.Ieee.{Float, nan}
 use Rattle.numbers.specs.Reals.{num}
 use Rattle.spans.specs.Mesh.{isCoordinate, badFrom, firstBad}
-use Rattle.spans.specs.declared.Place.{Place}
 use Rattle.spans.specs.declared.Place.the-variants.{Nowhere, At}
 
 module _ (mesh : List Float) where

@@ -1,15 +1,14 @@
 -- Of an accepted mesh: the cell's size is from 1e-6 to 2e6, a coordinate's cell is at most 2e12, and cells are in the coordinates' order.
 -- Of the root it is asked only that it is finite or a NaN.
-use mathlib.Core.Bool.{Bool, true, false, not, cond, _&&_, _||_}
-use mathlib.Core.Logic.{_⊎_, inl, inr}
-use mathlib.Core.Path.{_≡_, refl, ap, sym, _∙_, subst}
-use Prim.Native.Nat.{ℕ, zero, suc, _+_, _-_, _*_, _/_, _^_, _≤_, _<_, min}
-use native.Mathlib.Nat.{le-trans, le-of-eq, zero-mul, mul-one, one-mul, mul-pos, mul-le-mul-right}
+use mathlib.Core.Bool.{Bool, true, false, not, _&&_}
+use mathlib.Core.Path.{_≡_, refl, subst}
+use Prim.Native.Nat.{ℕ, _+_, _*_, _≤_, _<_}
+use native.Mathlib.Nat.{zero-mul, mul-one, mul-pos, mul-le-mul-right}
 use native.Mathlib.Omega.{arith}
 use borrow.Author.Tests.{ltb-false}
-use lib.Dec.{T, ltb, leb, eqb}
-use lib.IntN.{ℤ, pos, negsuc}
-use lib.Ieee.{Float, nan, inf, fin, Format, binary64, up, down, sub, div, neg, lt, le, eq, toUnsigned, ofInt, fits, size, units, odd, ofBits, isNan, round}
+use lib.Dec.{T}
+use lib.IntN.{pos, negsuc}
+use lib.Ieee.{Float, nan, inf, fin, binary64, up, down, div, lt, le, toUnsigned, ofInt, fits, size, units, odd, ofBits, isNan, round}
 use lib.Ieee.Fits.{ofInt-fits}
 use lib.Ieee.Order.{round-mono}
 use lib.Ieee.Scale.{finite}
@@ -18,10 +17,10 @@ use Rattle.numbers.specs.Reals.{_⊖_, _⊘_, million, millionth, f0, f1, f4, m
 use Rattle.numbers.specs.Root.{rootOf, rootOfUnits, nearestRoot, wholeRoot}
 use Rattle.numbers.proofs.Monotone.{root-mono}
 use Rattle.spans.specs.Mesh.{isRadius}
-use Rattle.spans.specs.Axis.{spanOf, sizeOf, truncated, cellAt, cellsAlong}
+use Rattle.spans.specs.Axis.{spanOf, sizeOf, truncated, cellAt}
 use Rattle.spans.specs.declared.Extent.{Extent}
-use Rattle.spans.proofs.Signed.{upper, lower, le→parts, parts→le, parts→lt, Is, rounded, is-le, is-sub, is-div}
-use Rattle.spans.proofs.Ranges.{Coordinate, coordinate-finite, two, minus-two, zero-is, extent-high, extent-low, extent-finite, extent-positive, millionth-is, million-is, finite-between, le-trans-finite, num-pos, sub-mono, div-up, div-both, cut-up}
+use Rattle.spans.proofs.Signed.{upper, lower, le→parts, parts→le, is-le, is-div}
+use Rattle.spans.proofs.Ranges.{Coordinate, coordinate-finite, two, zero-is, extent-high, extent-finite, extent-positive, millionth-is, million-is, finite-between, le-trans-finite, num-pos, sub-mono, div-up, div-both, cut-up}
 
 -- 1e-6
 abbrev tiny : Float

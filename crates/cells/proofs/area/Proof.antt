@@ -8,8 +8,6 @@ use Rattle.cells.specs.Cover.{areaOf}
 use Rattle.cells.proofs.Totals.{area-none, area-small}
 use Rattle.cells.proofs.area.Statement.{statement}
 use Rattle.cells.proofs.area.Tie as tie
-use Rattle.cells.proofs.area.Reads as reads
-use Rattle.cells.proofs.area.Lts as lts
 
 returns : tie.Need-returns
 returns c = (sym (area-none _ (inl (c .if1 .taken))), omega arith)

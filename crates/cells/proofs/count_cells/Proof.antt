@@ -1,16 +1,12 @@
 -- `cells::count_cells` meets its contract. At row y the cells of the rows before it have one more. What is left of the rows falls.
-use Prim.Native.Nat.{_+_, _-_, _*_, _≤_, _<_, max}
-use mathlib.Core.Path.{_≡_, _∙_, sym}
+use Prim.Native.Nat.{_+_, _-_, _*_, _≤_, max}
+use mathlib.Core.Path.{_≡_}
 use native.Mathlib.Omega.{arith}
-use borrow.Author.Needs.{needs}
-use Rattle.cells.specs.Steps.{between, Counted}
+use Rattle.cells.specs.Steps.{Counted}
 use Rattle.cells.proofs.Sets.{rowsUnder, rows-none, rows-end, row-more, row-fits, row-covered, row-new, none-covered}
 use Rattle.cells.proofs.Entries.{counted-none, counted-join, counted-as}
 use Rattle.cells.proofs.count_cells.Statement.{statement}
 use Rattle.cells.proofs.count_cells.Tie as tie
-use Rattle.cells.proofs.count_cells.Reads as reads
-use Rattle.cells.proofs.count_cells.Lts as lts
-use Rattle.cells.proofs.count_row.Reads as count-row-reads
 
 abbrev Inv-loop : tie.InvT-loop
 Inv-loop starts₀ columns x0 x1 y0 y1 y₀ y-end starts y =

@@ -1,9 +1,6 @@
 -- `cells::count_row` meets its contract. At entry c those from a up to c have one more. What is left of a..e falls.
 use Prim.Native.Nat.{_+_, _-_, _^_, _≤_, _<_, max}
-use mathlib.Core.Path.{_≡_, _∙_, sym}
 use native.Mathlib.Omega.{arith}
-use borrow.Author.Needs.{needs}
-use lib.Dec.{eqb}
 use lib.ListN.{length, getD}
 use denote.Ref.{now}
 use Rattle.cells.specs.Steps.{between, Counted}
@@ -11,8 +8,6 @@ use Rattle.cells.proofs.Sets.{between-more, between-none, between-on, b
 use Rattle.cells.proofs.Entries.{counted-one, counted-none, counted-join, counted-as}
 use Rattle.cells.proofs.count_row.Statement.{statement}
 use Rattle.cells.proofs.count_row.Tie as tie
-use Rattle.cells.proofs.count_row.Reads as reads
-use Rattle.cells.proofs.count_row.Lts as lts
 
 abbrev Inv-loop : tie.InvT-loop
 Inv-loop starts₀ a e c₀ starts c = Counted (between a c) starts₀ starts × (a ≤ c) × (c ≤ max a e)

@@ -1,16 +1,12 @@
 -- `cells::place_cells` meets its contract. At row y the cells of the rows before it have one more. What is left of the rows falls.
-use Prim.Native.Nat.{_+_, _-_, _*_, _≤_, _<_, max}
-use mathlib.Core.Path.{_≡_, _∙_, sym}
+use Prim.Native.Nat.{_+_, _-_, _*_, _≤_, max}
+use mathlib.Core.Path.{_≡_}
 use native.Mathlib.Omega.{arith}
-use borrow.Author.Needs.{needs}
-use Rattle.cells.specs.Steps.{between, Placed}
+use Rattle.cells.specs.Steps.{Placed}
 use Rattle.cells.proofs.Sets.{rowsUnder, rows-none, rows-end, row-more, row-fits, row-covered, row-new, none-covered}
 use Rattle.cells.proofs.Entries.{placed-none, placed-join, placed-as, open-part}
 use Rattle.cells.proofs.place_cells.Statement.{statement}
 use Rattle.cells.proofs.place_cells.Tie as tie
-use Rattle.cells.proofs.place_cells.Reads as reads
-use Rattle.cells.proofs.place_cells.Lts as lts
-use Rattle.cells.proofs.place_row.Reads as place-row-reads
 
 abbrev Inv-loop : tie.InvT-loop
 Inv-loop starts₀ members₀ columns i x0 x1 y0 y1 y₀ y-end starts members y =

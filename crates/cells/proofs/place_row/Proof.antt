@@ -1,15 +1,12 @@
 -- `cells::place_row` meets its contract. At cell c the triangle stands in those from a up to c. What is left of a..e falls.
-use Prim.Native.Nat.{_+_, _-_, _≤_, _<_, max}
+use Prim.Native.Nat.{_-_, _≤_, _<_, max}
 use native.Mathlib.Omega.{arith}
 use lib.ListN.{length, getD}
-use denote.Ref.{now}
 use Rattle.cells.specs.Steps.{between, Placed}
 use Rattle.cells.proofs.Sets.{between-more, between-none, between-on, between-ends, over-between}
 use Rattle.cells.proofs.Entries.{placed-one, placed-none, placed-join, placed-as}
 use Rattle.cells.proofs.place_row.Statement.{statement}
 use Rattle.cells.proofs.place_row.Tie as tie
-use Rattle.cells.proofs.place_row.Reads as reads
-use Rattle.cells.proofs.place_row.Lts as lts
 
 abbrev Inv-loop : tie.InvT-loop
 Inv-loop starts₀ members₀ a e i c₀ starts members c = Placed (between a c) i starts₀ members₀ starts members × (a ≤ c) × (c ≤ max a e)

@@ -1,7 +1,5 @@
 -- `grid::build` meets its contract.
-use mathlib.Core.Path.{_≡_, sym, _∙_}
 use borrow.Author.Needs.{needs}
-use Rattle.grid.specs.Build.{buildOf}
 use Rattle.grid.proofs.Accepting.{built-refused, built-next}
 use Rattle.grid.proofs.Indexing.{built-indexed}
 use Rattle.grid.proofs.build.Statement.{statement}

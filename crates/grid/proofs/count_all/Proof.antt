@@ -1,6 +1,6 @@
 -- `grid::count_all` meets its contract. At triangle i the members of each cell among those before it are counted. What is left of the triangles falls.
-use Prim.Native.Nat.{_+_, _-_, _*_, _≤_, _<_}
-use mathlib.Core.Path.{_≡_, ap, sym, subst⁻¹}
+use Prim.Native.Nat.{_-_, _≤_, _<_}
+use mathlib.Core.Path.{subst⁻¹}
 use native.Mathlib.Omega.{arith}
 use denote.Ref.{now}
 use Rattle.cells.specs.declared.Cells.{Cells}
@@ -12,10 +12,6 @@ use Rattle.cells.proofs.Members.{members-le}
 use Rattle.cells.proofs.Entries.{counted-all-none, counted-all-more, counted-all-as}
 use Rattle.grid.proofs.count_all.Statement.{statement}
 use Rattle.grid.proofs.count_all.Tie as tie
-use Rattle.grid.proofs.count_all.Reads as reads
-use Rattle.grid.proofs.count_all.Lts as lts
-use Rattle.grid.proofs.cells_of.Reads as cells-of-reads
-use Rattle.cells.proofs.count_cells.Reads as count-cells-reads
 
 abbrev Inv-loop : tie.InvT-loop
 Inv-loop mesh n g starts₀ columns i₀ starts i = CountedAll (coverOf mesh g) i starts₀ starts × (i ≤ n)

@@ -1,8 +1,7 @@
 -- `grid::fill` meets its contract. Before triangle i - 1 the triangles from i on have been placed. i falls.
-use Prim.Native.Nat.{_+_, _-_, _*_, _≤_, _<_}
-use mathlib.Core.Path.{_≡_, ap, sym, subst⁻¹}
+use Prim.Native.Nat.{_-_, _≤_, _<_}
+use mathlib.Core.Path.{subst⁻¹}
 use native.Mathlib.Omega.{arith}
-use denote.Ref.{now}
 use Rattle.cells.specs.declared.Cells.{Cells}
 use Rattle.cells.specs.Cover.{covers}
 use Rattle.cells.specs.Steps.{Fitting, Open, Filled}
@@ -11,10 +10,6 @@ use Rattle.grid.proofs.Gridding.{fitting}
 use Rattle.cells.proofs.Filling.{filled-none, filled-open, filled-more, filled-as}
 use Rattle.grid.proofs.fill.Statement.{statement}
 use Rattle.grid.proofs.fill.Tie as tie
-use Rattle.grid.proofs.fill.Reads as reads
-use Rattle.grid.proofs.fill.Lts as lts
-use Rattle.grid.proofs.cells_of.Reads as cells-of-reads
-use Rattle.cells.proofs.place_cells.Reads as place-cells-reads
 
 abbrev Inv-loop : tie.InvT-loop
 Inv-loop mesh n g cells starts₀ members₀ columns i₀ starts members i =

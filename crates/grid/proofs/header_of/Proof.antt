@@ -1,12 +1,11 @@
 -- `grid::header_of` meets its contract.
-use mathlib.Core.Path.{ap}
 use borrow.Author.Needs.{needs}
-use Rattle.grid.specs.Header.{headed}
+use Rattle.grid.specs.Header.{headerOf}
 use Rattle.grid.proofs.header_of.Statement.{statement}
 use Rattle.grid.proofs.header_of.Tie as tie
 
 returns : tie.Need-returns
-unfolding headed
+unfolding headerOf
 returns c = rw (c .eps .ensures)
 
 pub header-of-spec : {M : Type 1} → statement M

@@ -1,5 +1,4 @@
 -- `grid::refusal_of_mesh` meets its contract.
-use borrow.Author.Needs.{needs}
 use Rattle.grid.specs.Build.{refusalOfMesh}
 use Rattle.grid.proofs.Ladder.{ladder}
 use Rattle.grid.proofs.refusal_of_mesh.Statement.{statement}

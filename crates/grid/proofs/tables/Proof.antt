@@ -1,5 +1,4 @@
 -- `grid::tables` meets its contract, step by step.
-use native.Mathlib.Omega.{arith}
 use borrow.Author.Needs.{needs}
 use Rattle.cells.proofs.Building.{cleared-room, counted-sums, summed-ready, built-starts, built-members}
 use Rattle.grid.proofs.tables.Statement.{statement}

@@ -1,6 +1,6 @@
 -- `grid::total` meets its contract. At triangle i the areas of those before it are added up. What is left of the triangles falls.
-use Prim.Native.Nat.{_+_, _-_, _*_, _≤_, _<_}
-use mathlib.Core.Path.{_≡_, _∙_, sym, ap, subst⁻¹}
+use Prim.Native.Nat.{_-_, _*_, _≤_, _<_}
+use mathlib.Core.Path.{_≡_, _∙_, ap, subst⁻¹}
 use native.Mathlib.Omega.{arith}
 use denote.Ref.{now}
 use Rattle.cells.specs.declared.Cells.{Cells}
@@ -9,10 +9,6 @@ use Rattle.grid.specs.Grid.{cellsOf, totalOf}
 use Rattle.grid.proofs.Gridding.{fitting, total-more, total-none}
 use Rattle.grid.proofs.total.Statement.{statement}
 use Rattle.grid.proofs.total.Tie as tie
-use Rattle.grid.proofs.total.Reads as reads
-use Rattle.grid.proofs.total.Lts as lts
-use Rattle.cells.proofs.area.Reads as area-reads
-use Rattle.grid.proofs.cells_of.Reads as cells-of-reads
 
 abbrev Inv-loop : tie.InvT-loop
 Inv-loop mesh n g t₀ i₀ t i = (t ≡ totalOf mesh g i) × (t ≤ i * 4294967296) × (i ≤ n)

@@ -1,6 +1,6 @@
 -- `spans::cells_along` meets its contract.
 use Prim.Native.Nat.{ℕ, _+_}
-use mathlib.Core.Path.{_≡_, ap, _∙_}
+use mathlib.Core.Path.{ap, _∙_}
 use native.Mathlib.Omega.{arith}
 use lib.Ieee.{Float}
 use Rattle.spans.specs.Axis.{truncated, cellsAlong}

@@ -10,8 +10,6 @@ use Rattle.spans.proofs.Plain.{ends}
 use Rattle.spans.proofs.Folding.{extent-none, extent-more}
 use Rattle.spans.proofs.extent_of.Statement.{statement}
 use Rattle.spans.proofs.extent_of.Tie as tie
-use Rattle.spans.proofs.extent_of.Reads as reads
-use Rattle.spans.proofs.extent_of.Lts as lts
 
 abbrev Inv-loop : tie.InvT-loop
 Inv-loop mesh n e₀ i₀ e i = (e ≡ extentOf mesh i) × (i ≤ n)

@@ -8,8 +8,6 @@ use Rattle.spans.specs.Mesh.{badFrom, firstBad}
 use Rattle.spans.proofs.Searching.{search-begins, search-finds, search-goes, search-ends}
 use Rattle.spans.proofs.first_bad.Statement.{statement}
 use Rattle.spans.proofs.first_bad.Tie as tie
-use Rattle.spans.proofs.first_bad.Reads as reads
-use Rattle.spans.proofs.first_bad.Lts as lts
 
 abbrev Inv-loop : tie.InvT-loop
 Inv-loop mesh k₀ k = (badFrom k (drop k mesh) ≡ firstBad mesh) × (k ≤ length mesh)

@@ -10,8 +10,6 @@ use Rattle.spans.proofs.Plain.{corners}
 use Rattle.spans.proofs.Folding.{scale-none, scale-more}
 use Rattle.spans.proofs.scale.Statement.{statement}
 use Rattle.spans.proofs.scale.Tie as tie
-use Rattle.spans.proofs.scale.Reads as reads
-use Rattle.spans.proofs.scale.Lts as lts
 
 abbrev Inv-loop : tie.InvT-loop
 Inv-loop mesh n s₀ i₀ s i = (s ≡ scaleOf mesh i) × (i ≤ n)
