@@ -12,6 +12,8 @@ use Rattle.section.specs.declared.Section.{Section}
 use Rattle.grid.specs.declared.Header.{Header}
 use Rattle.grid.specs.Build.{Outcome}
 use Rattle.height.specs.Height as swept
+use Rattle.ask.specs.declared.Answer.{Answer}
+use Rattle.ask.specs.Ask as asked
 use Rattle.job.specs.Reader as reader
 
 -- A job read: the refusal, both tables, floor and radius, the numbers of triangles and questions.
@@ -99,5 +101,11 @@ heightLeft k ms hs ns = record { refusal = k; marks = ms; height = hs; counts = 
 
 unfoldable pub heightLeftBy : swept.Outcome → HeightLeft
 heightLeftBy o =
+    let a = o .answer in
+    heightLeft (a .refusal) (o .marks) (a .height ∷ []) (a .count ∷ a .stamp ∷ [])
+
+-- The same of a cutter or a tool that rests on the part.
+unfoldable pub tipLeftBy : asked.Outcome Answer → HeightLeft
+tipLeftBy o =
     let a = o .answer in
     heightLeft (a .refusal) (o .marks) (a .height ∷ []) (a .count ∷ a .stamp ∷ [])

@@ -10,9 +10,10 @@ ghost use Rattle.job.specs.Reader.{readOf};
 ghost use Rattle.capsule.specs.Candidates.{maxInCapsule};
 ghost use Rattle.bull.specs.Bull.{bullProfile, bullContactAbove};
 ghost use Rattle.section.specs.Section.{sectionContact};
-ghost use Rattle.desk.specs.Doors.{jobLeft, jobLeftBy, contactLeft, contactLeftBy, sectionFrom, builtLeft, builtLeftBy, headerFrom, heightLeft, heightLeftBy};
+ghost use Rattle.desk.specs.Doors.{jobLeft, jobLeftBy, contactLeft, contactLeftBy, sectionFrom, builtLeft, builtLeftBy, headerFrom, heightLeft, heightLeftBy, tipLeftBy};
 ghost use Rattle.grid.specs.Build.{buildOf};
 ghost use Rattle.height.specs.Height.{maxHeightOf};
+ghost use Rattle.contact.specs.Contact.{maxBullOf, maxSectionsOf};
 ghost use Rattle.plane.specs.Mesh.{triangleOf};
 ghost use Rattle.plane.specs.Distance.{dist2ToSegment, distanceXy};
 use bull::Bull;
@@ -257,6 +258,36 @@ pub extern "C" fn mandrikelo_max_height(mesh: &[f64], measures: &[f64; 6], sizes
     ensures { λ k. ⌜ heightLeft k (now (marks .exit)) (now (found .exit)) (now (counts .exit)) ≡ heightLeftBy (maxHeightOf (now (mesh .entry)) (headerFrom (now (measures .entry)) (now (sizes .entry))) (now (starts .entry)) (now (members .entry)) (now (marks .entry)) stamp px py qx qy r) ⌝ }
 {
     let a = height::max_height(mesh, header_from(measures, sizes), starts, members, marks, stamp, px, py, qx, qy, r);
+    let k = a.refusal;
+    let z = a.height;
+    let count = a.count;
+    let next = a.stamp;
+    *found = [z];
+    *counts = [count, next];
+    k
+}
+
+// The highest tip of a bull-nose cutter over (px, py).
+#[no_mangle]
+pub extern "C" fn mandrikelo_max_bull(mesh: &[f64], measures: &[f64; 6], sizes: &[u32; 3], starts: &[u32], members: &[u32], marks: &mut [u32], stamp: u32, px: f64, py: f64, r: f64, rc: f64, found: &mut [f64; 1], counts: &mut [u32; 2]) -> u32
+    ensures { λ k. ⌜ heightLeft k (now (marks .exit)) (now (found .exit)) (now (counts .exit)) ≡ tipLeftBy (maxBullOf (now (mesh .entry)) (headerFrom (now (measures .entry)) (now (sizes .entry))) (now (starts .entry)) (now (members .entry)) (now (marks .entry)) stamp (record { x = px; y = py; r = r; rc = rc })) ⌝ }
+{
+    let a = contact::max_bull(mesh, header_from(measures, sizes), starts, members, marks, stamp, px, py, r, rc);
+    let k = a.refusal;
+    let z = a.height;
+    let count = a.count;
+    let next = a.stamp;
+    *found = [z];
+    *counts = [count, next];
+    k
+}
+
+// The highest tip of a tool over (px, py), its sections four numbers each.
+#[no_mangle]
+pub extern "C" fn mandrikelo_max_sections(mesh: &[f64], measures: &[f64; 6], sizes: &[u32; 3], starts: &[u32], members: &[u32], marks: &mut [u32], stamp: u32, px: f64, py: f64, sections: &[f64], found: &mut [f64; 1], counts: &mut [u32; 2]) -> u32
+    ensures { λ k. ⌜ heightLeft k (now (marks .exit)) (now (found .exit)) (now (counts .exit)) ≡ tipLeftBy (maxSectionsOf (now (mesh .entry)) (headerFrom (now (measures .entry)) (now (sizes .entry))) (now (starts .entry)) (now (members .entry)) (now (marks .entry)) stamp px py (now (sections .entry))) ⌝ }
+{
+    let a = contact::max_sections(mesh, header_from(measures, sizes), starts, members, marks, stamp, px, py, sections);
     let k = a.refusal;
     let z = a.height;
     let count = a.count;

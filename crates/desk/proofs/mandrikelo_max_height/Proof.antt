@@ -11,7 +11,7 @@ returns c =
     let b = c .before .before .before .before .before .before in
     let a = b .before .before .before .before .before .args in
     ap heightLeftBy
-    (c .before .before .before .before .max-height .ensures
+    (c .before .before .before .before .max-height .ensures .0
     ∙ ap (λ h. maxHeightOf (a .mesh .now) h (a .starts .now) (a .members .now) (a .marks .now) (a .stamp) (a .px) (a .py) (a .qx) (a .qy) (a .r)) (b .header-from .ensures))
 
 pub mandrikelo-max-height-spec : {M : Type 1} → statement M

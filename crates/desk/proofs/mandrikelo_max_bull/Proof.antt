@@ -1,0 +1,18 @@
+use borrow.Author.Needs.{needs}
+use mathlib.Core.Path.{ap, _∙_}
+use Rattle.contact.specs.Contact.{maxBullOf}
+use Rattle.desk.specs.Doors.{tipLeftBy}
+use Rattle.desk.proofs.mandrikelo_max_bull.Statement.{statement}
+use Rattle.desk.proofs.mandrikelo_max_bull.Tie as tie
+
+returns : tie.Need-returns
+unfolding tipLeftBy
+returns c =
+    let b = c .before .before .before .before .before .before in
+    let a = b .before .before .before .before .before .args in
+    ap tipLeftBy
+    (c .before .before .before .before .max-bull .ensures
+    ∙ ap (λ h. maxBullOf (a .mesh .now) h (a .starts .now) (a .members .now) (a .marks .now) (a .stamp) (record { x = a .px; y = a .py; r = a .r; rc = a .rc })) (b .header-from .ensures))
+
+pub mandrikelo-max-bull-spec : {M : Type 1} → statement M
+mandrikelo-max-bull-spec = tie.close (tie.spec (λ c κs. tt) (λ c κs. tt) (λ c. search needs) returns)
