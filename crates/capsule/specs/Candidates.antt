@@ -82,14 +82,14 @@ circled k e c =
     let disc = bq ⊗ bq ⊖ f4 ⊗ squared e ⊗ cq in
     cond (le f0 disc) (solved e bq (rootOf disc)) []
 
--- where an edge crosses a straight side, on the left (-1) or the right (1) of the segment: (a + t e - p - side r n) . n = 0
+-- where an edge crosses a straight side, on the right (-1) or the left (1) of the way from p to q: (a + t e - p - side r n) . n = 0
 unfoldable pub sided : Capsule → Edge → Float → List Point
 sided k e side =
     let den = e .dx ⊗ k .nx ⊕ e .dy ⊗ k .ny in
     let off = side ⊗ k .r ⊖ ((e .x ⊖ k .px) ⊗ k .nx ⊕ (e .y ⊖ k .py) ⊗ k .ny) in
     cond (ne den f0) (reached e (off ⊘ den)) []
 
--- the two sides
+-- the two sides, right and left
 unfoldable pub sides : List Float
 sides = minus1 ∷ f1 ∷ []
 
@@ -116,7 +116,7 @@ unfoldable pub tangents : Capsule → Rise → List Place
 tangents k h =
     record { x = k .px ⊕ h .x; y = k .py ⊕ h .y } ∷ record { x = k .qx ⊕ h .x; y = k .qy ⊕ h .y } ∷ []
 
--- where the straight sides end: at p and at q, on the left and on the right
+-- where the straight sides end: at p and at q, on the right and on the left
 unfoldable pub flank : Capsule → Float → Float → Float → Place
 flank k x y side = record { x = x ⊕ side ⊗ k .r ⊗ k .nx; y = y ⊕ side ⊗ k .r ⊗ k .ny }
 
