@@ -178,10 +178,10 @@ fn sweep_in(
         best: h.floor,
     };
     let next = walk::next_stamp(marks, stamp);
-    let s = visit(mesh, starts, members, marks, next, columns, p, q, first);
+    let found = visit(mesh, starts, members, marks, next, columns, p, q, first);
     Swept {
-        height: s.best,
-        count: s.count,
+        height: found.best,
+        count: found.count,
         stamp: next,
     }
 }
@@ -205,10 +205,7 @@ fn raise(mesh: &[f64], q: Capsule, best: f64, i: usize) -> f64
     if plane::top(t) <= best {
         return best;
     }
-    raise_by(
-        capsule::highest_in(q, t),
-        best,
-    )
+    raise_by(capsule::highest_in(q, t), best)
 }
 
 // Looks at triangle i, unless its mark is the stamp.
@@ -228,7 +225,14 @@ fn look_at(mesh: &[f64], marks: &mut [u32], stamp: u32, q: Capsule, s: Seen, i: 
 }
 
 // The step over one cell: looks at each of its numbers.
-fn visit_cell(mesh: &[f64], part: &[u32], marks: &mut [u32], stamp: u32, q: Capsule, s: Seen) -> Seen
+fn visit_cell(
+    mesh: &[f64],
+    part: &[u32],
+    marks: &mut [u32],
+    stamp: u32,
+    q: Capsule,
+    s: Seen,
+) -> Seen
     requires { ⌜ (length (now mesh) ≡ length (now marks) * 9) × Below (length (now marks)) (now part) × Room stamp (seen (now marks) s) ⌝ }
     ensures { λ r. ⌜ seen (now (marks .exit)) r ≡ fold (look stamp (raised (now (mesh .entry)) q)) (seen (now (marks .entry)) s) (now (part .entry)) ⌝ }
 {
