@@ -148,10 +148,22 @@ fn lay(c: Contact, height: &mut [f64; 1]) -> bool
 
 // The disk of radius r swept from (px, py) to (qx, qy), and one triangle.
 #[no_mangle]
-pub extern "C" fn mandrikelo_max_in_capsule(triangle: &[f64; 9], px: f64, py: f64, qx: f64, qy: f64, r: f64, eps: f64, height: &mut [f64; 1]) -> bool
+pub extern "C" fn mandrikelo_max_in_capsule(
+    triangle: &[f64; 9],
+    px: f64,
+    py: f64,
+    qx: f64,
+    qy: f64,
+    r: f64,
+    eps: f64,
+    height: &mut [f64; 1],
+) -> bool
     ensures { λ b. ⌜ contactLeft b (now (height .exit)) ≡ contactLeftBy (maxInCapsule (triangleOf (now (triangle .entry)) 0) px py qx qy r eps) ⌝ }
 {
-    lay(capsule::max_in_capsule(plane::triangle_at(triangle, 0), px, py, qx, qy, r, eps), height)
+    lay(
+        capsule::max_in_capsule(plane::triangle_at(triangle, 0), px, py, qx, qy, r, eps),
+        height,
+    )
 }
 
 // The height of a bull-nose cutter over its tip, at distance d from its axis.
@@ -212,7 +224,15 @@ pub extern "C" fn mandrikelo_section_contact(
 
 // The index of a mesh: starts and members get its tables, measures and sizes its header.
 #[no_mangle]
-pub extern "C" fn mandrikelo_build(mesh: &[f64], floor: f64, r: f64, starts: &mut [u32], members: &mut [u32], measures: &mut [f64; 6], sizes: &mut [u32; 3]) -> u32
+pub extern "C" fn mandrikelo_build(
+    mesh: &[f64],
+    floor: f64,
+    r: f64,
+    starts: &mut [u32],
+    members: &mut [u32],
+    measures: &mut [f64; 6],
+    sizes: &mut [u32; 3],
+) -> u32
     ensures { λ k. ⌜ builtLeft k (now (starts .exit)) (now (members .exit)) (now (measures .exit)) (now (sizes .exit)) ≡ builtLeftBy (buildOf (now (mesh .entry)) floor r (now (starts .entry)) (now (members .entry))) ⌝ }
 {
     let b = grid::build(mesh, floor, r, starts, members);
@@ -254,10 +274,37 @@ fn header_from(measures: &[f64; 6], sizes: &[u32; 3]) -> Header
 
 // The highest part point under the disk of radius r swept from (px, py) to (qx, qy).
 #[no_mangle]
-pub extern "C" fn mandrikelo_max_height(mesh: &[f64], measures: &[f64; 6], sizes: &[u32; 3], starts: &[u32], members: &[u32], marks: &mut [u32], stamp: u32, px: f64, py: f64, qx: f64, qy: f64, r: f64, found: &mut [f64; 1], counts: &mut [u32; 2]) -> u32
+pub extern "C" fn mandrikelo_max_height(
+    mesh: &[f64],
+    measures: &[f64; 6],
+    sizes: &[u32; 3],
+    starts: &[u32],
+    members: &[u32],
+    marks: &mut [u32],
+    stamp: u32,
+    px: f64,
+    py: f64,
+    qx: f64,
+    qy: f64,
+    r: f64,
+    found: &mut [f64; 1],
+    counts: &mut [u32; 2],
+) -> u32
     ensures { λ k. ⌜ heightLeft k (now (marks .exit)) (now (found .exit)) (now (counts .exit)) ≡ heightLeftBy (maxHeightOf (now (mesh .entry)) (headerFrom (now (measures .entry)) (now (sizes .entry))) (now (starts .entry)) (now (members .entry)) (now (marks .entry)) stamp px py qx qy r) ⌝ }
 {
-    let a = height::max_height(mesh, header_from(measures, sizes), starts, members, marks, stamp, px, py, qx, qy, r);
+    let a = height::max_height(
+        mesh,
+        header_from(measures, sizes),
+        starts,
+        members,
+        marks,
+        stamp,
+        px,
+        py,
+        qx,
+        qy,
+        r,
+    );
     let k = a.refusal;
     let z = a.height;
     let count = a.count;

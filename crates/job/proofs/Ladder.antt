@@ -47,7 +47,7 @@ no-either false b e = (refl, e)
 no-either true b e = let z : _≡_ {A = ℕ} 0 1 = cc in absurd (omega arith)
 
 module _ (n room : ℕ) where
-  room-for : tooMany n room ≡ false → (n ≤ 65536) × (n ≤ room)
+  pub room-for : tooMany n room ≡ false → (n ≤ 65536) × (n ≤ room)
   unfolding tooMany
   room-for e = let p = no-either (ltb 65536 n) (ltb room n) e in (ltb-false 65536 n (p .0), ltb-false room n (p .1))
 

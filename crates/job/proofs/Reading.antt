@@ -31,6 +31,16 @@ module _ (bytes : List ℕ) (mesh qs : List Float) where
       let e = ap (λ (a : Outcome). a .answer .refusal) p ∙ refusal-is in
       (λ z. sound bytes _ _ (sym e ∙ z), λ s. e ∙ sym (accepted bytes _ _ s))
 
+  -- an accepted job's numbers have room
+  pub room-for : (o : Outcome) → o ≡ readOf bytes mesh qs → o .answer .refusal ≡ 0 → (9 * o .answer .n ≤ length mesh) × (5 * o .answer .m ≤ length qs)
+  unfolding readOf acceptedOf
+  room-for o p z =
+      let k = refusalOf bytes (length mesh / 9) (length qs / 5) in
+      let e : k ≡ 0 = sym refusal-is ∙ sym (ap (λ (a : Outcome). a .answer .refusal) p) ∙ z in
+      let s = sound bytes _ _ e in
+      let q = p ∙ sym (taken (eqb k 0) _ _ _ (eq-eqb k 0 e) refl) in
+      (omega (arith, s .few .1, ap (λ (a : Outcome). a .answer .n) q), omega (arith, s .few-questions .1, ap (λ (a : Outcome). a .answer .m) q))
+
   module _ (k : ℕ) (e : k ≡ refusalOf bytes (length mesh / 9) (length qs / 5)) where
     pub refused-is : (k ≡ 0 → ⊥) → ended (refusedBy k) mesh qs ≡ readOf bytes mesh qs
     unfolding readOf

@@ -86,23 +86,23 @@ from-mirrored [] k =
 from-mirrored (true ∷ fs) k =
     let e : k + suc (length fs) ≡ k + 1 + length fs = omega arith in
     let l : reverse (true ∷ fs) ++ replicate k true ≡ reverse fs ++ replicate (k + 1) true =
-            ap (λ (x : List Bool). x ++ replicate k true) (reverse-cons true fs) ∙ append-assoc (reverse fs) (true ∷ []) (replicate k true) ∙ (rw (add-one k)) in
+    ap (λ (x : List Bool). x ++ replicate k true) (reverse-cons true fs) ∙ append-assoc (reverse fs) (true ∷ []) (replicate k true) ∙ (rw (add-one k)) in
     ap (stretchesFrom 0 0) l ∙ (rw e (from-mirrored fs (k + 1)))
 from-mirrored (false ∷ fs) k =
     let n = k + suc (length fs) in
     let l : reverse (false ∷ fs) ++ replicate k true ≡ reverse fs ++ false ∷ replicate k true =
-            ap (λ (x : List Bool). x ++ replicate k true) (reverse-cons false fs) ∙ append-assoc (reverse fs) (false ∷ []) (replicate k true) in
+    ap (λ (x : List Bool). x ++ replicate k true) (reverse-cons false fs) ∙ append-assoc (reverse fs) (false ∷ []) (replicate k true) in
     let z : 0 + length (reverse fs) + 1 + k ≡ n = omega (arith, length-reverse fs) in
     let k₀ : 0 + k ≡ k = omega arith in
     let front : stretchesFrom 0 0 (reverse fs) ≡ map (mirrored (0 + length fs)) (reverse (stretchesFrom 0 0 fs)) =
-            ap (stretchesFrom 0 0) (sym (append-nil (reverse fs))) ∙ from-mirrored fs 0 in
+    ap (stretchesFrom 0 0) (sym (append-nil (reverse fs))) ∙ from-mirrored fs 0 in
     let s₀ : k + 1 ≡ 0 + (k + 1) = omega arith in
     let rest : stretchesFrom 0 (k + 1) fs ≡ map (later (k + 1)) (stretchesFrom 0 0 fs) = ap (λ (x : ℕ). stretchesFrom 0 x fs) s₀ ∙ from-later fs 0 0 (k + 1) (omega arith) in
     let back : map (mirrored n) (reverse (stretchesFrom 0 (k + 1) fs)) ≡ map (mirrored (0 + length fs)) (reverse (stretchesFrom 0 0 fs)) =
-            ap (λ (x : List Ends). map (mirrored n) (reverse x)) rest
-            ∙ ap (map (mirrored n)) (sym (map-reverse (later (k + 1)) (stretchesFrom 0 0 fs)))
-            ∙ map-map (mirrored n) (later (k + 1)) (reverse (stretchesFrom 0 0 fs))
-            ∙ map-same _ _ (λ e. same-ends _ _ _ _ (omega arith) (omega arith)) (reverse (stretchesFrom 0 0 fs)) in
+    ap (λ (x : List Ends). map (mirrored n) (reverse x)) rest
+    ∙ ap (map (mirrored n)) (sym (map-reverse (later (k + 1)) (stretchesFrom 0 0 fs)))
+    ∙ map-map (mirrored n) (later (k + 1)) (reverse (stretchesFrom 0 0 fs))
+    ∙ map-same _ _ (λ e. same-ends _ _ _ _ (omega arith) (omega arith)) (reverse (stretchesFrom 0 0 fs)) in
     ap (stretchesFrom 0 0) l
     ∙ from-parted (reverse fs) (replicate k true) 0 0
     ∙ ap (λ (x : List Ends). x ++ stretchesFrom 0 (0 + length (reverse fs) + 1) (replicate k true)) front
@@ -125,10 +125,13 @@ sampled-same f g a b (suc m) h =
     let e : a + 0 ≡ a = omega arith in
     let e′ : b + 0 ≡ b = omega arith in
     let first : f a ≡ g b = rw (e, e′) at (h 0 (omega arith)) in
-    rw (first, sampled-same f g (a + 1) (b + 1) m (λ j l.
-            let p : a + 1 + j ≡ a + suc j = omega arith in
-            let q : b + 1 + j ≡ b + suc j = omega arith in
-            rw (p, q) (h (suc j) (omega arith))))
+    rw (
+      first,
+      sampled-same f g (a + 1) (b + 1) m (λ j l.
+          let p : a + 1 + j ≡ a + suc j = omega arith in
+          let q : b + 1 + j ≡ b + suc j = omega arith in
+          rw (p, q) (h (suc j) (omega arith))),
+    )
 
 sampled-last : (f : ℕ → Bool) (a m : ℕ) → sampled f a (suc m) ≡ sampled f a m ++ f (a + m) ∷ []
 unfolding sampled
@@ -172,9 +175,9 @@ row-turned on samples =
     let fs = sampled on 0 (samples + 1) in
     let n : length fs ≡ samples + 1 = sampled-length on 0 (samples + 1) in
     let r : sampled (λ j. on (samples - j)) 0 (samples + 1) ≡ reverse fs ++ [] =
-            sampled-same _ (λ j. on (0 + (samples + 1) - 1 - j)) 0 0 (samples + 1) (λ j h. let e : samples - (0 + j) ≡ 0 + (samples + 1) - 1 - (0 + j) = omega arith in ap on e)
-            ∙ sym (sampled-reverse on 0 (samples + 1))
-            ∙ sym (append-nil (reverse fs)) in
+    sampled-same _ (λ j. on (0 + (samples + 1) - 1 - j)) 0 0 (samples + 1) (λ j h. let e : samples - (0 + j) ≡ 0 + (samples + 1) - 1 - (0 + j) = omega arith in ap on e)
+    ∙ sym (sampled-reverse on 0 (samples + 1))
+    ∙ sym (append-nil (reverse fs)) in
     ap (λ (l : List Bool). map (counted samples) (stretchesFrom 0 0 l)) r
     ∙ ap (map (counted samples)) (from-mirrored fs 0)
     ∙ map-map (counted samples) (mirrored (0 + length fs)) (reverse (stretchesFrom 0 0 fs))

@@ -87,7 +87,9 @@ pub fn cross(s: Spread, intervals: usize, row: usize) -> f64
 fn along(s: Spread, samples: usize, k: usize) -> f64
     ensures { λ a. ⌜ a ≡ alongOf s samples k ⌝ }
 {
-    s.a0 + (s.a1 - s.a0) * std::num::nearest_u64_to_f64(k as u64) / std::num::nearest_u64_to_f64(samples as u64)
+    s.a0
+        + (s.a1 - s.a0) * std::num::nearest_u64_to_f64(k as u64)
+            / std::num::nearest_u64_to_f64(samples as u64)
 }
 
 // The run of a row from sample i to sample j.

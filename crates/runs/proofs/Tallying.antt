@@ -96,12 +96,12 @@ module _ (t₀ : List Float) where
       let n = length-append done (r ∷ []) in
       ⊎-elim
       (λ (p : leb count (roomOf t) ≡ true).
-        let q : count ≤ roomOf t = leb-true count (roomOf t) p in
-        let d : count ≡ length done = omega arith in
-        (rw (m, d, e), rw p (omega arith)))
+      let q : count ≤ roomOf t = leb-true count (roomOf t) p in
+      let d : count ≡ length done = omega arith in
+      (rw (m, d, e), rw p (omega arith)))
       (λ (p : leb count (roomOf t) ≡ false).
-        let q : roomOf t < count = leb-false count (roomOf t) p in
-        (rw m (put-past t count (length done) (fiveOf r) (omega arith) (omega arith) ∙ (rw e)), rw p (omega arith)))
+      let q : roomOf t < count = leb-false count (roomOf t) p in
+      (rw m (put-past t count (length done) (fiveOf r) (omega arith) (omega arith) ∙ (rw e)), rw p (omega arith)))
       (on-or-off _)
 
   abbrev tally : Bool → Run → ℕ → Float → Float → ℕ → Tally

@@ -126,7 +126,11 @@ pub fn touches(last: Run, r: Run) -> bool
     ensures { λ b. ⌜ b ≡ touchesOf last r ⌝ }
 {
     if last.bx == r.ax {
-        if last.by == r.ay { last.z == r.z } else { false }
+        if last.by == r.ay {
+            last.z == r.z
+        } else {
+            false
+        }
     } else {
         false
     }

@@ -31,7 +31,7 @@ same-length c = search needs
 
 returns-2 : tie.Need-returns-2
 unfolding keptBy
-returns-2 c = 
+returns-2 c =
     left _ _ _ _ (bool-called _ _ _ (c .before .before .before .before .before .joins .ensures) (c .before .before .before .before .if1 .left))
     (ap (λ (w : Work). work (w .table) (record { some = true; last = c .before .before .before .before .before .before .before .args .r; count = w .tally .count; cut = w .tally .cut; dropped = w .tally .dropped; rows = w .tally .rows })) (c .before .before .close .ensures))
 

@@ -1,0 +1,81 @@
+-- A file that is longer than any job with room for its numbers may be cut behind that length: what is left is refused as the whole is.
+use mathlib.Core.Bool.{Bool, true, false}
+use mathlib.Core.List.{List, [], _∷_}
+use mathlib.Core.Path.{_≡_, refl, ap, sym, _∙_}
+use Prim.Native.Nat.{ℕ, zero, suc, _+_, _/_, _≤_, _<_}
+use native.Mathlib.Omega.{arith}
+use borrow.Author.Tests.{le-ltb, ltb-true, ltb-false}
+use lib.Dec.{eqb, ltb}
+use lib.Ieee.{Float}
+use lib.ListN.{length, take, drop}
+use lib.Seq.{take-take, take-all, length-take-le}
+use Rattle.job.specs.Layout.{Field, value, mark, version, zeroByte, triangles, questions, bytesOf, wide}
+use Rattle.job.specs.Reader.{refuse, tooMany, refusalOfCounts, refusalOf, readOf}
+use Rattle.job.proofs.Ladder.{room-for, refuse-here, differs, sound}
+use Rattle.job.proofs.Reading.{refused-is}
+
+cut-part : (xs : List ℕ) (a s k : ℕ) → a + s ≤ k → take s (drop a (take k xs)) ≡ take s (drop a xs)
+cut-part xs zero s k h = take-take s k xs (omega arith)
+cut-part [] (suc a) s zero h = refl
+cut-part [] (suc a) s (suc k) h = refl
+cut-part (x ∷ xs) (suc a) s zero h = absurd (omega arith)
+cut-part (x ∷ xs) (suc a) s (suc k) h = cut-part xs a s k (omega arith)
+
+-- a field before the cut
+value-cut : (f : Field) (xs : List ℕ) (k : ℕ) → f .at + f .size ≤ k → value f (take k xs) ≡ value f xs
+unfolding value
+value-cut f xs k h = rw (cut-part xs (f .at) (f .size) k h)
+
+-- the refusal of a file that is too long for any job
+tooLong : ℕ → ℕ → ℕ → ℕ → ℕ
+tooLong n m nroom mroom = refuse (eqb n 0) 18 (refuse (tooMany n nroom) 18 (refuse (tooMany m mroom) 18 19))
+
+refuse-same : (b : Bool) (k x y : ℕ) → (b ≡ false → x ≡ y) → refuse b k x ≡ refuse b k y
+unfolding refuse
+refuse-same true k x y e = refl
+refuse-same false k x y e = e refl
+
+module _ (nroom mroom : ℕ) where
+  too-long : (xs : List ℕ) (n m : ℕ) → bytesOf wide nroom mroom < length xs → refusalOfCounts xs n m nroom mroom ≡ tooLong n m nroom mroom
+  unfolding refusalOfCounts tooLong
+  too-long xs n m h =
+      refuse-same _ 18 _ _
+      (λ _. refuse-same _ 18 _ _
+      (λ p. refuse-same _ 18 _ _
+      (λ q. let a = room-for n nroom p in
+      let b = room-for m mroom q in
+      sym (refuse-here _ 19 _ 19 (differs _ _ _ refl (λ (e : length xs ≡ bytesOf wide n m). omega (arith, a .1, b .1))) refl))))
+
+  cut-refusal : (xs : List ℕ) (k : ℕ) → bytesOf wide nroom mroom < k → k ≤ length xs → refusalOf (take k xs) nroom mroom ≡ refusalOf xs nroom mroom
+  unfolding refusalOf
+  cut-refusal xs k h l =
+      let c : length (take k xs) ≡ k = length-take-le k xs l in
+      rw (
+        too-long (take k xs) _ _ (omega (arith, c)),
+        too-long xs _ _ (omega arith),
+        c,
+        le-ltb k 30 (omega arith),
+        le-ltb (length xs) 30 (omega arith),
+        value-cut mark xs k (omega arith),
+        value-cut version xs k (omega arith),
+        value-cut zeroByte xs k (omega arith),
+        value-cut triangles xs k (omega arith),
+        value-cut questions xs k (omega arith),
+      )
+
+  never-sound : (xs : List ℕ) → bytesOf wide nroom mroom < length xs → refusalOf xs nroom mroom ≡ 0 → ⊥
+  never-sound xs h e = let s = sound xs nroom mroom e in omega (arith, s .whole, s .few .1, s .few-questions .1)
+
+by-test : {A : Type 0} (b : Bool) → (b ≡ true → A) → (b ≡ false → A) → A
+by-test true f g = f refl
+by-test false f g = g refl
+
+pub read-cut : (xs : List ℕ) (mesh qs : List Float) (k : ℕ) → bytesOf wide (length mesh / 9) (length qs / 5) < k → readOf (take k xs) mesh qs ≡ readOf xs mesh qs
+read-cut xs mesh qs k h =
+    by-test (ltb k (length xs))
+    (λ t. let l = ltb-true k (length xs) t in
+    let n = length mesh / 9 in
+    let m = length qs / 5 in
+    let z = never-sound n m xs (omega arith) in
+    sym (refused-is (take k xs) mesh qs (refusalOf xs n m) (sym (cut-refusal n m xs k h (omega arith))) z) ∙ refused-is xs mesh qs (refusalOf xs n m) refl z)
+    (λ t. ap (λ (ys : List ℕ). readOf ys mesh qs) (take-all k xs (ltb-false k (length xs) t)))
