@@ -316,10 +316,35 @@ pub extern "C" fn mandrikelo_max_height(
 
 // The highest tip of a bull-nose cutter over (px, py).
 #[no_mangle]
-pub extern "C" fn mandrikelo_max_bull(mesh: &[f64], measures: &[f64; 6], sizes: &[u32; 3], starts: &[u32], members: &[u32], marks: &mut [u32], stamp: u32, px: f64, py: f64, r: f64, rc: f64, found: &mut [f64; 1], counts: &mut [u32; 2]) -> u32
+pub extern "C" fn mandrikelo_max_bull(
+    mesh: &[f64],
+    measures: &[f64; 6],
+    sizes: &[u32; 3],
+    starts: &[u32],
+    members: &[u32],
+    marks: &mut [u32],
+    stamp: u32,
+    px: f64,
+    py: f64,
+    r: f64,
+    rc: f64,
+    found: &mut [f64; 1],
+    counts: &mut [u32; 2],
+) -> u32
     ensures { λ k. ⌜ heightLeft k (now (marks .exit)) (now (found .exit)) (now (counts .exit)) ≡ tipLeftBy (maxBullOf (now (mesh .entry)) (headerFrom (now (measures .entry)) (now (sizes .entry))) (now (starts .entry)) (now (members .entry)) (now (marks .entry)) stamp (record { x = px; y = py; r = r; rc = rc })) ⌝ }
 {
-    let a = contact::max_bull(mesh, header_from(measures, sizes), starts, members, marks, stamp, px, py, r, rc);
+    let a = contact::max_bull(
+        mesh,
+        header_from(measures, sizes),
+        starts,
+        members,
+        marks,
+        stamp,
+        px,
+        py,
+        r,
+        rc,
+    );
     let k = a.refusal;
     let z = a.height;
     let count = a.count;
@@ -331,10 +356,33 @@ pub extern "C" fn mandrikelo_max_bull(mesh: &[f64], measures: &[f64; 6], sizes: 
 
 // The highest tip of a tool over (px, py), its sections four numbers each.
 #[no_mangle]
-pub extern "C" fn mandrikelo_max_sections(mesh: &[f64], measures: &[f64; 6], sizes: &[u32; 3], starts: &[u32], members: &[u32], marks: &mut [u32], stamp: u32, px: f64, py: f64, sections: &[f64], found: &mut [f64; 1], counts: &mut [u32; 2]) -> u32
+pub extern "C" fn mandrikelo_max_sections(
+    mesh: &[f64],
+    measures: &[f64; 6],
+    sizes: &[u32; 3],
+    starts: &[u32],
+    members: &[u32],
+    marks: &mut [u32],
+    stamp: u32,
+    px: f64,
+    py: f64,
+    sections: &[f64],
+    found: &mut [f64; 1],
+    counts: &mut [u32; 2],
+) -> u32
     ensures { λ k. ⌜ heightLeft k (now (marks .exit)) (now (found .exit)) (now (counts .exit)) ≡ tipLeftBy (maxSectionsOf (now (mesh .entry)) (headerFrom (now (measures .entry)) (now (sizes .entry))) (now (starts .entry)) (now (members .entry)) (now (marks .entry)) stamp px py (now (sections .entry))) ⌝ }
 {
-    let a = contact::max_sections(mesh, header_from(measures, sizes), starts, members, marks, stamp, px, py, sections);
+    let a = contact::max_sections(
+        mesh,
+        header_from(measures, sizes),
+        starts,
+        members,
+        marks,
+        stamp,
+        px,
+        py,
+        sections,
+    );
     let k = a.refusal;
     let z = a.height;
     let count = a.count;
