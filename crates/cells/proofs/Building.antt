@@ -1,4 +1,4 @@
--- The builder's steps put together: cleared, counted, summed, filled. At the end the tables are those of the definition.
+-- From step to step: after clearing there is room to count, after counting to sum, after summing to place, and at the end both tables are the definition's.
 use mathlib.Core.Bool.{true}
 use mathlib.Core.List.{List, [], _∷_, _++_}
 use mathlib.Core.Path.{_≡_, refl, ap, sym, _∙_}
@@ -12,7 +12,7 @@ use Rattle.cells.specs.Steps.{entry, sums, Cleared, Room, CountedAll, Su
 use Rattle.cells.proofs.Sets.{by-lt, by-test, weight-off}
 use Rattle.cells.proofs.Members.{members-suc, start-more, all-members}
 
--- ---- a table whose first entries are xs and whose others are as they were
+-- ---- a table that is xs in front and the old one behind
 pub front-is : (xs old t : List ℕ) → length xs ≤ length old → length t ≡ length old
     → ((p : ℕ) → p < length xs → getD t p 0 ≡ getD xs p 0) → ((p : ℕ) → length xs ≤ p → getD t p 0 ≡ getD old p 0)
     → t ≡ xs ++ drop (length xs) old
@@ -47,7 +47,7 @@ module _ (f : ℕ → ℕ) where
       rw l at
       (front-is (entries f k) old t (omega arith) e (λ c b. p c (omega arith) ∙ sym (entries-at k c (omega arith))) (λ c b. q c (omega arith)))
 
--- ---- the sums of the cells' numbers of members
+-- ---- running sums of the counts are the starts
 module _ (on : Cover) (n : ℕ) where
   sums-start : (f : ℕ → ℕ) (k : ℕ) → ((c : ℕ) → c < k → f c ≡ length (membersOf on n c)) → sums f k ≡ startOf on n k
   unfolding sums startOf listed

@@ -1,4 +1,4 @@
--- What a store does at each entry, and the steps of the builder put together, entry by entry.
+-- One store, then each kind of step: nothing done, one entry done, two parts joined.
 use mathlib.Core.Bool.{true}
 use mathlib.Core.List.{List}
 use mathlib.Core.Logic.{inl, inr, ⊎-elim}
@@ -174,7 +174,7 @@ placed-as on on′ i s m s′ m′ h p =
 pub summed-as : (k k′ : ℕ) (s s′ : List ℕ) → k ≡ k′ → Summed k s s′ → Summed k′ s s′
 summed-as k k′ s s′ e p = rw e at p
 
--- a part of the set that is not done yet is as open as it was
+-- cells that were not reached yet are still open
 pub open-part : (on part done : Set) (i : ℕ) (s₀ m₀ s m : List ℕ) → ((c : ℕ) → part c ≡ true → (on c ≡ true) × (weight (done c) ≡ 0)) → Open on s₀ m₀ → Placed done i s₀ m₀ s m → Open part s m
 open-part on part done i s₀ m₀ s m h o p =
     record {

@@ -1,4 +1,4 @@
--- The members filled in from the last triangle back: where it starts, one triangle more, and what each placing asks.
+-- Placing from the last triangle back: the begin, one triangle more, and why no member placed earlier is overwritten.
 use mathlib.Core.Bool.{true}
 use mathlib.Core.List.{List}
 use mathlib.Core.Path.{_≡_, refl, ap, sym, _∙_}
@@ -22,7 +22,7 @@ module _ (on : Cover) (n cells : ℕ) (s₀ m₀ : List ℕ) (ready : Ready on n
         rest = λ p h. refl;
       }
 
-  -- what one more placing asks
+  -- the next triangle finds its cells open
   pub filled-open : (j : ℕ) (s m : List ℕ) → j < n → Filled on n cells (j + 1) s₀ m₀ s m → Open (on j) s m
   filled-open j s m l p =
       record {
@@ -33,17 +33,17 @@ module _ (on : Cover) (n cells : ℕ) (s₀ m₀ : List ℕ) (ready : Ready on n
       }
 
   module _ (j : ℕ) (s m s′ m′ : List ℕ) (l : j < n) (p : Filled on n cells (j + 1) s₀ m₀ s m) (q : Placed (on j) j s m s′ m′) where
-    -- a start after the placing
+    -- where a start points afterwards
     moved : (c : ℕ) → c < cells → getD s′ c 0 ≡ startOf on n c + length (membersOf on j c)
     moved c h = omega (arith, p .each c h, q .each c, members-more on j c)
 
-    -- the place that triangle j takes in a cell that it covers lies within that cell's members
+    -- triangle j's place in a covered cell lies inside that cell's stretch
     taken : (c : ℕ) → on j c ≡ true → (c < cells) × (getD s′ c 0 ≡ startOf on n c + length (membersOf on j c)) × (length (membersOf on j c) < length (membersOf on n c))
     taken c e =
         let h = ready .inside j c l e in
         (h, moved c h, omega (arith, members-more on j c, members-mono on (j + 1) n c (omega arith), weight-on _ e))
 
-    -- and is no place of a member that was placed before
+    -- and nobody stood there
     not-taken : (c k d : ℕ) → c < cells → length (membersOf on (j + 1) c) ≤ k → k < length (membersOf on n c) → on j d ≡ true → getD s′ d 0 ≡ startOf on n c + k → ⊥
     not-taken c k d h a b e f =
         let t = taken d e in

@@ -1,4 +1,4 @@
--- The members of a cell: how many there are of the first j triangles, and which stands where.
+-- A cell's members: their number grows with the triangles, and each stands behind those with a lower number.
 use mathlib.Core.Bool.{true, cond}
 use mathlib.Core.List.{List, [], _∷_}
 use mathlib.Core.Path.{_≡_, sym, _∙_}
@@ -30,7 +30,7 @@ module _ (on : Cover) where
   pub members-mono : (j n c : ℕ) → j ≤ n → length (membersOf on j c) ≤ length (membersOf on n c)
   members-mono j n c h = let e : j + (n - j) ≡ n = omega arith in rw e at (members-up j (n - j) c)
 
-  -- triangle j stands behind those before it
+  -- the place of triangle j is the number of members below it
   pub member-at : (n j c : ℕ) → j < n → on j c ≡ true → getD (membersOf on n c) (length (membersOf on j c)) 0 ≡ j
   unfolding membersOf
   member-at zero j c h e = absurd (omega arith)
@@ -43,7 +43,7 @@ module _ (on : Cover) where
       let p : j ≡ n = omega arith in
       rw (← p, e) (getD-append-seam (membersOf on j c) j [] 0))
 
-  -- ---- where the cells begin
+  -- ---- the starts rise
   start-suc : (n c : ℕ) → startOf on n (suc c) ≡ startOf on n c + length (membersOf on n c)
   unfolding startOf listed
   start-suc n c = length-append (listed on n c) (membersOf on n c)
@@ -58,11 +58,11 @@ module _ (on : Cover) where
   pub start-mono : (n c c′ : ℕ) → c ≤ c′ → startOf on n c ≤ startOf on n c′
   start-mono n c c′ h = let e : c + (c′ - c) ≡ c′ = omega arith in rw e at (start-up n c (c′ - c))
 
-  -- a cell's members end before a later cell begins
+  -- cells do not overlap
   pub cell-before : (n c c′ : ℕ) → c < c′ → startOf on n c + length (membersOf on n c) ≤ startOf on n c′
   cell-before n c c′ h = omega (arith, start-more n c, start-mono n (c + 1) c′ (omega arith))
 
-  -- a table in which each cell's members stand where they should has all members in order
+  -- if every cell's stretch is right, the whole front of the table is
   pub all-members : (n k : ℕ) (m : List ℕ) → ((c i : ℕ) → c < k → i < length (membersOf on n c) → getD m (startOf on n c + i) 0 ≡ getD (membersOf on n c) i 0)
       → (p : ℕ) → p < startOf on n k → getD m p 0 ≡ getD (listed on n k) p 0
   unfolding startOf listed

@@ -1,4 +1,4 @@
--- What a walk reads in the tables: between two starts stand the members of the cell, each triangle that covers it once and no other.
+-- Read back: the stretch between two starts is the cell's list, in which a triangle stands once if it covers the cell and else not at all.
 use mathlib.Core.Bool.{true, cond}
 use mathlib.Core.List.{List, [], _∷_, _++_, append-assoc, append-nil}
 use mathlib.Core.Path.{_≡_, refl, ap, _∙_}
@@ -16,7 +16,7 @@ regroup : (a b t d : List ℕ) → (a ++ (b ++ t)) ++ d ≡ a ++ (b ++ (t ++ d))
 regroup a b t d = simp append-assoc
 
 module _ (on : Cover) (n : ℕ) where
-  -- all members, around those of cell c
+  -- the list of all members is cut at cell c
   around : (k c : ℕ) → c < k → (t : List ℕ) × (listed on n k ≡ listed on n c ++ (membersOf on n c ++ t))
   unfolding listed
   around zero c h = absurd (omega arith)
@@ -65,7 +65,7 @@ unfolding times
 times-append i [] ys = omega arith
 times-append i (x ∷ xs) ys = omega (arith, times-append i xs ys)
 
--- a triangle stands in a cell once if it covers it, and else not
+-- how often triangle i stands in a cell's list
 module _ (on : Cover) (c : ℕ) where
   last-other : (i n : ℕ) → (i ≡ n → ⊥) → times i (cond (on n c) (n ∷ []) []) ≡ 0
   unfolding times

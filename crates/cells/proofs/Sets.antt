@@ -1,4 +1,4 @@
--- Sets of cells, by the weight 1 of what is in and 0 of what is not. A set that is the union of two with no cell in common is an equation of weights.
+-- Sets of cells as numbers: 1 inside, 0 outside. Two sets without a common cell join by adding, so that one equation serves counting, placing and area.
 use mathlib.Core.Bool.{Bool, true, false, _&&_}
 use mathlib.Core.Path.{_≡_, refl, sym, _∙_}
 use Prim.Native.Nat.{ℕ, _+_, _*_, _/_, _%_, _≤_, _<_, max}
@@ -73,7 +73,7 @@ same k c h = weight-on _ (eq-eqb k c (sym h))
 pub other : (k c : ℕ) → (k ≡ c → ⊥) → weight (eqb k c) ≡ 0
 other k c h = weight-off _ (ne-eqb k c h)
 
--- on is the union of one and two, which have no cell in common
+-- on is made of one and two, which share no cell
 abbrev pub Split : Set → Set → Set → Type 0
 Split one two on = (c : ℕ) → weight (on c) ≡ weight (one c) + weight (two c)
 
@@ -92,20 +92,20 @@ between-more a k h c =
 pub between-none : (a e c : ℕ) → e ≤ a → weight (between a e c) ≡ 0
 between-none a e c h = by-lt c a (under-between a e c) (λ l. over-between a e c (omega arith))
 
--- a loop over a..e that has come to k and stops there
+-- where a loop over a..e stands when it ends
 pub between-ends : (a e k : ℕ) → e ≤ k → k ≤ max a e → (c : ℕ) → weight (between a k c) ≡ weight (between a e c)
 between-ends a e k h m c =
     by-lt a e
     (λ l. let p : k ≡ e = omega arith in rw p)
     (λ l. between-none a k c (omega arith) ∙ sym (between-none a e c l))
 
--- ---- the cells of a box, row by row
+-- ---- a triangle's cells, row by row
 
--- those in the rows under y
+-- the part in rows below y
 abbrev pub rowsUnder : ℕ → Cells → ℕ → Set
 rowsUnder columns b y c = covers columns b c && ltb (c / columns) y
 
--- cell c, by its row and its column
+-- cell c is column c % columns of row c / columns
 module _ (columns : ℕ) (b : Cells) (c : ℕ) where
   pub covered : (b .x0 ≤ c % columns) → (c % columns ≤ b .x1) → (b .y0 ≤ c / columns) → (c / columns ≤ b .y1) → covers columns b c ≡ true
   unfolding covers isFrom
@@ -133,14 +133,14 @@ module _ (columns : ℕ) (b : Cells) (c : ℕ) where
   pub under-none : (y : ℕ) → y ≤ c / columns → weight (rowsUnder columns b y c) ≡ 0
   under-none y h = weight-off _ (off-right (covers columns b c) _ (le-ltb (c / columns) y h))
 
-  -- where a covered cell lies
+  -- a covered cell is in a row of the triangle
   pub covered-row : covers columns b c ≡ true → c / columns ≤ b .y1
   covered-row e = by-lt (b .y1) (c / columns) (λ l. let z : _≡_ {A = Bool} true false = sym e ∙ above l in absurd (no z)) (λ l. l)
     where
       no : true ≡ false → ⊥
       no z = let k : _≡_ {A = ℕ} 0 1 = cc in omega arith
 
--- row q is before row y
+-- an earlier row ends before a later one begins
 row-before : (columns q y : ℕ) → q < y → q * columns + columns ≤ y * columns
 row-before columns q y h = omega (arith, mul-le-mul-right {m = q + 1} {n = y} columns (omega arith), add-mul q 1 columns)
 
@@ -168,11 +168,11 @@ row-more columns b y hx hl hh c =
     (λ n. omega (arith, under-all columns b c (y + 1) (omega arith), weight-off _ (right-of columns b c n), under-none columns b c y l, over-between lo hi c (omega arith)))
     (λ n. omega (arith, under-all columns b c (y + 1) (omega arith), weight-on _ (covered columns b c k n (omega arith) (omega arith)), under-none columns b c y l, in-between lo hi c (omega arith) (omega arith))))))
 
--- a row's cells are few enough to be numbered
+-- cell numbers fit
 pub row-fits : (columns y : ℕ) → columns ≤ 65536 → y < 65536 → y * columns ≤ 65536 * 65536
 row-fits columns y h k = omega (arith, mul-le-mul-right {m = y} {n = 65536} columns (omega arith))
 
--- what holds of every cell of the box holds of those of one of its rows
+-- a row's cells are covered
 pub row-covered : (columns : ℕ) (b : Cells) (y c : ℕ) → b .x1 < columns → b .y0 ≤ y → y ≤ b .y1 → between (y * columns + b .x0) (y * columns + b .x1 + 1) c ≡ true → covers columns b c ≡ true
 row-covered columns b y c hx hl hh e =
     by-test (covers columns b c) (λ t. t)
@@ -182,16 +182,16 @@ row-covered columns b y c hx hl hh e =
     (λ l. omega (arith, row-more columns b y hx hl hh c, weight-on _ e, under-all columns b c (y + 1) l, weight-off _ f))
     (λ l. omega (arith, row-more columns b y hx hl hh c, weight-on _ e, under-none columns b c (y + 1) l))))
 
--- the cells of a row are not among those of the rows before it
+-- and new
 pub row-new : (columns : ℕ) (b : Cells) (y c : ℕ) → b .x1 < columns → b .y0 ≤ y → y ≤ b .y1 → between (y * columns + b .x0) (y * columns + b .x1 + 1) c ≡ true → weight (rowsUnder columns b y c) ≡ 0
 row-new columns b y c hx hl hh e = omega (arith, row-more columns b y hx hl hh c, weight-on _ e, weight-le (rowsUnder columns b (y + 1) c))
 
--- a box that ends before it begins has no cells
+-- an end before the begin covers nothing
 pub none-covered : (columns : ℕ) (b : Cells) (c : ℕ) → b .x1 < b .x0 → weight (covers columns b c) ≡ 0
 none-covered columns b c h =
     by-lt (c % columns) (b .x0) (λ l. weight-off _ (left-of columns b c l)) (λ l. weight-off _ (right-of columns b c (omega arith)))
 
--- no row of the box is under y; every row is
+-- before the first row, and behind the last
 pub rows-none : (columns : ℕ) (b : Cells) (y c : ℕ) → y ≤ b .y0 → weight (rowsUnder columns b y c) ≡ 0
 rows-none columns b y c h =
     by-lt (c / columns) y
@@ -204,6 +204,6 @@ rows-all columns b y c h =
     (under-all columns b c y)
     (λ l. under-none columns b c y l ∙ sym (weight-off _ (above columns b c (omega arith))))
 
--- a loop over the rows of a box that has come to row y and stops there
+-- where the loop over the rows ends
 pub rows-end : (columns : ℕ) (b : Cells) (y c : ℕ) → b .y1 + 1 ≤ y → y ≤ max (b .y0) (b .y1 + 1) → weight (rowsUnder columns b y c) ≡ weight (covers columns b c)
 rows-end columns b y c h k = rows-all columns b y c (omega arith)

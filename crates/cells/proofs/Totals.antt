@@ -1,4 +1,4 @@
--- The number of members, counted triangle by triangle, is that of the cells' lists.
+-- The members counted triangle by triangle are as many as counted cell by cell.
 use mathlib.Core.List.{[]}
 use mathlib.Core.Logic.{_⊎_, inl, inr}
 use mathlib.Core.Path.{_≡_, refl, ap, sym, _∙_}
@@ -12,7 +12,7 @@ use Rattle.cells.specs.Steps.{Set, between, sums}
 use Rattle.cells.proofs.Sets.{Split, by-lt, rowsUnder, row-more, rows-none, rows-all, under-between, in-between, over-between, none-covered}
 use Rattle.cells.proofs.Members.{members-suc}
 
--- how many of the first k cells are in a set
+-- the size of a set among the first k cells
 abbrev sizeTo : Set → ℕ → ℕ
 sizeTo on k = sums (λ c. weight (on c)) k
 
@@ -43,7 +43,7 @@ module _ where
       (λ m. omega (arith, size-between a e k h, in-between a e k l m))
       (λ m. omega (arith, size-between a e k h, over-between a e k m)))
 
--- a box that lies in the grid, row by row
+-- the size of a triangle's rows, one by one
 module _ (columns : ℕ) (b : Cells) (k : ℕ) (right : b .x1 < columns) (some : b .x0 ≤ b .x1) (grid : (b .y1 + 1) * columns ≤ k) where
   size-rows : (d : ℕ) → b .y0 + d ≤ b .y1 + 1 → sizeTo (rowsUnder columns b (b .y0 + d)) k ≡ d * (b .x1 + 1 - b .x0)
   size-rows zero h =
@@ -81,7 +81,7 @@ size-box columns b rows hx hy =
     no-rows : (c : ℕ) → b .y1 < b .y0 → weight (covers columns b c) ≡ 0
     no-rows c m = sym (rows-all columns b (b .y1 + 1) c (omega arith)) ∙ rows-none columns b (b .y1 + 1) c (omega arith)
 
--- the area of a box with few rows and columns
+-- areas: none, and small ones
 pub area-none : (b : Cells) → (b .x1 < b .x0) ⊎ (b .y1 < b .y0) → areaOf b ≡ 0
 unfolding areaOf
 area-none b (inl h) = let z : b .x1 + 1 - b .x0 ≡ 0 = omega arith in rw z (omega arith)
@@ -90,7 +90,7 @@ area-none b (inr h) = let z : b .y1 + 1 - b .y0 ≡ 0 = omega arith in rw (z, mu
 pub area-small : (w h : ℕ) → w ≤ 65536 → h ≤ 65536 → w * h ≤ 4294967296
 area-small w h a b = omega (arith, mul-le-mul-right {m = w} {n = 65536} h a)
 
--- one triangle more
+-- with one triangle more each cell gains its weight
 module _ (on : Cover) where
   start-none : (k : ℕ) → startOf on 0 k ≡ 0
   unfolding startOf listed membersOf

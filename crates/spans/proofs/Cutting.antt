@@ -1,4 +1,4 @@
--- Truncation where the fraction is all there is, and where the range ends.
+-- `cut` at its two ends: below 1 it gives 0, from 2^64 on the largest u64.
 use mathlib.Core.Bool.{Bool, true, false, not, _&&_, _||_}
 use mathlib.Core.Path.{_≡_, refl, sym}
 use Prim.Native.Nat.{ℕ, zero, _+_, _-_, _*_, _/_, _^_, _≤_, _<_, min}
@@ -29,7 +29,7 @@ holds b e = rw e tt
 no : true ≡ false → ⊥
 no z = let k : _≡_ {A = ℕ} 0 1 = cc in omega arith
 
--- the order of two numbers that are not negative, as `le` has it
+-- what a failed `le` of two numbers says
 above : (a b : ℕ) → (ltb a b || (eqb a b && true)) ≡ false → b < a
 above a b e = by-lt (ltb a b) (eqb a b) (ltb-false a b) (eqb-false a b) e
   where
@@ -44,7 +44,7 @@ min-low a b e = omega arith
 min-high : (a b : ℕ) → b ≤ a → min a b ≡ b
 min-high a b h = omega arith
 
--- a number that is not negative and above zero is not at most one that is negative
+-- a positive number is not level with a negative one
 not-level : (a : ℕ) (t : Bool) → 0 < a → (t && eqb a 0) ≡ true → ⊥
 not-level a true h e = let z = eqb-true a 0 e in omega arith
 not-level a false h e = no (sym e)
@@ -52,7 +52,7 @@ not-level a false h e = no (sym e)
 one-pos : (k : ℤ) → 0 < 1 * down k
 one-pos k = omega (arith, one-mul (down k), down-pos k)
 
--- below 1 nothing is left
+-- below 1
 pub cut-low : (x : Float) → le (fin false 1 (pos 0)) x ≡ false → toUnsigned 64 x ≡ 0
 unfolding toUnsigned le
 cut-low nan e = refl
@@ -63,7 +63,7 @@ cut-low (fin false m k) e =
     let h = above (1 * down k) (m * up k * 1) e in
     min-low (m * up k / down k) (2 ^ 64 - 1) (div-eq-of-lt (omega (arith, one-mul (down k), mul-one (m * up k))))
 
--- from 2 ^ 64 on it is the largest
+-- from 2 ^ 64 on
 pub cut-high : (x : Float) → le (fin false 1 (pos 0)) x ≡ true → lt x (fin false 1 (pos 64)) ≡ false → toUnsigned 64 x ≡ 2 ^ 64 - 1
 unfolding toUnsigned le lt eq
 cut-high nan e f = absurd (no (sym e))
@@ -75,7 +75,7 @@ cut-high (fin false m k) e f =
     let g : 2 ^ 64 ≤ m * up k / down k = le-div-iff-mul-le (down-pos k) .1 h in
     min-high (m * up k / down k) (2 ^ 64 - 1) (omega arith)
 
--- what the cast asks of a number that is 1 or more
+-- in between the cast's own condition holds
 pub cut-asks : (x : Float) → le (fin false 1 (pos 0)) x ≡ true → T (lt (fin true 1 (pos 0)) x)
 unfolding le lt eq
 cut-asks nan e = absurd (no (sym e))

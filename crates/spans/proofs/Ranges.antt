@@ -1,4 +1,4 @@
--- Differences, quotients and truncations keep the order; of coordinates up to 1e6 and cells from 1e-6 on they have ranges.
+-- Order and ranges: larger coordinates give larger differences, quotients and truncations; differences of coordinates stay within 2e6.
 use mathlib.Core.Bool.{Bool, true, false, not}
 use mathlib.Core.Logic.{inl}
 use mathlib.Core.Path.{_≡_, refl}
@@ -16,7 +16,7 @@ use Rattle.numbers.specs.Reals.{_⊖_, million, millionth, absOf}
 use Rattle.spans.specs.Mesh.{isCoordinate}
 use Rattle.spans.proofs.Signed.{upper, lower, le→parts, parts→le, Is, rounded, is-le, is-sub, is-div}
 
--- ---- the order kept
+-- ---- monotone operations
 square : (a b z : ℕ) → a ≤ b → a * (z * z) ≤ b * (z * z)
 square a b z h = mul-le-mul-right (z * z) h
 
@@ -116,7 +116,7 @@ minus-million-is = refl
 pub coordinate-finite : (x : Float) → Coordinate x → T (finite x)
 coordinate-finite x c = finite-between (fin true 15625 (pos 6)) x (fin false 15625 (pos 6)) tt tt (rw minus-million-is at (c .low)) (rw million-is at (c .high))
 
--- its parts
+-- as a fraction
 coordinate-parts : (x : Float) → Coordinate x → (upper x ≤ 1000000 * den x + lower x) × (lower x ≤ 1000000 * den x + upper x)
 coordinate-parts x c =
     let f = coordinate-finite x c in
@@ -168,12 +168,12 @@ le-trans-finite x y z p q r h k =
         (omega (arith, simp (add-mul, mul-assoc, mul-comm, mul-left-comm) at (mul-le-mul-right dz a), simp (add-mul, mul-assoc, mul-comm, mul-left-comm) at (mul-le-mul-right dx b))))
         pos₀
 
--- ---- a quotient of what is not negative by a divisor that is not too small
+-- ---- quotients
 pub millionth-is : millionth ≡ fin false 4722366482869645 (negsuc 71)
 unfolding ofBits
 millionth-is = refl
 
--- a larger dividend that is not negative, and a smaller divisor
+-- more over less is more
 pub div-both : (f : Format) (x X s S : Float) → T (finite x) → T (finite X) → T (positive s) → T (positive S) → lower X ≡ 0 → T (le x X) → num S * den s ≤ num s * den S → T (le (div f x s) (div f X S))
 div-both f x X s S p P q Q z h k =
     is-le f _ _ _ _ _ _ _ _ (mul-pos (num-pos s q) (den-pos x)) (mul-pos (num-pos S Q) (den-pos X))

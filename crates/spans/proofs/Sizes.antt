@@ -1,5 +1,4 @@
--- Of an accepted mesh: the cell's size is from 1e-6 to 2e6, a coordinate's cell is at most 2e12, and cells are in the coordinates' order.
--- Of the root it is asked only that it is finite or a NaN.
+-- The size of a cell lies from 1e-6 to 2e6, so a coordinate's cell is at most number 2e12, and larger coordinates lie in no lower cell.
 use mathlib.Core.Bool.{Bool, true, false, not, _&&_}
 use mathlib.Core.Path.{_≡_, refl, subst}
 use Prim.Native.Nat.{ℕ, _+_, _*_, _≤_, _<_}
@@ -34,7 +33,7 @@ pub record Size (s : Float) : Type 0 where
 size-positive : (s : Float) → Size s → T (positive s)
 size-positive s z = between tiny s two tt tt (rw millionth-is at (z .least)) (z .most)
 
--- a quotient of what is not negative is not negative
+-- not negative over positive is not negative
 div-positive : (v s : Float) → T (finite v) → T (positive s) → T (le (fin false 0 (pos 0)) v) → T (le (fin false 0 (pos 0)) (v ⊘ s))
 div-positive v s f q h =
     let l : lower v ≤ upper v = omega (arith, le→parts (fin false 0 (pos 0)) v tt f h, zero-mul (den v)) in
@@ -69,7 +68,7 @@ cells-mono lo x y s cl cx cy z h k =
     cut-up 64 _ _ (quotient-finite lo x s cl cx z h) (quotient-finite lo y s cl cy z (le-trans-finite lo x y fl fx fy h k))
     (div-up binary64 (x ⊖ lo) (y ⊖ lo) s (extent-finite x lo cx cl) (extent-finite y lo cy cl) (size-positive s z) (sub-mono binary64 x y lo fx fy fl k))
 
--- ---- a larger of two
+-- ---- maxima
 pub by-test : {P : Type 0} (t : Bool) → (t ≡ true → P) → (t ≡ false → P) → P
 by-test true x y = x refl
 by-test false x y = y refl
@@ -81,7 +80,7 @@ either-of P x y p q = by-test (isNan x) (λ e. rw e q) (λ e. by-test (lt x y) (
 pub le-self : (y : Float) → T (finite y) → T (le y y)
 le-self y p = parts→le y y p p (omega arith)
 
--- what is finite and not below y is at least y
+-- not below is at least
 pub not-below : (x y : Float) → T (finite x) → T (finite y) → lt x y ≡ false → T (le y x)
 unfolding lt
 not-below nan y p q e = absurd p
@@ -94,7 +93,7 @@ not-below (fin true m k) (fin false n d) p q e =
     parts→le (fin false n d) (fin true m k) tt tt (omega (arith, ltb-false 0 (m * up k * down d + n * up d * down k) e, zero-mul (down k), zero-mul (down d)))
 not-below (fin true m k) (fin true n d) p q e = parts→le (fin true n d) (fin true m k) tt tt (omega (arith, ltb-false (n * up d * down k) (m * up k * down d) e, zero-mul (down k), zero-mul (down d)))
 
--- a larger of two is at least the second, where the first is finite
+-- a maximum is at least its second number
 pub max-least : (x y : Float) → T (finite x) → T (finite y) → T (le y (maxOf x y))
 unfolding maxOf
 max-least x y p q = by-test (isNan x) (λ e. rw e (le-self y q)) (λ e. by-test (lt x y) (λ f. rw (e, f) (le-self y q)) (λ f. rw (e, f) (not-below x y p q f)))
@@ -123,7 +122,7 @@ f4-is = refl
 million-under : (r : Float) → T (finite r) → T (le r million) → T (le r two)
 million-under r p h = le-trans-finite r (fin false 15625 (pos 6)) two p tt tt (rw million-is at h) (unfold le in tt)
 
--- by 1 or more: no larger
+-- dividing by 1 or more does not enlarge
 div-shrinks : (x s : Float) → T (finite x) → T (positive s) → T (le x two) → 1 * den s ≤ num s → T (le (x ⊘ s) two)
 div-shrinks x s p q h k =
     let e : two ⊘ fin false 1 (pos 0) ≡ two = unfold div round in refl in

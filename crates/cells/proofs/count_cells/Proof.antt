@@ -21,7 +21,7 @@ returns c = counted-none _ _ (λ k. none-covered _ _ k (c .if1 .taken))
 loop-holds : tie.Need-loop-holds Inv-loop μ-loop
 loop-holds c = (counted-none _ _ (λ k. rows-none _ _ _ k (omega arith)), omega arith, omega arith, omega arith)
 
--- the numbers of the row's cells fit
+-- the row's cell numbers fit
 fits : (c : tie.After-count-row-arg Inv-loop μ-loop) → c .before .before .loop .y * c .before .before .before .before .before .args .columns ≤ 65536 * 65536
 fits c = let s = c .before .before .before .before .before in row-fits _ _ (s .pre .0 .wide) (omega (arith, s .pre .0 .tall, c .before .before .loop .inv))
 

@@ -18,7 +18,7 @@ abbrev μ-loop : tie.MeasureT-loop
 loop-holds : tie.Need-loop-holds Inv-loop μ-loop
 loop-holds c = (counted-none _ _ (λ k. between-none _ _ k (omega arith)), omega arith, omega arith)
 
--- what the contract says of the entry that is next
+-- the next entry has room
 here : (c : tie.In-loop Inv-loop μ-loop) → (c .before .loop .c < length (now (c .before .before .args .starts))) × (getD (now (c .before .before .args .starts)) (c .before .loop .c) 0 + 1 < 2 ^ 32)
 here c = c .before .before .pre (c .before .loop .c) (between-on _ _ _ (omega arith) (omega arith))
 

@@ -14,7 +14,7 @@ Inv-loop starts₀ members₀ a e i c₀ starts members c = Placed (between a c)
 abbrev μ-loop : tie.MeasureT-loop
 μ-loop starts₀ members₀ a e i c₀ starts members c = e - c
 
--- what the contract says of the cell that is next, whose start has not changed yet
+-- the next cell is as open as at the begin
 here : (c : tie.In-loop Inv-loop μ-loop) → (c .before .loop .c < length (c .before .loop .starts)) × (0 < getD (c .before .loop .starts) (c .before .loop .c) 0) × (getD (c .before .loop .starts) (c .before .loop .c) 0 ≤ length (c .before .loop .members))
 here c =
     let s = c .before .before in
