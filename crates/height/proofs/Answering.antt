@@ -1,5 +1,5 @@
 -- What a question answers, refusal by refusal, and where it is accepted.
-use mathlib.Core.Bool.{Bool, true, false, not, _&&_}
+use mathlib.Core.Bool.{Bool, true, false, not}
 use mathlib.Core.List.{List}
 use mathlib.Core.Path.{_≡_, refl, ap, sym, _∙_}
 use Prim.Native.Nat.{ℕ, _*_, _≤_}
@@ -20,7 +20,7 @@ use Rattle.query.specs.Usable.{usable}
 use Rattle.capsule.specs.declared.Capsule.{Capsule}
 use Rattle.height.specs.declared.Answer.{Answer}
 use Rattle.height.specs.Sweep.{sweepOf, sweptIn, sweptOf}
-use Rattle.height.specs.Height.{isSweep, refusalOfNumbers, refusalOf, Outcome, ended, refusedBy, answeredBy, maxHeightOf}
+use Rattle.height.specs.Height.{refusalOfNumbers, refusalOf, Outcome, ended, refusedBy, answeredBy, maxHeightOf}
 
 -- a mark for each triangle, and not too many
 pub record Marked (mesh : List Float) (marks : List ℕ) : Type 0 where

@@ -2,15 +2,14 @@
 use mathlib.Core.Bool.{Bool, true, false}
 use mathlib.Core.List.{List}
 use mathlib.Core.Logic.{inl, inr, ⊎-elim}
-use mathlib.Core.Path.{_≡_, refl, ap, sym, _∙_}
-use Prim.Native.Nat.{ℕ, _+_, _<_}
+use mathlib.Core.Path.{_≡_, ap, sym, _∙_}
+use Prim.Native.Nat.{ℕ, _<_}
 use native.Mathlib.Omega.{arith}
 use borrow.Author.Tests.{eqb-true, eqb-false}
 use lib.Dec.{eqb, lit<}
 use lib.Ieee.{Float}
-use lib.ListN.{length}
 use Rattle.numbers.proofs.Branches.{either}
-use Rattle.walk.specs.Walk.{walked, fold, nextStamp}
+use Rattle.walk.specs.Walk.{walked, nextStamp}
 use Rattle.grid.specs.declared.Header.{Header}
 use Rattle.grid.proofs.Ladder.{demanded}
 use Rattle.query.specs.Patch.{patchOf}
@@ -20,11 +19,11 @@ use Rattle.query.proofs.Patches.{patch-inside}
 use Rattle.query.proofs.Using.{usable-head}
 use Rattle.query.proofs.Looks.{looks-once, looks-one, index-of}
 use Rattle.height.specs.declared.Answer.{Answer}
-use Rattle.height.specs.Sweep.{raised, sweepOf, sweptIn, sweptOf}
+use Rattle.height.specs.Sweep.{sweepOf, sweptIn, sweptOf}
 use Rattle.height.specs.Height.{refusalOfNumbers, refusalOf, ended, refusedBy, answeredBy, maxHeightOf, Outcome}
-use Rattle.height.specs.Demand.{Demand3, HeightOfOne}
+use Rattle.height.specs.Demand.{Demand3}
 use Rattle.height.proofs.Answering.{Marked, marked-is}
-use Rattle.height.proofs.Heights.{Real, coordinate-real, fold-is, fold-none}
+use Rattle.height.proofs.Heights.{coordinate-real, fold-is, fold-none}
 
 by-test : {A : Type 0} (b : Bool) → (b ≡ true → A) → (b ≡ false → A) → A
 by-test {A} b p q = either (λ (_ : Bool). A) b true false p q

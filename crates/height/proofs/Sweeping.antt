@@ -1,14 +1,12 @@
 -- The walk of a sweep: what it may rely on as it begins, and what it is as a list.
-use mathlib.Core.Bool.{Bool, true}
 use mathlib.Core.List.{List}
-use mathlib.Core.Path.{_≡_, refl, ap, sym, _∙_}
-use Prim.Native.Nat.{ℕ, _+_, _*_, _≤_, _<_, _^_}
+use mathlib.Core.Path.{_≡_, ap, _∙_}
+use Prim.Native.Nat.{ℕ, _*_, _≤_}
 use native.Mathlib.Omega.{arith}
 use lib.Ieee.{Float}
 use lib.ListN.{length}
 use Rattle.walk.specs.Walk.{Walk, block, fold, nextStamp, readyMarks}
-use Rattle.walk.specs.Steps.{seen, look, unmarked, Room, Walkable}
-use Rattle.walk.specs.declared.Seen.{Seen}
+use Rattle.walk.specs.Steps.{seen, look, Room}
 use Rattle.walk.proofs.Rings.{unmarked-length}
 use Rattle.walk.proofs.Lists.{walk-is}
 use Rattle.grid.specs.declared.Header.{Header}

@@ -7,7 +7,7 @@ ghost use Rattle.walk.specs.Steps.{seen, look, Below, Room, Walkable};
 ghost use Rattle.query.specs.Patch.{patchOf};
 ghost use Rattle.query.specs.Looked.{IndexOf};
 ghost use Rattle.height.specs.Demand.{Demand3};
-ghost use Rattle.height.specs.Sweep.{raisedBy, raised, sweepOf, swept, sweptIn, sweptOf, Sweepable};
+ghost use Rattle.height.specs.Sweep.{raisedBy, raised, swept, sweptIn, sweptOf, Sweepable};
 ghost use Rattle.height.specs.Height.{arePoints, isSweep, refusalOfNumbers, refusedBy, ended, maxHeightOf};
 use capsule::Capsule;
 use grid::Header;

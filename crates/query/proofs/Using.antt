@@ -2,7 +2,7 @@
 use mathlib.Core.Bool.{Bool, true, _&&_}
 use mathlib.Core.List.{List, [], _∷_}
 use mathlib.Core.Logic.{⊎-elim}
-use mathlib.Core.Path.{_≡_, sym, _∙_}
+use mathlib.Core.Path.{_≡_}
 use Prim.Native.Nat.{ℕ, zero, suc, _+_, _-_, _*_, _≤_, _<_}
 use native.Mathlib.Nat.{mul-le-mul-right, eq-or-lt-of-le}
 use native.Mathlib.Omega.{arith}
@@ -17,7 +17,7 @@ use Rattle.header.specs.Head.{headUsable}
 use Rattle.header.proofs.Ands.{both}
 use Rattle.header.proofs.Ranges.{Headed, headed-is}
 use Rattle.walk.specs.Walk.{cell}
-use Rattle.walk.specs.Steps.{Walkable, Stretch}
+use Rattle.walk.specs.Steps.{Walkable}
 use Rattle.query.specs.declared.Patch.{Patch}
 use Rattle.query.specs.Usable.{every, each, triangleUsable, memberUsable, cellUsable, rowUsable, cellsUsable, usable}
 use Rattle.query.proofs.Testing.{in-rows}

@@ -7,7 +7,6 @@ use lib.Ieee.{Float}
 use Rattle.cells.specs.Cover.{times}
 use Rattle.walk.specs.Walk.{block, looked, nextStamp, readyMarks}
 use Rattle.grid.specs.declared.Header.{Header}
-use Rattle.grid.specs.declared.Built.{Built}
 use Rattle.grid.specs.Header.{coversOf}
 use Rattle.grid.specs.Build.{buildOf, outcome}
 use Rattle.query.specs.declared.Patch.{Patch}

@@ -2,7 +2,7 @@
 use mathlib.Core.Bool.{Bool, true, _&&_}
 use mathlib.Core.List.{List}
 use mathlib.Core.Path.{_≡_}
-use Prim.Native.Nat.{ℕ, _+_, _-_, _*_, _/_, _%_, _≤_, _<_}
+use Prim.Native.Nat.{ℕ, _+_, _-_, _*_, _/_, _≤_, _<_}
 use native.Mathlib.Nat.{div-add-mod', mod-lt}
 use native.Mathlib.Omega.{arith}
 use borrow.Author.Tests.{ltb-true, leb-true}
@@ -16,10 +16,10 @@ use Rattle.header.specs.Head.{headUsable}
 use Rattle.header.proofs.Ands.{both}
 use Rattle.header.proofs.Ranges.{Headed, headed-is}
 use Rattle.walk.specs.Walk.{cell}
-use Rattle.walk.specs.Steps.{Walkable, Stretch}
+use Rattle.walk.specs.Steps.{Walkable}
 use Rattle.query.specs.Usable.{every, each, triangleUsable, cellUsable, usableWhole}
 use Rattle.query.proofs.Testing.{in-rows}
-use Rattle.query.proofs.Using.{every-at, each-at, rows-room}
+use Rattle.query.proofs.Using.{every-at, each-at}
 
 module _ (mesh : List Float) (h : Header) (starts members : List ℕ) (e : usableWhole mesh h starts members ≡ true) where
   abbrev test : ℕ → Bool

@@ -1,4 +1,4 @@
-use Rattle.numbers.proofs.Branches.{branches, bool-called}
+use Rattle.numbers.proofs.Branches.{branches}
 use Rattle.cells.specs.Cover.{isFrom}
 use Rattle.header.proofs.is_from.Statement.{statement}
 use Rattle.header.proofs.is_from.Tie as tie

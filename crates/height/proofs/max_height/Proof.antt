@@ -4,7 +4,7 @@ use Prim.Native.Nat.{ℕ, _*_}
 use native.Mathlib.Omega.{arith}
 use Rattle.query.proofs.Patches.{patch-inside}
 use Rattle.query.proofs.Using.{walkable, usable-head}
-use Rattle.height.proofs.Answering.{Marked, marked-is, numbers-refused, cells-refused, usable-is, answered}
+use Rattle.height.proofs.Answering.{marked-is, numbers-refused, cells-refused, usable-is, answered}
 use Rattle.height.proofs.Demanding.{demand-3}
 use Rattle.height.proofs.max_height.Statement.{statement}
 use Rattle.height.proofs.max_height.Tie as tie

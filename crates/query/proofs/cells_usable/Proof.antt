@@ -1,5 +1,5 @@
 -- `query::cells_usable` meets its contract: the test of the rows that are left gives what that of all gave.
-use Prim.Native.Nat.{_+_, _-_, _*_}
+use Prim.Native.Nat.{_-_}
 use mathlib.Core.Path.{_≡_, refl}
 use native.Mathlib.Omega.{arith}
 use Rattle.query.specs.Usable.{every, memberUsable, rowUsable, cellsUsable}

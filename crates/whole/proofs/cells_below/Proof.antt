@@ -1,10 +1,10 @@
 -- `whole::cells_below` meets its contract: the test of the cells that are left gives what that of all gave.
-use Prim.Native.Nat.{_+_, _-_, _≤_}
+use Prim.Native.Nat.{_-_, _≤_}
 use mathlib.Core.Path.{_≡_, ap}
 use native.Mathlib.Nat.{sub-zero}
 use native.Mathlib.Omega.{arith}
 use lib.Dec.{ltb}
-use Rattle.query.specs.Usable.{every, triangleUsable, cellUsable}
+use Rattle.query.specs.Usable.{every, cellUsable}
 use Rattle.query.proofs.Testing.{every-stops, every-goes, every-ends, failed, passed}
 use Rattle.whole.proofs.cells_below.Statement.{statement}
 use Rattle.whole.proofs.cells_below.Tie as tie

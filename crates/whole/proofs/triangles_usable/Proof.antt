@@ -1,10 +1,9 @@
 -- `whole::triangles_usable` meets its contract: the test of the triangles that are left gives what that of all gave.
-use Prim.Native.Nat.{_+_, _-_, _≤_}
+use Prim.Native.Nat.{_-_, _≤_}
 use mathlib.Core.Path.{_≡_, ap}
 use native.Mathlib.Nat.{sub-zero}
 use native.Mathlib.Omega.{arith}
-use lib.Dec.{ltb}
-use Rattle.query.specs.Usable.{every, triangleUsable, cellUsable}
+use Rattle.query.specs.Usable.{every, triangleUsable}
 use Rattle.query.proofs.Testing.{every-stops, every-goes, every-ends, failed, passed}
 use Rattle.whole.proofs.triangles_usable.Statement.{statement}
 use Rattle.whole.proofs.triangles_usable.Tie as tie
