@@ -8,6 +8,7 @@ use lib.ListN.{length, take, replicate}
 use Rattle.numbers.specs.Reals.{f0, f1, f2, f4, million, minus1}
 use Rattle.numbers.specs.Root.{rootOf}
 use Rattle.numbers.specs.Rounding.{roundDownOf}
+use Rattle.grid.specs.Build.{buildOf}
 use Rattle.walk.specs.Walk.{nextStamp, readyMarks}
 use Rattle.job.specs.Reader.{readOf}
 
@@ -57,12 +58,27 @@ worked = 70 ∷ 84 ∷ 77 ∷ (bytesIn 2 1 ++ (0 ∷ (bytesIn 4 1 ++ (bytesIn 4 
 abbrev pub reading : List ℕ → List ℕ
 reading bytes = length bytes ∷ readOf bytes (replicate 9 f0) (replicate 20 f0) .answer .refusal ∷ []
 
+-- ---- a mesh
+
+-- the worked example's triangle with one coordinate another number
+abbrev pub cornerAt : Float → List Float
+cornerAt x = f0 ∷ f0 ∷ f2 ∷ f4 ∷ f0 ∷ f2 ∷ f0 ∷ x ∷ f2 ∷ []
+
+-- what the builder says to a mesh, with floor 0 and radius 1
+abbrev pub building : List Float → List ℕ
+building mesh = buildOf mesh f0 f1 (replicate 9 0) (replicate 9 0) .built .refusal ∷ []
+
 -- ---- the table
 
 abbrev pub examples : List Example
 examples =
+    -- coordinate 1e6 passes, the next f64 up gets 4
+    (building (cornerAt million) gives (0 ∷ []))
+    ∷ (building (cornerAt (ofBits binary64 0x412e_8480_0000_0001)) gives (4 ∷ []))
+    -- mesh empty gets 3
+    ∷ (building [] gives (3 ∷ []))
     -- root of 9 is 3
-    (bits (rootOf (ofBits binary64 0x4022_0000_0000_0000)) gives (0x4008_0000_0000_0000 ∷ []))
+    ∷ (bits (rootOf (ofBits binary64 0x4022_0000_0000_0000)) gives (0x4008_0000_0000_0000 ∷ []))
     -- root of 2^-1074 is 2^-537
     ∷ (bits (rootOf (ofBits binary64 1)) gives (0x1e60_0000_0000_0000 ∷ []))
     -- round down of -0.5 is -1

@@ -7,5 +7,5 @@ ghost use Rattle.claims.specs.Examples.{examples, AllGive};
 pub fn proved_examples() -> usize
     ensures { λ n. ⌜ (n ≡ length examples) × AllGive ⌝ }
 {
-    6
+    9
 }

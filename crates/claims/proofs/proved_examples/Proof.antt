@@ -1,16 +1,25 @@
+-- Both sides compute to the same lists.
 use mathlib.Core.Path.{refl}
-use lib.Ieee.{ofBits, toBits, round}
+use lib.Ieee.{ofBits, toBits, round, sub, div, lt, le, isNan, toUnsigned, ofInt}
 use Rattle.numbers.specs.Root.{rootOf, rootOfUnits, nearestRoot, wholeRoot}
 use Rattle.numbers.specs.Rounding.{roundDownOf}
+use Rattle.numbers.specs.Reals.{maxOf, minOf, absOf}
+use Rattle.plane.specs.Mesh.{triangleOf, lowest, highest, boundsOf}
+use Rattle.cells.specs.Cover.{isFrom, covers, membersOf, listed, startOf}
+use Rattle.spans.specs.Axis.{spanOf, sizeOf, cellAt, cellsAlong, stretchOf}
+use Rattle.spans.specs.Mesh.{isCoordinate, isRadius, badFrom, firstBad as firstBadIn, boxOf, widened, extentOf}
+use Rattle.grid.specs.Ladder.{refuse as refuseHere, demand}
+use Rattle.grid.specs.Grid.{gridOf, cellsOf, totalOf}
+use Rattle.grid.specs.Build.{isNowhere, refusalOfNumbers as refusalOfCoordinates, refusalOfMesh, refusalOfGrid, refusalOfMembers, refusedBy, acceptedWith, unless, filledOf, gridded, buildOf}
 use Rattle.walk.specs.Walk.{nextStamp, readyMarks}
 use Rattle.job.specs.Layout.{value, little}
-use Rattle.job.specs.Reader.{readOf, acceptedOf, refusalOf, refusalOfCounts, refusalOfNumbers, refuse, tooMany, somewhere, firstBad, finite, numberOf, numbersOf}
+use Rattle.job.specs.Reader.{readOf, acceptedOf, refusalOf, refusalOfCounts, refusalOfNumbers, refuse, tooMany, somewhere, firstBad, finite, numberOf}
 use Rattle.claims.specs.Examples.{worked, bytesIn, numbersIn}
 use Rattle.claims.proofs.proved_examples.Statement.{statement}
 use Rattle.claims.proofs.proved_examples.Tie as tie
 
 returns : tie.Need-returns
-unfolding worked bytesIn numbersIn readOf acceptedOf refusalOf refusalOfCounts refusalOfNumbers refuse tooMany somewhere firstBad finite numberOf numbersOf value little rootOf rootOfUnits nearestRoot wholeRoot roundDownOf nextStamp readyMarks ofBits toBits round
+unfolding worked bytesIn numbersIn readOf acceptedOf refusalOf refusalOfCounts refusalOfNumbers refuse tooMany somewhere firstBad finite numberOf value little rootOf rootOfUnits nearestRoot wholeRoot roundDownOf nextStamp readyMarks ofBits toBits round sub div lt le isNan toUnsigned ofInt maxOf minOf absOf triangleOf lowest highest boundsOf isFrom covers membersOf listed startOf spanOf sizeOf cellAt cellsAlong stretchOf isCoordinate isRadius badFrom firstBadIn boxOf widened extentOf refuseHere demand gridOf cellsOf totalOf isNowhere refusalOfCoordinates refusalOfMesh refusalOfGrid refusalOfMembers refusedBy acceptedWith unless filledOf gridded buildOf
 returns c = (refl, refl)
 
 pub proved-examples-spec : {M : Type 1} → statement M
