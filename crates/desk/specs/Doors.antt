@@ -13,6 +13,7 @@ use Rattle.grid.specs.declared.Header.{Header}
 use Rattle.grid.specs.Build.{Outcome}
 use Rattle.height.specs.Height as swept
 use Rattle.ask.specs.declared.Answer.{Answer}
+use Rattle.ask.specs.declared.Ruling.{Ruling}
 use Rattle.ask.specs.Ask as asked
 use Rattle.job.specs.Reader as reader
 
@@ -109,3 +110,17 @@ unfoldable pub tipLeftBy : asked.Outcome Answer → HeightLeft
 tipLeftBy o =
     let a = o .answer in
     heightLeft (a .refusal) (o .marks) (a .height ∷ []) (a .count ∷ a .stamp ∷ [])
+
+-- A chord asked: the refusal, the marks; the verdict's number, the count and the stamp afterwards.
+pub record VerdictLeft : Type 0 where
+  pub refusal : ℕ
+  pub marks : List ℕ
+  pub counts : List ℕ
+
+abbrev pub verdictLeft : ℕ → List ℕ → List ℕ → VerdictLeft
+verdictLeft k ms ns = record { refusal = k; marks = ms; counts = ns }
+
+unfoldable pub verdictLeftBy : asked.Outcome Ruling → VerdictLeft
+verdictLeftBy o =
+    let a = o .answer in
+    verdictLeft (a .refusal) (o .marks) (asked.findingNumber (a .finding) ∷ a .count ∷ a .stamp ∷ [])

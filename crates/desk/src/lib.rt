@@ -10,15 +10,17 @@ ghost use Rattle.job.specs.Reader.{readOf};
 ghost use Rattle.capsule.specs.Candidates.{maxInCapsule};
 ghost use Rattle.bull.specs.Bull.{bullProfile, bullContactAbove};
 ghost use Rattle.section.specs.Section.{sectionContact};
-ghost use Rattle.desk.specs.Doors.{jobLeft, jobLeftBy, contactLeft, contactLeftBy, sectionFrom, builtLeft, builtLeftBy, headerFrom, heightLeft, heightLeftBy, tipLeftBy};
+ghost use Rattle.desk.specs.Doors.{jobLeft, jobLeftBy, contactLeft, contactLeftBy, sectionFrom, builtLeft, builtLeftBy, headerFrom, heightLeft, heightLeftBy, tipLeftBy, verdictLeft, verdictLeftBy};
 ghost use Rattle.grid.specs.Build.{buildOf};
 ghost use Rattle.height.specs.Height.{maxHeightOf};
 ghost use Rattle.contact.specs.Contact.{maxBullOf, maxSectionsOf};
+ghost use Rattle.chords.specs.Chords.{bullChordOf, sectionsChordOf};
 ghost use Rattle.plane.specs.Mesh.{triangleOf};
 ghost use Rattle.plane.specs.Distance.{dist2ToSegment, distanceXy};
 use bull::Bull;
 use grid::Header;
 use plane::Contact;
+use reach::Chord;
 use section::Section;
 
 // The square root, rounded to the nearest f64.
@@ -389,5 +391,107 @@ pub extern "C" fn mandrikelo_max_sections(
     let next = a.stamp;
     *found = [z];
     *counts = [count, next];
+    k
+}
+
+// Whether a bull-nose cutter, lifted, stays clear of the part from tip a to tip b.
+#[no_mangle]
+pub extern "C" fn mandrikelo_bull_chord_clear(
+    mesh: &[f64],
+    measures: &[f64; 6],
+    sizes: &[u32; 3],
+    starts: &[u32],
+    members: &[u32],
+    marks: &mut [u32],
+    stamp: u32,
+    ax: f64,
+    ay: f64,
+    az: f64,
+    bx: f64,
+    by: f64,
+    bz: f64,
+    r: f64,
+    rc: f64,
+    lift: f64,
+    counts: &mut [u32; 3],
+) -> u32
+    ensures { λ k. ⌜ verdictLeft k (now (marks .exit)) (now (counts .exit)) ≡ verdictLeftBy (bullChordOf (now (mesh .entry)) (headerFrom (now (measures .entry)) (now (sizes .entry))) (now (starts .entry)) (now (members .entry)) (now (marks .entry)) stamp (record { ax = ax; ay = ay; az = az; bx = bx; by = by; bz = bz; lift = lift }) r rc) ⌝ }
+{
+    let m = Chord {
+        ax: ax,
+        ay: ay,
+        az: az,
+        bx: bx,
+        by: by,
+        bz: bz,
+        lift: lift,
+    };
+    let a = chords::bull_chord_clear(
+        mesh,
+        header_from(measures, sizes),
+        starts,
+        members,
+        marks,
+        stamp,
+        m,
+        r,
+        rc,
+    );
+    let k = a.refusal;
+    let finding = a.finding;
+    let count = a.count;
+    let next = a.stamp;
+    let verdict = ask::finding_number(finding);
+    *counts = [verdict, count, next];
+    k
+}
+
+// Whether a tool of sections, lifted, stays clear of the part from tip a to tip b.
+#[no_mangle]
+pub extern "C" fn mandrikelo_sections_chord_clear(
+    mesh: &[f64],
+    measures: &[f64; 6],
+    sizes: &[u32; 3],
+    starts: &[u32],
+    members: &[u32],
+    marks: &mut [u32],
+    stamp: u32,
+    ax: f64,
+    ay: f64,
+    az: f64,
+    bx: f64,
+    by: f64,
+    bz: f64,
+    lift: f64,
+    sections: &[f64],
+    counts: &mut [u32; 3],
+) -> u32
+    ensures { λ k. ⌜ verdictLeft k (now (marks .exit)) (now (counts .exit)) ≡ verdictLeftBy (sectionsChordOf (now (mesh .entry)) (headerFrom (now (measures .entry)) (now (sizes .entry))) (now (starts .entry)) (now (members .entry)) (now (marks .entry)) stamp (record { ax = ax; ay = ay; az = az; bx = bx; by = by; bz = bz; lift = lift }) (now (sections .entry))) ⌝ }
+{
+    let m = Chord {
+        ax: ax,
+        ay: ay,
+        az: az,
+        bx: bx,
+        by: by,
+        bz: bz,
+        lift: lift,
+    };
+    let a = chords::sections_chord_clear(
+        mesh,
+        header_from(measures, sizes),
+        starts,
+        members,
+        marks,
+        stamp,
+        m,
+        sections,
+    );
+    let k = a.refusal;
+    let finding = a.finding;
+    let count = a.count;
+    let next = a.stamp;
+    let verdict = ask::finding_number(finding);
+    *counts = [verdict, count, next];
     k
 }
