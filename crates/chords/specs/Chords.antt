@@ -1,0 +1,62 @@
+-- Document 01, "Questions": `bull_chord_clear` and `sections_chord_clear`, whether a tool that moves straight from the tip a to the tip b stays above the part.
+use mathlib.Core.Bool.{Bool, false, not, cond, _&&_}
+use mathlib.Core.List.{List}
+use Prim.Native.Nat.{ℕ}
+use lib.Ieee.{Float, lt, le}
+use Rattle.numbers.specs.Reals.{_⊕_, _⊖_, minOf}
+use Rattle.plane.specs.declared.Triangle.{Triangle}
+use Rattle.plane.specs.Mesh.{triangleOf, topOf}
+use Rattle.spans.specs.Mesh.{isCoordinate, isRadius}
+use Rattle.grid.specs.declared.Header.{Header}
+use Rattle.query.specs.Asked.{isPoint}
+use Rattle.query.specs.Patch.{patchOf}
+use Rattle.reach.specs.declared.Chord.{Chord}
+use Rattle.bull_gap.specs.Blocks.{bullBlocks}
+use Rattle.ask.specs.declared.Ruling.{Ruling}
+use Rattle.ask.specs.Ask.{isCorner, Outcome, chordOver}
+use Rattle.tool.specs.Tool.{sectionsIn, isTool, widestOf, lowestOf, passesAll}
+
+-- ---- what both share
+
+-- 2: all three coordinates of both ends are a point's, the lift's magnitude at most 1e6.
+unfoldable pub isEnd : Float → Float → Float → Bool
+isEnd x y z = isPoint x && (isPoint y && isPoint z)
+
+unfoldable pub isChord : Chord → Bool
+isChord m = isEnd (m .ax) (m .ay) (m .az) && (isEnd (m .bx) (m .by) (m .bz) && isCoordinate (m .lift))
+
+-- A chord whose lower end is under floor + lift is blocked before any walk.
+unfoldable pub blockedAtOnce : Float → Chord → Bool
+blockedAtOnce floor m = lt (minOf (m .az) (m .bz)) (floor ⊕ m .lift)
+
+-- ---- a bull-nose cutter
+
+-- Triangle i blocks it.
+unfoldable pub bullBlocksAt : List Float → Chord → Float → Float → ℕ → Bool
+bullBlocksAt mesh m r rc i = bullBlocks (triangleOf mesh i) m r rc
+
+-- 2: the chord, and the radius in its range.
+unfoldable pub isRide : Chord → Float → Bool
+isRide m r = isChord m && isRadius r
+
+-- bull_chord_clear: 1, 2, 8 (the corner radius) and 7; reach is the radius.
+unfoldable pub bullChordOf : List Float → Header → List ℕ → List ℕ → List ℕ → ℕ → Chord → Float → Float → Outcome Ruling
+bullChordOf mesh h starts members marks stamp m r rc =
+    chordOver (isRide m r) (isCorner r rc) (blockedAtOnce (h .floor) m) (bullBlocksAt mesh m r rc)
+    mesh h starts members marks stamp (patchOf h (m .ax) (m .ay) (m .bx) (m .by) r)
+
+-- ---- a tool of sections, with the lowest z0 of them
+
+-- A triangle blocks it: a contact is at most the triangle's top less the lowest z0, so one that, lifted, is not above the lower tip does not.
+unfoldable pub toolBlocks : Triangle → Chord → Float → List Float → Bool
+toolBlocks t m low table =
+    cond (le (topOf t ⊖ low ⊕ m .lift) (minOf (m .az) (m .bz))) false (not (passesAll t m table))
+
+unfoldable pub toolBlocksAt : List Float → Chord → Float → List Float → ℕ → Bool
+toolBlocksAt mesh m low table i = toolBlocks (triangleOf mesh i) m low table
+
+-- sections_chord_clear: 1, 2, 8 (the sections) and 7; reach is the largest r1.
+unfoldable pub sectionsChordOf : List Float → Header → List ℕ → List ℕ → List ℕ → ℕ → Chord → List Float → Outcome Ruling
+sectionsChordOf mesh h starts members marks stamp m table =
+    chordOver (isChord m) (isTool table) (blockedAtOnce (h .floor) m) (toolBlocksAt mesh m (lowestOf table (sectionsIn table)) table)
+    mesh h starts members marks stamp (patchOf h (m .ax) (m .ay) (m .bx) (m .by) (widestOf table (sectionsIn table)))

@@ -1,0 +1,340 @@
+// Whether a tool that moves straight from one tip to another stays above the part: a bull-nose cutter, or a table of sections.
+ghost use mathlib.Core.Path.{_≡_};
+ghost use mathlib.Core.Bool.{true, cond};
+ghost use Prim.Native.Nat.{_+_, _*_, _≤_, _<_};
+ghost use lib.ListN.{length};
+ghost use Rattle.walk.specs.Walk.{block, fold};
+ghost use Rattle.walk.specs.Steps.{judged, strike, Room, Walkable};
+ghost use Rattle.ask.specs.Ask.{ended, refusedChord, blockedEarly};
+ghost use Rattle.chords.specs.Chords.{isEnd, isChord, blockedAtOnce, bullBlocksAt, isRide, bullChordOf, toolBlocks, toolBlocksAt, sectionsChordOf};
+use ask::Finding;
+use ask::Ruling;
+use grid::Header;
+use plane::Triangle;
+use query::Patch;
+use reach::Chord;
+use walk::Verdict;
+
+// Whether a bull-nose cutter of the radius r and the corner radius rc is clear from the tip a to the tip b, or why the question is refused.
+pub fn bull_chord_clear(
+    mesh: &[f64],
+    h: Header,
+    starts: &[u32],
+    members: &[u32],
+    marks: &mut [u32],
+    stamp: u32,
+    m: Chord,
+    r: f64,
+    rc: f64,
+) -> Ruling
+    ensures { λ a. ⌜ ended a (now (marks .exit)) ≡ bullChordOf (now (mesh .entry)) h (now (starts .entry)) (now (members .entry)) (now (marks .entry)) stamp m r rc ⌝ }
+{
+    let columns = h.columns;
+    let floor = h.floor;
+    let p = query::patch_of(h, m.ax, m.ay, m.bx, m.by, r);
+    let asked = is_ride(m, r);
+    let corner = ask::is_corner(r, rc);
+    let n = ask::refusal(mesh, h, starts, members, marks, stamp, p, asked, corner);
+    if n != 0 {
+        return refused(n, stamp);
+    }
+    if blocked_at_once(floor, m) {
+        return blocked(stamp);
+    }
+    let next = walk::next_stamp(marks, stamp);
+    let v = chase_bull(mesh, starts, members, marks, next, columns, p, m, r, rc);
+    Ruling {
+        refusal: 0,
+        finding: finding_of(v.clear),
+        count: v.count,
+        stamp: next,
+    }
+}
+
+// Whether a tool whose sections are four numbers each of a table is clear from the tip a to the tip b, or why the question is refused.
+pub fn sections_chord_clear(
+    mesh: &[f64],
+    h: Header,
+    starts: &[u32],
+    members: &[u32],
+    marks: &mut [u32],
+    stamp: u32,
+    m: Chord,
+    table: &[f64],
+) -> Ruling
+    ensures { λ a. ⌜ ended a (now (marks .exit)) ≡ sectionsChordOf (now (mesh .entry)) h (now (starts .entry)) (now (members .entry)) (now (marks .entry)) stamp m (now (table .entry)) ⌝ }
+{
+    let columns = h.columns;
+    let floor = h.floor;
+    let reach = tool::widest(table);
+    let low = tool::lowest(table);
+    let p = query::patch_of(h, m.ax, m.ay, m.bx, m.by, reach);
+    let asked = is_chord(m);
+    let valid = tool::is_tool(table);
+    let n = ask::refusal(mesh, h, starts, members, marks, stamp, p, asked, valid);
+    if n != 0 {
+        return refused(n, stamp);
+    }
+    if blocked_at_once(floor, m) {
+        return blocked(stamp);
+    }
+    let next = walk::next_stamp(marks, stamp);
+    let v = chase_tool(
+        mesh,
+        starts,
+        members,
+        marks,
+        next,
+        columns,
+        p,
+        m,
+        low,
+        table,
+    );
+    Ruling {
+        refusal: 0,
+        finding: finding_of(v.clear),
+        count: v.count,
+        stamp: next,
+    }
+}
+
+// A refusal: no verdict, and the stamp as handed.
+fn refused(k: u32, stamp: u32) -> Ruling
+    ensures { λ a. ⌜ a ≡ refusedChord k stamp ⌝ }
+{
+    Ruling {
+        refusal: k,
+        finding: Finding::Neither,
+        count: 0,
+        stamp,
+    }
+}
+
+// Blocked before any walk.
+fn blocked(stamp: u32) -> Ruling
+    ensures { λ a. ⌜ a ≡ blockedEarly stamp ⌝ }
+{
+    Ruling {
+        refusal: 0,
+        finding: Finding::Blocked,
+        count: 0,
+        stamp,
+    }
+}
+
+// The verdict of a walk.
+fn finding_of(clear: bool) -> Finding
+    ensures { λ f. ⌜ f ≡ cond clear Finding.Clear Finding.Blocked ⌝ }
+{
+    if clear {
+        Finding::Clear
+    } else {
+        Finding::Blocked
+    }
+}
+
+// Whether the three coordinates of an end are a point's.
+fn is_end(x: f64, y: f64, z: f64) -> bool
+    ensures { λ b. ⌜ b ≡ isEnd x y z ⌝ }
+{
+    if query::is_point(x) {
+        if query::is_point(y) {
+            query::is_point(z)
+        } else {
+            false
+        }
+    } else {
+        false
+    }
+}
+
+// Whether a chord's numbers are in their ranges.
+fn is_chord(m: Chord) -> bool
+    ensures { λ b. ⌜ b ≡ isChord m ⌝ }
+{
+    let bx = m.bx;
+    let by = m.by;
+    let bz = m.bz;
+    let lift = m.lift;
+    if is_end(m.ax, m.ay, m.az) {
+        if is_end(bx, by, bz) {
+            spans::is_coordinate(lift)
+        } else {
+            false
+        }
+    } else {
+        false
+    }
+}
+
+// The same with a radius.
+fn is_ride(m: Chord, r: f64) -> bool
+    ensures { λ b. ⌜ b ≡ isRide m r ⌝ }
+{
+    if is_chord(m) {
+        spans::is_radius(r)
+    } else {
+        false
+    }
+}
+
+// Whether a chord's lower end is under floor + lift.
+fn blocked_at_once(floor: f64, m: Chord) -> bool
+    ensures { λ b. ⌜ b ≡ blockedAtOnce floor m ⌝ }
+{
+    let high = floor + m.lift;
+    numbers::min(m.az, m.bz) < high
+}
+
+// Whether triangle i blocks the cutter.
+fn bull_blocks_at(mesh: &[f64], m: Chord, r: f64, rc: f64, i: usize) -> bool
+    requires { ⌜ 9 * i + 9 ≤ length (now mesh) ⌝ }
+    ensures { λ b. ⌜ b ≡ bullBlocksAt (now (mesh .entry)) m r rc i ⌝ }
+{
+    bull_gap::bull_blocks(plane::triangle_at(mesh, i), m, r, rc)
+}
+
+// Whether a triangle blocks the tool.
+fn tool_blocks(t: Triangle, m: Chord, low: f64, table: &[f64]) -> bool
+    ensures { λ b. ⌜ b ≡ toolBlocks t m low (now (table .entry)) ⌝ }
+{
+    let lift = m.lift;
+    let tip = numbers::min(m.az, m.bz);
+    if plane::top(t) - low + lift <= tip {
+        return false;
+    }
+    !tool::passes_all(t, m, table)
+}
+
+// Whether triangle i blocks the tool.
+fn tool_blocks_at(mesh: &[f64], m: Chord, low: f64, table: &[f64], i: usize) -> bool
+    requires { ⌜ 9 * i + 9 ≤ length (now mesh) ⌝ }
+    ensures { λ b. ⌜ b ≡ toolBlocksAt (now (mesh .entry)) m low (now (table .entry)) i ⌝ }
+{
+    tool_blocks(plane::triangle_at(mesh, i), m, low, table)
+}
+
+// Looks at triangle i, unless its mark is the stamp: does it block?
+fn strike_bull(
+    mesh: &[f64],
+    marks: &mut [u32],
+    stamp: u32,
+    m: Chord,
+    r: f64,
+    rc: f64,
+    v: Verdict,
+    i: usize,
+) -> Verdict
+    requires { ⌜ (length (now mesh) ≡ length (now marks) * 9) × (i < length (now marks)) × Room stamp (judged (now marks) v) × (v .clear ≡ true) ⌝ }
+    ensures { λ w. ⌜ judged (now (marks .exit)) w ≡ strike stamp (bullBlocksAt (now (mesh .entry)) m r rc) (judged (now (marks .entry)) v) i ⌝ }
+{
+    let count = v.count;
+    if !walk::fresh(marks, stamp, i) {
+        return v;
+    }
+    Verdict {
+        count: count + 1,
+        clear: !bull_blocks_at(mesh, m, r, rc, i),
+    }
+}
+
+// Three rings over the cells of a patch, left at the first triangle that blocks.
+fn chase_bull(
+    mesh: &[f64],
+    starts: &[u32],
+    members: &[u32],
+    marks: &mut [u32],
+    stamp: u32,
+    columns: usize,
+    p: Patch,
+    m: Chord,
+    r: f64,
+    rc: f64,
+) -> Verdict
+    requires { ⌜ (length (now mesh) ≡ length (now marks) * 9) × Walkable (now starts) (now members) (length (now marks)) columns (p .x0) (p .x1) (p .y0) (p .y1) × Room stamp (judged (now marks) (record { count = 0; clear = true })) ⌝ }
+    ensures { λ w. ⌜ judged (now (marks .exit)) w ≡ fold (strike stamp (bullBlocksAt (now (mesh .entry)) m r rc)) (judged (now (marks .entry)) (record { count = 0; clear = true })) (block (now (starts .entry)) (now (members .entry)) columns (p .x0) (p .x1) (p .y0) (p .y1)) ⌝ }
+{
+    let x0 = p.x0;
+    let x1 = p.x1;
+    let y0 = p.y0;
+    let y1 = p.y1;
+    let mut v = Verdict {
+        count: 0,
+        clear: true,
+    };
+    'rows: for y in y0..y1 {
+        for x in x0..x1 {
+            let part = walk::stretch(starts, members, y * columns + x);
+            for j in 0..part.len() {
+                v = strike_bull(mesh, marks, stamp, m, r, rc, v, part[j] as usize);
+                if !v.clear {
+                    break 'rows;
+                }
+            }
+        }
+    }
+    v
+}
+
+// Looks at triangle i, unless its mark is the stamp: does it block?
+fn strike_tool(
+    mesh: &[f64],
+    marks: &mut [u32],
+    stamp: u32,
+    m: Chord,
+    low: f64,
+    table: &[f64],
+    v: Verdict,
+    i: usize,
+) -> Verdict
+    requires { ⌜ (length (now mesh) ≡ length (now marks) * 9) × (i < length (now marks)) × Room stamp (judged (now marks) v) × (v .clear ≡ true) ⌝ }
+    ensures { λ w. ⌜ judged (now (marks .exit)) w ≡ strike stamp (toolBlocksAt (now (mesh .entry)) m low (now (table .entry))) (judged (now (marks .entry)) v) i ⌝ }
+{
+    let count = v.count;
+    if !walk::fresh(marks, stamp, i) {
+        return v;
+    }
+    Verdict {
+        count: count + 1,
+        clear: !tool_blocks_at(mesh, m, low, table, i),
+    }
+}
+
+// Three rings over the cells of a patch, left at the first triangle that blocks.
+fn chase_tool(
+    mesh: &[f64],
+    starts: &[u32],
+    members: &[u32],
+    marks: &mut [u32],
+    stamp: u32,
+    columns: usize,
+    p: Patch,
+    m: Chord,
+    low: f64,
+    table: &[f64],
+) -> Verdict
+    requires { ⌜ (length (now mesh) ≡ length (now marks) * 9) × Walkable (now starts) (now members) (length (now marks)) columns (p .x0) (p .x1) (p .y0) (p .y1) × Room stamp (judged (now marks) (record { count = 0; clear = true })) ⌝ }
+    ensures { λ w. ⌜ judged (now (marks .exit)) w ≡ fold (strike stamp (toolBlocksAt (now (mesh .entry)) m low (now (table .entry)))) (judged (now (marks .entry)) (record { count = 0; clear = true })) (block (now (starts .entry)) (now (members .entry)) columns (p .x0) (p .x1) (p .y0) (p .y1)) ⌝ }
+{
+    let x0 = p.x0;
+    let x1 = p.x1;
+    let y0 = p.y0;
+    let y1 = p.y1;
+    let mut v = Verdict {
+        count: 0,
+        clear: true,
+    };
+    'rows: for y in y0..y1 {
+        for x in x0..x1 {
+            let part = walk::stretch(starts, members, y * columns + x);
+            for j in 0..part.len() {
+                v = strike_tool(mesh, marks, stamp, m, low, table, v, part[j] as usize);
+                if !v.clear {
+                    break 'rows;
+                }
+            }
+        }
+    }
+    v
+}
