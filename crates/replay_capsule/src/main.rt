@@ -3,6 +3,7 @@
 // triangle; each number as the 16 hex digits of its bits, every NaN as 7ff8000000000000.
 // The letters: a ordinary, b small beside a large disk, c degenerate, d upright, e needles, f touching in exact points, g signed zeros, h the ends of the ranges,
 // i determinants near 1e-300, j no length or no radius, k large and far, l any bits.
+// The list was made by compare/lists/make, from camlib's own functions with document 01's max, min and hypot.
 // Written are four numbers: the lines, the heights among the contacts, and how many contacts and distances differ.
 ghost use Prim.Native.Nat.{_<_};
 use libc::STDIN_FILENO;
