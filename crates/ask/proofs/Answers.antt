@@ -29,11 +29,11 @@ use Rattle.ask.specs.declared.Finding.{Finding}
 use Rattle.ask.specs.declared.Finding.the-variants.{Clear, Blocked}
 
 -- ---- a question that was not refused
-record Passed (mesh index : Bool) : Type 0 where
+pub record Passed (mesh index : Bool) : Type 0 where
   pub mesh-fits : mesh ≡ true
   pub index-stands : index ≡ true
 
-passed : (mesh numbers tool index : Bool) → refusalOf mesh numbers tool index ≡ 0 → Passed mesh index
+pub passed : (mesh numbers tool index : Bool) → refusalOf mesh numbers tool index ≡ 0 → Passed mesh index
 unfolding refusalOf
 passed mesh numbers tool index e =
     let a = demanded mesh 1 _ (lit< tt) e in

@@ -5,6 +5,10 @@ ghost use Prim.Native.Nat.{_+_, _*_, _≤_, _<_};
 ghost use lib.ListN.{length};
 ghost use Rattle.walk.specs.Walk.{block, fold};
 ghost use Rattle.walk.specs.Steps.{judged, strike, Room, Walkable};
+ghost use Rattle.query.specs.Patch.{patchOf};
+ghost use Rattle.query.specs.Looked.{IndexOf};
+ghost use Rattle.ask.specs.Demand.{LookedTo};
+ghost use Rattle.tool.specs.Tool.{sectionsIn, widestOf, lowestOf};
 ghost use Rattle.ask.specs.Ask.{ended, refusedChord, blockedEarly};
 ghost use Rattle.chords.specs.Chords.{isEnd, isChord, blockedAtOnce, bullBlocksAt, isRide, bullChordOf, toolBlocks, toolBlocksAt, sectionsChordOf};
 use ask::Finding;
@@ -28,6 +32,7 @@ pub fn bull_chord_clear(
     rc: f64,
 ) -> Ruling
     ensures { λ a. ⌜ ended a (now (marks .exit)) ≡ bullChordOf (now (mesh .entry)) h (now (starts .entry)) (now (members .entry)) (now (marks .entry)) stamp m r rc ⌝ }
+    ensures { λ a. ⌜ (IndexOf (now (mesh .entry)) h (now (starts .entry)) (now (members .entry)) → a .refusal ≡ 0 → LookedTo (now (mesh .entry)) h (now (starts .entry)) (now (members .entry)) (now (marks .entry)) stamp (patchOf h (m .ax) (m .ay) (m .bx) (m .by) r) (blockedAtOnce (h .floor) m) (bullBlocksAt (now (mesh .entry)) m r rc) a) ⌝ }
 {
     let columns = h.columns;
     let floor = h.floor;
@@ -63,6 +68,7 @@ pub fn sections_chord_clear(
     table: &[f64],
 ) -> Ruling
     ensures { λ a. ⌜ ended a (now (marks .exit)) ≡ sectionsChordOf (now (mesh .entry)) h (now (starts .entry)) (now (members .entry)) (now (marks .entry)) stamp m (now (table .entry)) ⌝ }
+    ensures { λ a. ⌜ (IndexOf (now (mesh .entry)) h (now (starts .entry)) (now (members .entry)) → a .refusal ≡ 0 → LookedTo (now (mesh .entry)) h (now (starts .entry)) (now (members .entry)) (now (marks .entry)) stamp (patchOf h (m .ax) (m .ay) (m .bx) (m .by) (widestOf (now (table .entry)) (sectionsIn (now (table .entry))))) (blockedAtOnce (h .floor) m) (toolBlocksAt (now (mesh .entry)) m (lowestOf (now (table .entry)) (sectionsIn (now (table .entry)))) (now (table .entry))) a) ⌝ }
 {
     let columns = h.columns;
     let floor = h.floor;

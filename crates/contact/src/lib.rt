@@ -4,7 +4,11 @@ ghost use Prim.Native.Nat.{_+_, _*_, _≤_, _<_};
 ghost use lib.ListN.{length};
 ghost use Rattle.walk.specs.Walk.{block, fold};
 ghost use Rattle.walk.specs.Steps.{seen, look, Below, Room, Walkable};
+ghost use Rattle.query.specs.Patch.{patchOf};
+ghost use Rattle.query.specs.Looked.{IndexOf};
 ghost use Rattle.ask.specs.Ask.{ended};
+ghost use Rattle.ask.specs.Demand.{LookedAll};
+ghost use Rattle.tool.specs.Tool.{sectionsIn, widestOf};
 ghost use Rattle.contact.specs.Contact.{bullRaised, bullStep, isStand, maxBullOf, toolRaised, toolStep, isPlace, maxSectionsOf};
 use ask::Answer;
 use bull::Bull;
@@ -34,6 +38,7 @@ pub fn max_bull(
     rc: f64,
 ) -> Answer
     ensures { λ a. ⌜ ended a (now (marks .exit)) ≡ maxBullOf (now (mesh .entry)) h (now (starts .entry)) (now (members .entry)) (now (marks .entry)) stamp (record { x = px; y = py; r = r; rc = rc }) ⌝ }
+    ensures { λ a. ⌜ (IndexOf (now (mesh .entry)) h (now (starts .entry)) (now (members .entry)) → a .refusal ≡ 0 → LookedAll (now (mesh .entry)) h (now (starts .entry)) (now (members .entry)) (now (marks .entry)) stamp (patchOf h px py px py r) (a .count)) ⌝ }
 {
     let k = Bull {
         x: px,
@@ -81,6 +86,7 @@ pub fn max_sections(
     table: &[f64],
 ) -> Answer
     ensures { λ a. ⌜ ended a (now (marks .exit)) ≡ maxSectionsOf (now (mesh .entry)) h (now (starts .entry)) (now (members .entry)) (now (marks .entry)) stamp px py (now (table .entry)) ⌝ }
+    ensures { λ a. ⌜ (IndexOf (now (mesh .entry)) h (now (starts .entry)) (now (members .entry)) → a .refusal ≡ 0 → LookedAll (now (mesh .entry)) h (now (starts .entry)) (now (members .entry)) (now (marks .entry)) stamp (patchOf h px py px py (widestOf (now (table .entry)) (sectionsIn (now (table .entry))))) (a .count)) ⌝ }
 {
     let columns = h.columns;
     let first = Seen {

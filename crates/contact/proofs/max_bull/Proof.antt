@@ -2,7 +2,7 @@ use borrow.Author.Needs.{needs}
 use lib.Ieee.{Float}
 use Rattle.numbers.specs.Reals.{f0}
 use Rattle.ask.proofs.Answers.{ready, height-refused, height-answered}
-use Rattle.contact.proofs.Asking.{inside, bull-is}
+use Rattle.contact.proofs.Asking.{inside, bull-answers}
 use Rattle.contact.proofs.max_bull.Statement.{statement}
 use Rattle.contact.proofs.max_bull.Tie as tie
 
@@ -12,7 +12,7 @@ refusal-requires c κs = inside _ _ _ _ _ _ _ (c .before .before .before .patch-
 returns : tie.Need-returns
 returns c =
     let d = c .before .before .before in
-    bull-is _ _ _ _ _ _ _ _ _ _ _ (d .before .before .patch-of .ensures) (d .before .is-stand .ensures) (d .is-corner .ensures)
+    bull-answers _ _ _ _ _ _ _ _ _ _ _ _ (d .before .before .patch-of .ensures) (d .before .is-stand .ensures) (d .is-corner .ensures)
     (height-refused _ _ _ _ _ _ _ _ _ _ (c .before .refusal .ensures) _ (c .if1 .taken))
 
 visit-bull-requires : tie.Need-visit-bull-requires
@@ -27,7 +27,7 @@ returns-2 c =
     let n = c .before .before .before .before .before .before .next-stamp in
     let e = c .before .before .before .before .before .before .before .before in
     let d = e .before .before .before in
-    bull-is _ _ _ _ _ _ _ _ _ _ _ (d .before .before .patch-of .ensures) (d .before .is-stand .ensures) (d .is-corner .ensures)
+    bull-answers _ _ _ _ _ _ _ _ _ _ _ _ (d .before .before .patch-of .ensures) (d .before .is-stand .ensures) (d .is-corner .ensures)
     (height-answered _ _ _ _ _ _ _ _ _ _ (e .before .refusal .ensures) _ _ _ _ _ (e .if1 .left) (n .ensures .0) (n .ensures .1) (c .before .before .visit-bull .ensures))
 
 pub max-bull-spec : {M : Type 1} → statement M

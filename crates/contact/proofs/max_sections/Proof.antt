@@ -2,7 +2,7 @@ use borrow.Author.Needs.{needs}
 use lib.Ieee.{Float}
 use Rattle.numbers.specs.Reals.{f0}
 use Rattle.ask.proofs.Answers.{ready, height-refused, height-answered}
-use Rattle.contact.proofs.Asking.{inside, tool-is}
+use Rattle.contact.proofs.Asking.{inside, tool-answers}
 use Rattle.contact.proofs.max_sections.Statement.{statement}
 use Rattle.contact.proofs.max_sections.Tie as tie
 
@@ -12,7 +12,7 @@ refusal-requires c κs = inside _ _ _ _ _ _ _ (c .before .before .before .patch-
 returns : tie.Need-returns
 returns c =
     let d = c .before .before .before in
-    tool-is _ _ _ _ _ _ _ _ _ _ _ _ _ _ _ (d .before .before .before .before .widest .ensures) (d .before .before .before .lowest .ensures)
+    tool-answers _ _ _ _ _ _ _ _ _ _ _ _ _ _ _ _ (d .before .before .before .before .widest .ensures) (d .before .before .before .lowest .ensures)
     (d .before .before .patch-of .ensures) (d .before .is-place .ensures) (d .is-tool .ensures)
     (height-refused _ _ _ _ _ _ _ _ _ _ (c .before .refusal .ensures) _ (c .if1 .taken))
 
@@ -28,7 +28,7 @@ returns-2 c =
     let n = c .before .before .before .before .before .before .next-stamp in
     let e = c .before .before .before .before .before .before .before .before in
     let d = e .before .before .before in
-    tool-is _ _ _ _ _ _ _ _ _ _ _ _ _ _ _ (d .before .before .before .before .widest .ensures) (d .before .before .before .lowest .ensures)
+    tool-answers _ _ _ _ _ _ _ _ _ _ _ _ _ _ _ _ (d .before .before .before .before .widest .ensures) (d .before .before .before .lowest .ensures)
     (d .before .before .patch-of .ensures) (d .before .is-place .ensures) (d .is-tool .ensures)
     (height-answered _ _ _ _ _ _ _ _ _ _ (e .before .refusal .ensures) _ _ _ _ _ (e .if1 .left) (n .ensures .0) (n .ensures .1) (c .before .before .visit-tool .ensures))
 
