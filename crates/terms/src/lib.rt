@@ -29,7 +29,11 @@ pub fn are_terms(p: Parameters, r: f64, floor: f64) -> bool
     ensures { λ b. ⌜ b ≡ areTerms p r floor ⌝ }
 {
     if are_numbers(p) {
-        if are_steps(p, r) { are_heights(p, floor) } else { false }
+        if are_steps(p, r) {
+            are_heights(p, floor)
+        } else {
+            false
+        }
     } else {
         false
     }
@@ -71,7 +75,8 @@ fn are_steps(p: Parameters, r: f64) -> bool
 {
     let tolerance = p.tolerance;
     let stepover = p.stepover;
-    FINEST <= tolerance && (tolerance <= COARSEST && (16.0 * tolerance < stepover && stepover <= 2.0 * r))
+    FINEST <= tolerance
+        && (tolerance <= COARSEST && (16.0 * tolerance < stepover && stepover <= 2.0 * r))
 }
 
 // Whether stock to leave, level tolerance and stock are in their ranges.
