@@ -11,7 +11,7 @@ returns c =
     let b = c .before .before .before .before .before .before in
     let a = b .before .before .before .before .before .args in
     ap tipLeftBy
-    (c .before .before .before .before .max-bull .ensures
+    (c .before .before .before .before .max-bull .ensures .0
     ∙ ap (λ h. maxBullOf (a .mesh .now) h (a .starts .now) (a .members .now) (a .marks .now) (a .stamp) (record { x = a .px; y = a .py; r = a .r; rc = a .rc })) (b .header-from .ensures))
 
 pub mandrikelo-max-bull-spec : {M : Type 1} → statement M

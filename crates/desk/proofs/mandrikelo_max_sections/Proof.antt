@@ -11,7 +11,7 @@ returns c =
     let b = c .before .before .before .before .before .before in
     let a = b .before .before .before .before .before .before .args in
     ap tipLeftBy
-    (c .before .before .before .before .max-sections .ensures
+    (c .before .before .before .before .max-sections .ensures .0
     ∙ ap (λ h. maxSectionsOf (a .mesh .now) h (a .starts .now) (a .members .now) (a .marks .now) (a .stamp) (a .px) (a .py) (a .sections .now)) (b .header-from .ensures))
 
 pub mandrikelo-max-sections-spec : {M : Type 1} → statement M
