@@ -57,6 +57,7 @@ unfoldable pub sums : (ℕ → ℕ) → ℕ → ℕ
 sums f zero = 0
 sums f (suc k) = sums f k + f k
 
+-- Entry c of a table.
 abbrev pub entry : List ℕ → ℕ → ℕ
 entry s c = getD s c 0
 

@@ -60,6 +60,7 @@ pub record Outcome : Type 0 where
   pub starts : List ℕ
   pub members : List ℕ
 
+-- The three together.
 abbrev pub outcome : Built → List ℕ → List ℕ → Outcome
 outcome b s m = record { built = b; starts = s; members = m }
 
@@ -71,6 +72,7 @@ refusedBy k =
       header = record { n = 0; «origin_x» = f0; «origin_y» = f0; cell = f0; columns = 0; rows = 0; floor = f0; eps = f0; r = f0 };
     }
 
+-- The answer of an accepted build.
 unfoldable pub acceptedWith : Header → Built
 acceptedWith h = record { refusal = 0; header = h }
 

@@ -39,6 +39,7 @@ cellsOf mesh g i =
     let y = stretchOf (g .y) (g .size) (g .rows) (b .«low_y») (b .«high_y») in
     record { x0 = x .first; x1 = x .last; y0 = y .first; y1 = y .last }
 
+-- Which triangle covers which cell of a grid.
 abbrev pub coverOf : List Float → Grid → Cover
 coverOf mesh g i c = covers (g .columns) (cellsOf mesh g i) c
 

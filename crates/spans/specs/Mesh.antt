@@ -32,7 +32,7 @@ firstBad mesh = badFrom 0 mesh
 unfoldable pub boxOf : List Float → ℕ → Bounds
 boxOf mesh i = boundsOf (triangleOf mesh i)
 
--- lo and hi: the x and y extremes of the first n triangles. Of none, lo is plus infinity and hi minus infinity.
+-- Extremes with those of one box more: first the box, as its corners give it, then the running value.
 unfoldable pub widened : Extent → Bounds → Extent
 widened e b =
     record {
@@ -42,14 +42,16 @@ widened e b =
       top = maxOf (e .top) (b .«high_y»);
     }
 
+-- lo and hi: the x and y extremes of the first n triangles. Of none, lo is plus infinity and hi minus infinity.
 unfoldable pub extentOf : List Float → ℕ → Extent
 extentOf mesh zero = record { left = inf false; bottom = inf false; right = inf true; top = inf true }
 extentOf mesh (suc n) = widened (extentOf mesh n) (boxOf mesh n)
 
--- The largest magnitude of a triangle's numbers, corner after corner.
+-- The largest of m and the magnitudes of a corner's x, y and z.
 unfoldable pub farther : Float → Float → Float → Float → Float
 farther m x y z = maxOf (maxOf (maxOf m (absOf x)) (absOf y)) (absOf z)
 
+-- The largest magnitude of a triangle's numbers, from 0 on and corner after corner.
 unfoldable pub farthestOf : Triangle → Float
 farthestOf t = farther (farther (farther f0 (t .ax) (t .ay) (t .az)) (t .bx) (t .by) (t .bz)) (t .cx) (t .cy) (t .cz)
 
