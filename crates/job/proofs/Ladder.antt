@@ -1,7 +1,7 @@
 -- Laws of a ladder of refusals: which rung answers, and that a job gets 0 exactly where it is sound.
 use mathlib.Core.Bool.{Bool, true, false, not, cond}
 use mathlib.Core.List.{List}
-use mathlib.Core.Path.{_≡_, refl, sym, _∙_}
+use mathlib.Core.Path.{_≡_, refl}
 use Prim.Native.Nat.{ℕ, zero, suc, _≤_, _<_}
 use native.Mathlib.Nat.{zero-add}
 use native.Mathlib.Omega.{arith}
@@ -9,8 +9,8 @@ use borrow.Author.Tests.{ltb-false, eqb-true, eqb-false, lt-ltb, le-ltb, eq-eqb,
 use lib.Dec.{eqb, ltb, lit<}
 use lib.ListN.{length}
 use Rattle.numbers.proofs.Branches.{taken, left, bool-called}
-use Rattle.job.specs.Layout.{value, triangles, questions, numbers, bytesOf, wide}
-use Rattle.job.specs.Reader.{numberOf, finite, firstBad, somewhere, refuse, tooMany, refusalOfNumbers, refusalOfCounts, refusalOf, Sound, SoundExactly}
+use Rattle.job.specs.Layout.{value, triangles}
+use Rattle.job.specs.Reader.{refuse, tooMany, refusalOfNumbers, refusalOfCounts, refusalOf, Sound}
 use Rattle.job.proofs.Rows.{passed, passes}
 
 module _ (b : Bool) (k next : ℕ) where

@@ -10,7 +10,7 @@ use lib.Ieee.{Float}
 use lib.ListN.{length, drop}
 use Rattle.numbers.proofs.Branches.{taken, left, either}
 use Rattle.job.specs.Layout.{value, triangles, questions, numbers, meshFrom, questionsFrom, bytesOf, wide}
-use Rattle.job.specs.Reader.{numberOf, numbersOf, finite, refusalOf, Outcome, ended, refusedBy, acceptedOf, readOf, Sound, SoundExactly}
+use Rattle.job.specs.Reader.{numberOf, numbersOf, finite, refusalOf, Outcome, ended, refusedBy, acceptedOf, readOf, SoundExactly}
 use Rattle.job.proofs.Ladder.{sound, accepted}
 
 module _ (bytes : List ℕ) (mesh qs : List Float) where

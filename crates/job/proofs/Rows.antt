@@ -1,13 +1,13 @@
 -- Laws of a row of numbers: a search that goes on, stops or ends, and a table filled one entry after the other.
 use mathlib.Core.Bool.{Bool, true, false, cond}
-use mathlib.Core.List.{List, [], _∷_, _++_, append-assoc}
-use mathlib.Core.Path.{_≡_, refl, ap, sym, _∙_}
+use mathlib.Core.List.{List, _∷_, _++_}
+use mathlib.Core.Path.{_≡_, refl, ap}
 use Prim.Native.Nat.{ℕ, zero, suc, _+_, _-_, _≤_, _<_}
-use native.Mathlib.Nat.{add-assoc, add-comm, add-zero}
+use native.Mathlib.Nat.{add-zero}
 use native.Mathlib.Numerals.{add-one}
 use native.Mathlib.Omega.{arith}
 use lib.Ieee.{Float, nan}
-use lib.ListN.{length, getD, drop, set}
+use lib.ListN.{length, drop, set}
 use lib.Seq.{drop-cons, set-at}
 use Rattle.job.specs.Reader.{numberOf, numbersOf, finite, firstBad, somewhere}
 use Rattle.job.specs.declared.Place.{Place}

@@ -6,7 +6,7 @@ use native.Mathlib.Omega.{arith}
 use borrow.Rule.Slice.PartMut.{midOf, putMid, same-len-mid}
 use lib.ListN.{length, drop, length-take, length-drop}
 use Rattle.list.specs.declared.Input.{Input}
-use Rattle.list.specs.declared.Input.the-variants.{Failed, Length}
+use Rattle.list.specs.declared.Input.the-variants.{Length}
 use Rattle.list.specs.Input.{Within}
 
 pub within-is : (r : Input) (n room : ℕ) → r ≡ Length n → Within r room → n ≤ room

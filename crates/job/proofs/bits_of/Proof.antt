@@ -1,4 +1,3 @@
-use native.Mathlib.Omega.{arith}
 use borrow.Author.Needs.{needs}
 use Rattle.job.proofs.bits_of.Statement.{statement}
 use Rattle.job.proofs.bits_of.Tie as tie

@@ -1,6 +1,5 @@
 use native.Mathlib.Omega.{arith}
 use borrow.Author.Needs.{needs}
-use denote.Ref.{now}
 use mathlib.Core.Path.{sym}
 use Rattle.job.proofs.Bytes.{joined, value-byte}
 use Rattle.job.proofs.mark_of.Statement.{statement}

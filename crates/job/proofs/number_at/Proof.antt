@@ -1,4 +1,3 @@
-use native.Mathlib.Omega.{arith}
 use borrow.Author.Needs.{needs}
 use Rattle.job.specs.Reader.{numberOf}
 use Rattle.job.proofs.Finite.{finite-bits}

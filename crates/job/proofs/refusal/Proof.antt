@@ -1,12 +1,11 @@
-use mathlib.Core.Path.{sym, ap, _∙_, _≡_, refl}
+use mathlib.Core.Path.{sym}
 use borrow.Author.Needs.{needs}
 use native.Mathlib.Omega.{arith}
 use borrow.Author.Tests.{le-ltb}
 use denote.Ref.{now}
-use lib.Dec.{eqb, ltb}
-use Rattle.job.specs.Reader.{refusalOf, refusalOfCounts}
+use Rattle.job.specs.Reader.{refusalOf}
 use Rattle.job.proofs.Bytes.{value-byte}
-use Rattle.job.proofs.Ladder.{ladder, refuse-next, refuse-here, differs, agrees}
+use Rattle.job.proofs.Ladder.{ladder, refuse-next, differs, agrees}
 use Rattle.job.proofs.refusal.Statement.{statement}
 use Rattle.job.proofs.refusal.Tie as tie
 

@@ -1,6 +1,3 @@
-use mathlib.Core.Path.{_≡_, refl, subst, sym}
-use mathlib.Core.Bool.{Bool, false, not}
-use lib.Dec.{T}
 use lib.Ieee.{toBits}
 use lib.Ieee.Compare.{differs-from-itself}
 use borrow.Author.Needs.{needs}
