@@ -9,27 +9,46 @@ use oracle_doc::flat::door as doc;
 use oracle_doc::numbers::Numbers;
 use oracle_shipped::flat::door as shipped;
 use std::hint::black_box;
-use std::time::Instant;
+
+#[repr(C)]
+struct Timespec {
+    seconds: i64,
+    nanoseconds: i64,
+}
+
+unsafe extern "C" {
+    fn clock_gettime(clock: i32, time: *mut Timespec) -> i32;
+}
+
+/// Nanoseconds that this thread has had of a processor: what else runs on the machine does not count.
+fn now() -> f64 {
+    let mut time = Timespec { seconds: 0, nanoseconds: 0 };
+    unsafe { clock_gettime(3, &mut time) };
+    time.seconds as f64 * 1e9 + time.nanoseconds as f64
+}
 
 fn used<T>(answer: T) {
     black_box(answer);
 }
 
-/// One row: each closure makes `calls` calls.
+/// One row: each closure makes `calls` calls. Rounds go on until `rounds` are done and a quarter of a second is spent.
 fn row(name: &str, doors: &[&str], rounds: usize, calls: usize, each: [&mut dyn FnMut(); 3]) {
     if doors.iter().any(|d| MISSING.contains(d)) {
         return;
     }
     let mut times = [vec![], vec![], vec![]];
-    for round in 0..rounds + 1 {
+    let first = now();
+    let mut round = 0;
+    while round <= rounds || now() - first < 2.5e8 {
         for k in 0..3 {
-            let begun = Instant::now();
+            let begun = now();
             each[k]();
             // The first round warms up.
             if round > 0 {
-                times[k].push(begun.elapsed().as_nanos() as f64 / calls as f64);
+                times[k].push((now() - begun) / calls as f64);
             }
         }
+        round += 1;
     }
     let [ours, as_shipped, doc] = times.map(|mut t| {
         t.sort_by(f64::total_cmp);
@@ -93,7 +112,7 @@ macro_rules! ask {
 }
 
 pub fn run() {
-    println!("Medians of interleaved rounds. Lent tables are not cleared before a call; marks and stamp carry on from call to call.");
+    println!("Medians of interleaved rounds, by the thread's processor clock. Lent tables are not cleared before a call; marks and stamp carry on from call to call.");
     println!("The height questions' results go to arrays on the stack. camlib's own allocation is in its times, its freeing is not.");
     println!();
     println!("| what | ours, ns | camlib as shipped, ns | camlib with document 01's numbers, ns | ours / shipped | ours / document 01's |");
