@@ -240,7 +240,7 @@ fn strike_bull(
         return v;
     }
     Verdict {
-        count: count + 1,
+        count: count + 1, // a blocker too
         clear: !bull_blocks_at(mesh, m, r, rc, i),
     }
 }
@@ -275,7 +275,7 @@ fn chase_bull(
             for j in 0..part.len() {
                 v = strike_bull(mesh, marks, stamp, m, r, rc, v, part[j] as usize);
                 if !v.clear {
-                    break 'rows;
+                    break 'rows; // out of all three rings
                 }
             }
         }
