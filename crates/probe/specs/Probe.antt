@@ -1,0 +1,27 @@
+-- Document 01, "Levels and runs": heights along a row. A sample is on the level where the tool rests there; a run is kept where it is clear.
+use mathlib.Core.Bool.{Bool}
+use mathlib.Core.List.{List}
+use Prim.Native.Nat.{ℕ}
+use lib.Ieee.{Float, le}
+use lib.ListN.{replicate}
+use Rattle.numbers.specs.Reals.{_⊕_, _⊖_, absOf}
+use Rattle.grid.specs.declared.Header.{Header}
+use Rattle.height.specs.Sweep.{sweptOf}
+use Rattle.runs.specs.declared.Run.{Run}
+use Rattle.rows.specs.declared.Lane.{Lane}
+use Rattle.rows.specs.Lanes.{between}
+use Rattle.probe.specs.declared.Aim.{Aim}
+
+-- The swept-disk height under a run, at the header's radius, asked with wiped marks.
+unfoldable pub heightUnder : List Float → Header → List ℕ → List ℕ → Run → Float
+heightUnder mesh h starts members r = sweptOf mesh h starts members (replicate (h .n) 0) 0 (r .ax) (r .ay) (r .bx) (r .by) (h .r) .value
+
+-- ---- over any height under a run
+module _ (under : Run → Float) where
+  -- Whether the tool rests on the level at sample k: its height there is within level tolerance.
+  unfoldable pub onLevel : Aim → Lane → ℕ → Bool
+  onLevel a l k = le (absOf (under (between l k k) ⊖ a .level)) (a .«level_tolerance»)
+
+  -- Whether a run is clear: no part point under it stands above its z + tolerance.
+  unfoldable pub clear : Aim → Run → Bool
+  clear a r = le (under r) (r .z ⊕ a .tolerance)
