@@ -1,0 +1,10 @@
+use Rattle.search.specs.Search.{aimOf}
+use Rattle.search.proofs.aim_of.Statement.{statement}
+use Rattle.search.proofs.aim_of.Tie as tie
+
+returns : tie.Need-returns
+unfolding aimOf
+returns c = cc
+
+pub aim-of-spec : {M : Type 1} → statement M
+aim-of-spec = tie.close (tie.spec (λ c κs. tt) returns)

@@ -1,0 +1,10 @@
+use Rattle.search.specs.Search.{laneOf}
+use Rattle.search.proofs.lane_of.Statement.{statement}
+use Rattle.search.proofs.lane_of.Tie as tie
+
+returns : tie.Need-returns
+unfolding laneOf
+returns c = cc
+
+pub lane-of-spec : {M : Type 1} → statement M
+lane-of-spec = tie.close (tie.spec (λ c κs. tt) (λ c κs. tt) (λ c κs. tt) (λ c κs. tt) (λ c κs. tt) returns)
