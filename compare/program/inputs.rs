@@ -221,7 +221,7 @@ fn shuffle(rng: &mut Rng, m: &mut [f64]) {
 fn shape(rng: &mut Rng, most: usize) -> Vec<f64> {
     let f = family(rng);
     let some = |rng: &mut Rng| 1 + rng.below(most as u64) as usize;
-    match rng.below(12) {
+    match rng.below(13) {
         0 => triangle(rng, f).to_vec(),
         1 | 2 => soup(rng, f, most),
         3 | 4 | 5 => plate(rng, most),
@@ -243,8 +243,27 @@ fn shape(rng: &mut Rng, most: usize) -> Vec<f64> {
             m.chunks_exact_mut(9).step_by(3).for_each(|t| t.iter_mut().for_each(|v| *v *= 0.01));
             m
         }
+        // Corners on the unit circle, inside or outside by a rounding, beside a face at their height, with a higher end out of reach.
+        11 => rim(rng, most),
         _ => soup(rng, Family::Ordinary, most),
     }
+}
+
+fn rim(rng: &mut Rng, most: usize) -> Vec<f64> {
+    let top = rng.pick(&[0.3, 1.2345, 0.7, 1.]);
+    let mut out = vec![];
+    for _ in 0..1 + rng.below(most as u64) {
+        let a = rng.between(0., 6.283);
+        let b = rng.between(0., 6.283);
+        let near = rng.between(0., 0.9);
+        let out_by = 1. + f64::EPSILON * rng.below(3) as f64;
+        out.extend([near * b.cos(), near * b.sin(), rng.between(-2., top), out_by * a.cos(), out_by * a.sin(), top]);
+        let c = a + rng.between(-0.5, 0.5);
+        out.extend([3. * c.cos(), 3. * c.sin(), top + rng.between(0., 0.2)]);
+    }
+    let face = [-0.5, -0.5, top, 0.5, -0.5, top, 0., 0.5, top];
+    if rng.one_in(4) { out.extend(face) } else { out.splice(0..0, face).for_each(drop) }
+    out
 }
 
 fn soup(rng: &mut Rng, f: Family, most: usize) -> Vec<f64> {

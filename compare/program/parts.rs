@@ -648,6 +648,9 @@ fn chord_ends(rng: &mut Rng, mesh: &[f64], measures: &[f64; 6], r: f64) -> ([f64
 
 fn make_height(rng: &mut Rng, case: u64, damage: bool) -> Case {
     make_questions("height", rng, case, damage, vec![], 5, &|rng, mesh, measures, _| {
+        if rng.one_in(16) {
+            return vec![0., 0., 0., 0., 1.];
+        }
         let r = asked_radius(rng, measures);
         let mut q = lines(rng, mesh, measures, r).to_vec();
         q.push(r);
@@ -657,6 +660,10 @@ fn make_height(rng: &mut Rng, case: u64, damage: bool) -> Case {
 
 fn make_max_bull(rng: &mut Rng, case: u64, damage: bool) -> Case {
     make_questions("max_bull", rng, case, damage, vec![], 4, &|rng, mesh, measures, _| {
+        // Over the origin with radius 1, for corners on the unit circle.
+        if rng.one_in(8) {
+            return vec![0., 0., 1., inputs::corner(rng, 1.)];
+        }
         let r = asked_radius(rng, measures);
         let p = inputs::point(rng, mesh, measures, r);
         vec![p[0], p[1], r, inputs::corner(rng, r)]
