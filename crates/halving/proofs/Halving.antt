@@ -101,6 +101,7 @@ module _ (clear : Run → Bool) (least : Float) where
     where
       m : suc k - 1 ≡ k
       m = omega arith
+
       by : (b c : Bool) → cond b false (cond (eqb (suc k) 0) false (not c)) ≡ true → cond b (piece r true ∷ []) (cond c (piece r false ∷ []) (piecesOf clear least k (firstHalf r) ++ piecesOf clear least k (secondHalf r))) ≡ piecesOf clear least k (firstHalf r) ++ piecesOf clear least k (secondHalf r)
       by true c p = clash (sym p)
       by false true p = clash (sym (rw (ne-eqb (suc k) 0 (λ q. omega arith)) at p))
@@ -168,11 +169,11 @@ module _ (clear : Run → Bool) (least z : Float) (bx by : List Float) (left : L
               ⊎-elim
               (λ (q : eqb i top ≡ true). let w = eqb-true i top q in rw (w, left-top) (omega (arith, some-left, deep-here)))
               (λ (q : eqb i top ≡ false).
-                let w = eqb-false i top q in
-                ⊎-elim
-                (λ (u : eqb i t ≡ true). let v = eqb-true i t u in rw (v, left-t) (omega (arith, some-left, deep-here)))
-                (λ (u : eqb i t ≡ false). let v = eqb-false i t u in rw (left-else i (omega arith)) (s .deep i (omega arith)))
-                (on-or-off (eqb i t)))
+              let w = eqb-false i top q in
+              ⊎-elim
+              (λ (u : eqb i t ≡ true). let v = eqb-true i t u in rw (v, left-t) (omega (arith, some-left, deep-here)))
+              (λ (u : eqb i t ≡ false). let v = eqb-false i t u in rw (left-else i (omega arith)) (s .deep i (omega arith)))
+              (on-or-off (eqb i t)))
               (on-or-off (eqb i top));
         }
 
@@ -181,9 +182,17 @@ module _ (clear : Run → Bool) (least z : Float) (bx by : List Float) (left : L
     split-stack =
         let u : top + 1 ≡ suc (suc t) = omega arith in
         let v : suc t ≡ top = omega arith in
-        rw (u, v, getD-set-same bx top (firstHalf r .bx) nan (omega (arith, split-fits, s .xs)), getD-set-same by top (firstHalf r .by) nan (omega (arith, split-fits, s .ys)), left-top,
-        getD-set-other bx top t (firstHalf r .bx) nan (λ q. omega arith), getD-set-other by top t (firstHalf r .by) nan (λ q. omega arith), left-t,
-        stack-same bx by bx′ by′ left left′ t (λ i l. getD-set-other bx top i (firstHalf r .bx) nan (λ q. omega arith)) (λ i l. getD-set-other by top i (firstHalf r .by) nan (λ q. omega arith)) left-else)
+        rw (
+          u,
+          v,
+          getD-set-same bx top (firstHalf r .bx) nan (omega (arith, split-fits, s .xs)),
+          getD-set-same by top (firstHalf r .by) nan (omega (arith, split-fits, s .ys)),
+          left-top,
+          getD-set-other bx top t (firstHalf r .bx) nan (λ q. omega arith),
+          getD-set-other by top t (firstHalf r .by) nan (λ q. omega arith),
+          left-t,
+          stack-same bx by bx′ by′ left left′ t (λ i l. getD-set-other bx top i (firstHalf r .bx) nan (λ q. omega arith)) (λ i l. getD-set-other by top i (firstHalf r .by) nan (λ q. omega arith)) left-else,
+        )
 
     pub stack-splits : (w all : Work) → takenAll w (waiting clear least z ax ay (stackOf bx by left top)) ≡ all → takenAll w (waiting clear least z ax ay (stackOf bx′ by′ left′ (top + 1))) ≡ all
     unfolding stackOf waiting

@@ -68,8 +68,5 @@ pub fn halve(
         ay = piece.by;
         top = t;
     }
-    Stand {
-        tally,
-        stamp,
-    }
+    Stand { tally, stamp }
 }

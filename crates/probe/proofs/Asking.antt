@@ -45,15 +45,15 @@ alike-set s m t k i a =
       same = λ j.
           ⊎-elim
           (λ (e : eqb j i ≡ true).
-            let q : j ≡ i = eqb-true j i e in
-            ⊎-elim
-            (λ (l : ltb i (length m) ≡ true).
-              let h : i < length m = ltb-true i (length m) l in
-              rw (q, getD-set-same m i s 0 h, getD-set-same k i t 0 (omega (arith, a .size))) (eq-eqb s s refl ∙ sym (eq-eqb t t refl)))
-            (λ (l : ltb i (length m) ≡ false).
-              let h : length m ≤ i = ltb-false i (length m) l in
-              rw (set-out m i s h, set-out k i t (omega (arith, a .size))) (a .same j))
-            (on-or-off _))
+          let q : j ≡ i = eqb-true j i e in
+          ⊎-elim
+          (λ (l : ltb i (length m) ≡ true).
+          let h : i < length m = ltb-true i (length m) l in
+          rw (q, getD-set-same m i s 0 h, getD-set-same k i t 0 (omega (arith, a .size))) (eq-eqb s s refl ∙ sym (eq-eqb t t refl)))
+          (λ (l : ltb i (length m) ≡ false).
+          let h : length m ≤ i = ltb-false i (length m) l in
+          rw (set-out m i s h, set-out k i t (omega (arith, a .size))) (a .same j))
+          (on-or-off _))
           (λ (e : eqb j i ≡ false). rw (getD-set-other m i j s 0 (eqb-false j i e), getD-set-other k i j t 0 (eqb-false j i e)) (a .same j))
           (on-or-off (eqb j i));
     }
@@ -89,15 +89,15 @@ marked-below s n [] m l b = record { size = l; below = b }
 marked-below s n (i ∷ is) m l b =
     marked-below s n is (set m i s) (length-set m i s ∙ l)
     (λ j.
-      ⊎-elim
-      (λ (e : eqb j i ≡ true).
-        let q : j ≡ i = eqb-true j i e in
-        ⊎-elim
-        (λ (h : ltb i (length m) ≡ true). rw (q, getD-set-same m i s 0 (ltb-true i (length m) h)) (omega arith))
-        (λ (h : ltb i (length m) ≡ false). rw (set-out m i s (ltb-false i (length m) h)) (b j))
-        (on-or-off _))
-      (λ (e : eqb j i ≡ false). rw (getD-set-other m i j s 0 (eqb-false j i e)) (b j))
-      (on-or-off (eqb j i)))
+    ⊎-elim
+    (λ (e : eqb j i ≡ true).
+    let q : j ≡ i = eqb-true j i e in
+    ⊎-elim
+    (λ (h : ltb i (length m) ≡ true). rw (q, getD-set-same m i s 0 (ltb-true i (length m) h)) (omega arith))
+    (λ (h : ltb i (length m) ≡ false). rw (set-out m i s (ltb-false i (length m) h)) (b j))
+    (on-or-off _))
+    (λ (e : eqb j i ≡ false). rw (getD-set-other m i j s 0 (eqb-false j i e)) (b j))
+    (on-or-off (eqb j i)))
 
 ready-below : (n stamp : ℕ) (marks : List ℕ) → Marked n stamp marks → (length (readyMarks marks stamp) ≡ n) × ((i : ℕ) → getD (readyMarks marks stamp) i 0 ≤ nextStamp stamp)
 unfolding nextStamp readyMarks

@@ -25,4 +25,3 @@ pub record Marked (n stamp : ℕ) (marks : List ℕ) : Type 0 where
 -- Whether a piece with `left` halvings left is halved: it is not clear, and not as short as `least`.
 unfoldable pub splitsOf : Bool → Float → ℕ → Run → Bool
 splitsOf clear least left r = cond clear false (cond (eqb left 0) false (not (le (lengthOf r) least)))
-

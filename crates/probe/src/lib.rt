@@ -34,11 +34,31 @@ pub struct Judged {
 }
 
 // The height under a run.
-fn ask(mesh: &[f64], h: Header, starts: &[u32], members: &[u32], marks: &mut [u32], stamp: u32, r: Run) -> Asked
+fn ask(
+    mesh: &[f64],
+    h: Header,
+    starts: &[u32],
+    members: &[u32],
+    marks: &mut [u32],
+    stamp: u32,
+    r: Run,
+) -> Asked
     requires { ⌜ Askable (now mesh) h (now starts) (now members) × Marked (h .n) stamp (now marks) ⌝ }
     ensures { λ a. ⌜ (a .height ≡ heightUnder (now (mesh .entry)) h (now (starts .entry)) (now (members .entry)) r) × Marked (h .n) (a .stamp) (now (marks .exit)) ⌝ }
 {
-    let s = height::swept_height(mesh, h, starts, members, marks, stamp, r.ax, r.ay, r.bx, r.by, h.r);
+    let s = height::swept_height(
+        mesh,
+        h,
+        starts,
+        members,
+        marks,
+        stamp,
+        r.ax,
+        r.ay,
+        r.bx,
+        r.by,
+        h.r,
+    );
     Asked {
         height: s.height,
         stamp: s.stamp,
@@ -60,7 +80,15 @@ pub fn sample(
     requires { ⌜ Askable (now mesh) h (now starts) (now members) × Marked (h .n) stamp (now marks) ⌝ }
     ensures { λ o. ⌜ (o .on ≡ onLevel (heightUnder (now (mesh .entry)) h (now (starts .entry)) (now (members .entry))) a l k) × Marked (h .n) (o .stamp) (now (marks .exit)) ⌝ }
 {
-    let t = ask(mesh, h, starts, members, marks, stamp, rows::run_between(l, k, k));
+    let t = ask(
+        mesh,
+        h,
+        starts,
+        members,
+        marks,
+        stamp,
+        rows::run_between(l, k, k),
+    );
     Reading {
         on: numbers::abs(t.height - a.level) <= a.level_tolerance,
         stamp: t.stamp,

@@ -60,7 +60,17 @@ fn end_stretch(
     let samples = l.samples;
     let first = number(forward, samples, j - k);
     let last = number(forward, samples, j - 1);
-    halving::halve(mesh, h, starts, members, marks, runs, a, rows::run_between(l, first, last), counted(s, n))
+    halving::halve(
+        mesh,
+        h,
+        starts,
+        members,
+        marks,
+        runs,
+        a,
+        rows::run_between(l, first, last),
+        counted(s, n),
+    )
 }
 
 // The number of rows with a stretch becomes n.
@@ -105,7 +115,17 @@ fn advance(
     let k = w.k;
     let t = s.tally;
     let samples = l.samples;
-    let o = probe::sample(mesh, h, starts, members, marks, s.stamp, a, l, number(forward, samples, j));
+    let o = probe::sample(
+        mesh,
+        h,
+        starts,
+        members,
+        marks,
+        s.stamp,
+        a,
+        l,
+        number(forward, samples, j),
+    );
     let next = Stand {
         tally: t,
         stamp: o.stamp,
@@ -116,11 +136,22 @@ fn advance(
             stand: next,
         };
     }
-    let stand = end_stretch(mesh, h, starts, members, marks, runs, a, l, forward, n, j, k, next);
-    Walked {
-        k: 0,
-        stand,
-    }
+    let stand = end_stretch(
+        mesh,
+        h,
+        starts,
+        members,
+        marks,
+        runs,
+        a,
+        l,
+        forward,
+        n,
+        j,
+        k,
+        next,
+    );
+    Walked { k: 0, stand }
 }
 
 // A row walked forward or back; it is the n-th that has a stretch, if it has one.
@@ -141,16 +172,40 @@ pub fn walk_row(
     ensures { λ e. ⌜ (work (now (runs .exit)) (e .tally) ≡ rowTaken (heightUnder (now (mesh .entry)) h (now (starts .entry)) (now (members .entry))) a l n (work (now (runs .entry)) (s .tally)) (map (numbered forward (l .samples)) (stretchesOf (λ j. onLevel (heightUnder (now (mesh .entry)) h (now (starts .entry)) (now (members .entry))) a l (numberOf forward (l .samples) j)) (l .samples)))) × Marked (h .n) (e .stamp) (now (marks .exit)) ⌝ }
 {
     let samples = l.samples;
-    let mut w = Walked {
-        k: 0,
-        stand: s,
-    };
+    let mut w = Walked { k: 0, stand: s };
     for j in 0..samples + 1 {
-        w = advance(mesh, h, starts, members, marks, runs, a, l, forward, n, j, w);
+        w = advance(
+            mesh,
+            h,
+            starts,
+            members,
+            marks,
+            runs,
+            a,
+            l,
+            forward,
+            n,
+            j,
+            w,
+        );
     }
     let k = w.k;
     let stand = w.stand;
-    end_stretch(mesh, h, starts, members, marks, runs, a, l, forward, n, samples + 1, k, stand)
+    end_stretch(
+        mesh,
+        h,
+        starts,
+        members,
+        marks,
+        runs,
+        a,
+        l,
+        forward,
+        n,
+        samples + 1,
+        k,
+        stand,
+    )
 }
 
 // What a level's rows are tested against.

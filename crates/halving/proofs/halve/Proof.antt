@@ -30,14 +30,13 @@ abbrev μ-loop : tie.MeasureT-loop
     weight (stackOf bx by left top)
 
 loop-holds : tie.Need-loop-holds Inv-loop μ-loop
-loop-holds c =
-    (
-      refl,
-      record { xs = refl; ys = refl; ls = refl; deep = λ i l. let e : i ≡ 0 = omega arith in rw e (lit≤ tt) },
-      c .before .before .before .before .before .before .pre .1,
-      refl,
-      refl,
-    )
+loop-holds c = (
+  refl,
+  record { xs = refl; ys = refl; ls = refl; deep = λ i l. let e : i ≡ 0 = omega arith in rw e (lit≤ tt) },
+  c .before .before .before .before .before .before .pre .1,
+  refl,
+  refl,
+)
 
 -- the top of the stack lies in the arrays
 inside : (c : tie.In-loop Inv-loop μ-loop) → c .before .loop .top - 1 < 33
@@ -77,8 +76,7 @@ loop-less c =
 loop-again : tie.Need-loop-again Inv-loop μ-loop
 loop-again c =
     let l = c .before .before .before .before .before .before .before .loop in
-    let h = told (c .before .before .before .before) ∙ c .before .if1 .taken in
-    (
+    let h = told (c .before .before .before .before) ∙ c .before .if1 .taken in (
       rw (c .first-half .ensures) (stack-splits (clear (heightUnder (c .before .before .before .before .before .before .before .before .before .before .before .before .before .before .args .mesh .now) (c .before .before .before .before .before .before .before .before .before .before .before .before .before .before .args .h) (c .before .before .before .before .before .before .before .before .before .before .before .before .before .before .args .starts .now) (c .before .before .before .before .before .before .before .before .before .before .before .before .before .before .args .members .now)) (c .before .before .before .before .before .before .before .before .before .before .before .before .before .before .args .a)) (c .before .before .before .before .before .before .before .before .before .before .before .before .before .before .args .a .least) (c .before .before .before .before .before .before .before .before .before .before .before .before .before .before .args .r .z) (l .bx) (l .by) (l .left) (l .top - 1) (l .ax) (l .ay) (l .top) (omega arith) (l .inv .1) h _ _ (l .inv .0)),
       rw (c .first-half .ensures) (split-stacked (clear (heightUnder (c .before .before .before .before .before .before .before .before .before .before .before .before .before .before .args .mesh .now) (c .before .before .before .before .before .before .before .before .before .before .before .before .before .before .args .h) (c .before .before .before .before .before .before .before .before .before .before .before .before .before .before .args .starts .now) (c .before .before .before .before .before .before .before .before .before .before .before .before .before .before .args .members .now)) (c .before .before .before .before .before .before .before .before .before .before .before .before .before .before .args .a)) (c .before .before .before .before .before .before .before .before .before .before .before .before .before .before .args .a .least) (c .before .before .before .before .before .before .before .before .before .before .before .before .before .before .args .r .z) (l .bx) (l .by) (l .left) (l .top - 1) (l .ax) (l .ay) (l .top) (omega arith) (l .inv .1) h),
       c .before .before .before .before .judge .ensures .2,
@@ -97,10 +95,9 @@ loop-again-2 : tie.Need-loop-again-2 Inv-loop μ-loop
 loop-again-2 c =
     let l = c .before .before .before .before .before .before .before .before .before .before .loop in
     let s = c .before .before .before .before .before .before .before .before .before .before .before .before .before .before .before .before .before in
-    let e : l .top ≡ l .top - 1 + 1 = omega arith in
-    (
+    let e : l .top ≡ l .top - 1 + 1 = omega arith in (
       stack-takes (clear (heightUnder (s .args .mesh .now) (s .args .h) (s .args .starts .now) (s .args .members .now)) (s .args .a)) (s .args .a .least) (s .args .r .z) (l .bx) (l .by) (l .left) (l .top - 1) (l .ax) (l .ay) (work (l .runs) (l .tally)) _ _ (told (c .before .before .before .before .before .before .before) ∙ c .before .before .before .before .if1 .left) (one-more _ _ _ _ _ _ (l .top) (l .top - 1) _ _ _ _ e (l .inv .0))
-      (c .before .before .take .ensures ∙ ap (λ (b : Bool). takenBy (l .runs) (l .tally) (record { ax = l .ax; ay = l .ay; bx = num (l .bx) (l .top - 1); by = num (l .by) (l .top - 1); z = s .args .r .z }) b) (c .before .before .before .before .before .before .before .judge .ensures .0)),
+          (c .before .before .take .ensures ∙ ap (λ (b : Bool). takenBy (l .runs) (l .tally) (record { ax = l .ax; ay = l .ay; bx = num (l .bx) (l .top - 1); by = num (l .by) (l .top - 1); z = s .args .r .z }) b) (c .before .before .before .before .before .before .before .judge .ensures .0)),
       stacked-less _ _ _ (l .top) (l .top - 1) (omega arith) (l .inv .1),
       c .before .before .before .before .before .before .before .judge .ensures .2,
       search needs,
@@ -110,10 +107,9 @@ loop-again-2 c =
 returns : tie.Need-returns Inv-loop μ-loop
 returns c =
     let l = c .before .loop in
-    let s = c .before .before .before .before .before .before .before .before in
-    (
+    let s = c .before .before .before .before .before .before .before .before in (
       stack-ends _ _ _ _ _ _ (l .top) _ _ _ _ (omega arith) (l .inv .0)
-      ∙ ap (takenAll (work (s .args .runs .now) (s .args .s .tally))) (waiting-first (clear (heightUnder (s .args .mesh .now) (s .args .h) (s .args .starts .now) (s .args .members .now)) (s .args .a)) (s .args .a .least) (s .args .r) _ _ _ refl refl refl),
+          ∙ ap (takenAll (work (s .args .runs .now) (s .args .s .tally))) (waiting-first (clear (heightUnder (s .args .mesh .now) (s .args .h) (s .args .starts .now) (s .args .members .now)) (s .args .a)) (s .args .a .least) (s .args .r) _ _ _ refl refl refl),
       l .inv .2,
     )
 

@@ -36,8 +36,7 @@ advance-requires c κs =
 loop-again : tie.Need-loop-again Inv-loop μ-loop
 loop-again c =
     let l = c .before .before .before .before .before .before .before .before .loop in
-    let e = c .before .before .before .before .advance .ensures in
-    (
+    let e = c .before .before .before .before .advance .ensures in (
       rowing-goes _ _ _ _ _ _ _ _ (l .w) _ (l .j) (omega (arith, c .before .before .before .before .before .before .before .loop-test .taken, l .inv .3)) (l .inv .0) (e .0),
       e .1,
       omega (arith, c .before .before .before .before .before .before .before .loop-test .taken),
