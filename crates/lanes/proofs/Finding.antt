@@ -1,6 +1,6 @@
 -- What the search takes, step by step, is what the list of all its pieces gives.
 use mathlib.Core.Bool.{Bool, true, false, cond, _&&_}
-use mathlib.Core.List.{List, [], _∷_, _++_, map, reverse, reverse-cons, append-assoc, append-nil}
+use mathlib.Core.List.{List, [], _∷_, _++_, map, reverse, reverse-cons, append-nil}
 use mathlib.Core.Path.{_≡_, refl, sym, ap, _∙_}
 use Prim.Native.Nat.{ℕ, zero, suc, _+_, _%_}
 use lib.Dec.{eqb}
@@ -13,7 +13,7 @@ use Rattle.runs.specs.declared.Tally.{Tally}
 use Rattle.runs.specs.Runs.{touchesOf, lengthened, lengthOf, fiveOf}
 use Rattle.runs.specs.Pieces.{Piece, piecesOf}
 use Rattle.runs.specs.Tallies.{Work, work, onTo, takenBy, takenAll, keptBy, leftBy, closedOf, begun}
-use Rattle.runs.proofs.Tallying.{taken-append}
+use Rattle.runs.proofs.Tallying.{taken-append, Tallied, tallied-starts, tallied-all, tallied-ends}
 use Rattle.rows.specs.declared.Axis.{Axis}
 use Rattle.rows.specs.declared.Lane.{Lane}
 use Rattle.rows.specs.Lanes.{between}
@@ -21,8 +21,9 @@ use Rattle.rows.specs.Stretches.{Ends, turned, stretchesOf, backward}
 use Rattle.terms.specs.declared.Parameters.{Parameters}
 use Rattle.probe.specs.declared.Aim.{Aim}
 use Rattle.probe.specs.Probe.{onLevel, clear}
 use Rattle.search.specs.Search.{Found, piecesAlong, empty, directed, rowFound, rowsFound, levelFound, levelsFound}
 use Rattle.search.specs.Steps.{counting, rowTaken, laneTaken, lanesTaken, levelTaken, levelsTaken}
+use Rattle.lanes.specs.Searched.{Searched}
 
 -- ---- taking pieces does not turn on the number of rows
 
@@ -67,6 +68,7 @@ module _ (under : Run → Float) (a : Aim) (l : Lane) where
     where
       p : List Piece
       p = piecesOf (clear under a) (a .least) 32 (between l (e .from) (e .to))
+
       by : (es : List Ends) → cond (empty es) (counting n (takenAll w p)) (counting n (takenAll (counting n (takenAll w p)) (piecesAlong under a l es))) ≡ counting n (takenAll w (p ++ piecesAlong under a l es))
       by [] = ap (λ (ps : List Piece). counting n (takenAll w ps)) (sym (append-nil p))
       by (x ∷ xs) =
@@ -99,7 +101,7 @@ empty-directed n es = by (eqb (n % 2) 0)
 -- ---- the whole search
 
 -- where the search stands once it has found f, over a table that was t₀
-abbrev pub standing : List Float → Found → Work
+abbrev standing : List Float → Found → Work
 standing t₀ f = counting (f .rows) (takenAll (work t₀ begun) (f .pieces))
 
 module _ (under : Run → Float) (t₀ : List Float) where
@@ -112,12 +114,16 @@ module _ (under : Run → Float) (t₀ : List Float) where
     where
       n : ℕ
       n = f .rows + 1
+
       es : List Ends
       es = stretchesOf (onLevel under a l) (l .samples)
+
       ds : List Ends
       ds = directed n es
+
       ps : List Piece
       ps = piecesAlong under a l ds
+
       by : (b : Bool) → cond b (standing t₀ f) (counting n (takenAll (standing t₀ f) ps)) ≡ standing t₀ (cond b f (record { rows = n; pieces = f .pieces ++ ps }))
       by true = refl
       by false =
@@ -130,8 +136,43 @@ module _ (under : Run → Float) (t₀ : List Float) where
   lanes-found a lane (suc n) f row =
       ap (λ (w : Work). lanesTaken under a lane w (row + 1) n) (lane-found a (lane row) f) ∙ lanes-found a lane n (rowFound under a f (lane row)) (row + 1)
 
-  pub levels-found : (p : Parameters) (axis : Axis) (r : Float) (ls : List Level) (f : Found) → levelsTaken under p axis r (standing t₀ f) ls ≡ standing t₀ (levelsFound under p axis r f ls)
+  levels-found : (p : Parameters) (axis : Axis) (r : Float) (ls : List Level) (f : Found) → levelsTaken under p axis r (standing t₀ f) ls ≡ standing t₀ (levelsFound under p axis r f ls)
   unfolding levelsTaken levelTaken levelsFound levelFound
   levels-found p axis r [] f = refl
   levels-found p axis r (l ∷ ls) f =
       ap (λ (w : Work). levelsTaken under p axis r w ls) (lanes-found _ _ _ f 0) ∙ levels-found p axis r ls (levelFound under p axis r f l)
+
+-- ---- the open run written
+
+closed-rows : (t : List Float) (y : Tally) → closedOf t y .tally .rows ≡ y .rows
+unfolding closedOf
+closed-rows t y = by (y .some)
+  where
+    by : (b : Bool) → cond b (work (putAt t (y .count) (fiveOf (y .last))) (record { some = false; last = y .last; count = onTo (roomOf t) (y .count); cut = y .cut ⊕ lengthOf (y .last); dropped = y .dropped; rows = y .rows })) (work t y) .tally .rows ≡ y .rows
+    by true = refl
+    by false = refl
+
+module _ (t₀ : List Float) where
+  tallied-standing : (f : Found) → Tallied t₀ (f .pieces) (standing t₀ f)
+  tallied-standing f =
+      let g = tallied-all t₀ [] (f .pieces) (work t₀ begun) (tallied-starts t₀) in
+      record { done = g .done; table = g .table; count = g .count; cut = g .cut; dropped = g .dropped; last = g .last }
+
+  searched-is : (f : Found) (t : List Float) (y : Tally) → work t y ≡ closedOf (standing t₀ f .table) (standing t₀ f .tally) → Searched t₀ f t y
+  searched-is f t y e =
+      let g = tallied-ends t₀ (f .pieces) (standing t₀ f) (tallied-standing f) in
+      record {
+        table = ap (λ (w : Work). w .table) e ∙ g .table;
+        count = ap (λ (w : Work). w .tally .count) e ∙ g .count;
+        cut = ap (λ (w : Work). w .tally .cut) e ∙ g .cut;
+        dropped = ap (λ (w : Work). w .tally .dropped) e ∙ g .dropped;
+        rows = ap (λ (w : Work). w .tally .rows) e ∙ closed-rows (standing t₀ f .table) (standing t₀ f .tally);
+      }
+
+  -- all levels taken from nothing, and the open run written
+  pub searched : (under : Run → Float) (p : Parameters) (axis : Axis) (r : Float) (ls : List Level) (w : Work) (y₀ : Tally) (t : List Float) (y : Tally) → y₀ ≡ begun → w ≡ levelsTaken under p axis r (work t₀ y₀) ls → work t y ≡ closedOf (w .table) (w .tally) → Searched t₀ (levelsFound under p axis r (record { rows = 0; pieces = [] }) ls) t y
+  unfolding takenAll
+  searched under p axis r ls w y₀ t y b e q =
+      let f : Found = record { rows = 0; pieces = [] } in
+      let s : w ≡ levelsTaken under p axis r (work t₀ begun) ls = e ∙ ap (λ (x : Tally). levelsTaken under p axis r (work t₀ x) ls) b in
+      searched-is (levelsFound under p axis r f ls) t y (q ∙ ap (λ (v : Work). closedOf (v .table) (v .tally)) (s ∙ levels-found under t₀ p axis r ls f))

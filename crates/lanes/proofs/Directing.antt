@@ -2,7 +2,7 @@
 use mathlib.Core.Bool.{Bool, true, false, cond, not, _&&_}
 use mathlib.Core.List.{List, [], _∷_, map}
 use mathlib.Core.Path.{_≡_, refl, sym, ap, _∙_}
-use Prim.Native.Nat.{ℕ, zero, suc, _+_, _-_, _%_, _≤_, _<_}
+use Prim.Native.Nat.{ℕ, suc, _+_, _-_, _%_, _≤_, _<_}
 use native.Mathlib.Omega.{arith}
 use lib.Dec.{eqb}
 use lib.Ieee.{Float}
@@ -13,17 +13,18 @@ use Rattle.runs.specs.declared.Tally.{Tally}
 use Rattle.runs.specs.Runs.{touchesOf, lengthened, lengthOf, fiveOf}
 use Rattle.runs.specs.Pieces.{Piece, piecesOf}
 use Rattle.runs.specs.Tallies.{Work, work, onTo, takenBy, takenAll, keptBy, leftBy, closedOf}
+use Rattle.levels.specs.declared.Level.{Level}
+use Rattle.rows.specs.declared.Axis.{Axis}
 use Rattle.rows.specs.declared.Lane.{Lane}
-use Rattle.rows.specs.Lanes.{between}
-use Rattle.rows.specs.Stretches.{Ends, ends, stretchesOf, backward}
+use Rattle.rows.specs.declared.Spread.{Spread}
+use Rattle.rows.specs.Lanes.{spreadOf, intervalsOf, between}
+use Rattle.rows.specs.Stretches.{Ends, stretchesOf, backward}
 use Rattle.rows.proofs.Turning.{row-turned}
 use Rattle.probe.specs.declared.Aim.{Aim}
 use Rattle.probe.specs.Probe.{onLevel, clear}
-use Rattle.search.specs.Search.{directed}
-use Rattle.search.specs.Steps.{numberOf, numbered, counting, rowTaken, laneTaken, lanesTaken}
-
-clash : {A : Type 0} → true ≡ false → A
-clash e = let z : _≡_ {A = ℕ} (cond true 1 0) (cond false 1 0) = ap {B = ℕ} (λ b. cond b 1 0) e in absurd (omega arith)
+use Rattle.terms.specs.declared.Parameters.{Parameters}
+use Rattle.search.specs.Search.{directed, aimOf, laneOf}
+use Rattle.search.specs.Steps.{numberOf, numbered, counting, rowTaken, laneTaken, lanesTaken, levelTaken, Coarse}
 
 -- ---- which way a row is walked
 
@@ -36,10 +37,10 @@ unfolding numberOf directed
 directed-is on samples n forward e = by forward (eqb (n % 2) 0) e
   where
     by : (b d : Bool) → b ≡ not d → map (numbered b samples) (stretchesOf (λ j. on (numberOf b samples j)) samples) ≡ cond d (backward (stretchesOf on samples)) (stretchesOf on samples)
-    by true true p = clash p
+    by true true p = cc
     by true false p = map-itself _ (λ e. refl) (stretchesOf on samples)
     by false true p = row-turned on samples
-    by false false p = clash (sym p)
+    by false false p = cc
 
 -- ---- how many rows have a stretch
 
@@ -82,16 +83,39 @@ lane-is under a l w w′ n forward e f p =
 
 -- ---- rows row, row + 1, .. of a level
 
-module _ (under : Run → Float) (a : Aim) (lane : ℕ → Lane) where
-  pub lanes-starts : (w : Work) (n : ℕ) → lanesTaken under a lane w 0 (n - 0) ≡ lanesTaken under a lane w 0 n
-  lanes-starts w n = let e : n - 0 ≡ n = omega arith in rw e
+module _ (under : Run → Float) (a : Aim) (lane : ℕ → Lane) (w₀ : Work) where
+  -- what is left of n rows, taken from where the search stands, gives what all give from its start; each row passed counts at most once
+  pub record Laning (w : Work) (row n : ℕ) : Type 0 where
+    pub same : lanesTaken under a lane w row (n - row) ≡ lanesTaken under a lane w₀ 0 n
+    pub few : w .tally .rows ≤ w₀ .tally .rows + row
 
-  pub lanes-goes : (w w′ all : Work) (row n : ℕ) → row < n → lanesTaken under a lane w row (n - row) ≡ all → w′ ≡ laneTaken under a (lane row) w → lanesTaken under a lane w′ (row + 1) (n - (row + 1)) ≡ all
+  pub laning-starts : (n : ℕ) → Laning w₀ 0 n
+  laning-starts n = let e : n - 0 ≡ n = omega arith in record { same = rw e; few = omega arith }
+
+  pub laning-goes : (w w′ : Work) (row n : ℕ) (l : Lane) → row < n → Laning w row n → l ≡ lane row → w′ ≡ laneTaken under a l w → Laning w′ (row + 1) n
   unfolding lanesTaken
-  lanes-goes w w′ all row n h g e =
+  laning-goes w w′ row n l h g p e =
       let q : n - row ≡ suc (n - (row + 1)) = omega arith in
-      ap (λ (v : Work). lanesTaken under a lane v (row + 1) (n - (row + 1))) e ∙ (rw q at g)
+      record {
+        same = ap (λ (v : Work). lanesTaken under a lane v (row + 1) (n - (row + 1))) (e ∙ ap (λ (x : Lane). laneTaken under a x w) p) ∙ (rw q at (g .same));
+        few = omega (arith, g .few, lane-rows under a l w, ap (λ (v : Work). v .tally .rows) e);
+      }
 
-  pub lanes-ends : (w all : Work) (row n : ℕ) → n ≤ row → lanesTaken under a lane w row (n - row) ≡ all → w ≡ all
+  pub laning-ends : (w : Work) (row n : ℕ) → n ≤ row → Laning w row n → w ≡ lanesTaken under a lane w₀ 0 n
   unfolding lanesTaken
-  lanes-ends w all row n h g = let q : n - row ≡ 0 = omega arith in rw q at g
+  laning-ends w row n h g = let q : n - row ≡ 0 = omega arith in rw q at (g .same)
+
+-- ---- a level, with what the code finds of it
+
+module _ (p : Parameters) (axis : Axis) (r : Float) (l : Level) where
+  pub coarse-rows : (s : Spread) (n : ℕ) → s ≡ spreadOf axis r l → n ≡ intervalsOf s (p .stepover) → Coarse p axis r l → n ≤ 65535
+  unfolding Coarse
+  coarse-rows s n e q h = rw (q, e) (h .0)
+
+  pub coarse-samples : (row : ℕ) (lane : Lane) → lane ≡ laneOf p axis r l row → Coarse p axis r l → lane .samples ≤ 65535
+  unfolding Coarse laneOf
+  coarse-samples row lane e h = rw e (h .1)
+
+  pub level-is : (under : Run → Float) (w₀ w : Work) (a : Aim) (s : Spread) (n : ℕ) → a ≡ aimOf p r l → s ≡ spreadOf axis r l → n ≡ intervalsOf s (p .stepover) → w ≡ lanesTaken under a (laneOf p axis r l) w₀ 0 (n + 1) → w ≡ levelTaken under p axis r w₀ l
+  unfolding levelTaken
+  level-is under w₀ w a s n x y z e = e ∙ (rw (x, z, y))

@@ -1,0 +1,3 @@
+pub mod Directing
+pub mod Finding
+pub mod Sweeping

@@ -1,0 +1,57 @@
+-- `lanes::search_levels` meets its contract: the levels that are left, taken from where the search stands, give what all levels give from nothing.
+use Prim.Native.Nat.{_-_, _≤_}
+use mathlib.Core.Path.{_≡_, refl, ap}
+use native.Mathlib.Omega.{arith}
+use borrow.Author.Needs.{needs}
+use lib.ListN.{length}
+use Rattle.runs.specs.declared.Tally.{Tally}
+use Rattle.runs.specs.Tallies.{work}
+use Rattle.probe.specs.Probe.{heightUnder}
+use Rattle.probe.specs.Asked.{Marked}
+use Rattle.lanes.proofs.Sweeping.{Sweeping, sweeping-starts, sweeping-coarse, sweeping-goes, sweeping-ends}
+use Rattle.lanes.proofs.Finding.{searched}
+use Rattle.lanes.proofs.search_levels.Statement.{statement}
+use Rattle.lanes.proofs.search_levels.Tie as tie
+
+abbrev Inv-loop : tie.InvT-loop
+Inv-loop mesh h starts members marks₀ runs₀ p axis levels count stand₀ m₀ marks runs stand m =
+    Sweeping (heightUnder mesh h starts members) p axis (h .r) levels (work runs₀ (stand₀ .tally)) (work runs (stand .tally)) m count
+    × Marked (h .n) (stand .stamp) marks
+    × (m ≤ count)
+    × (length marks ≡ length marks₀)
+    × (length runs ≡ length runs₀)
+
+abbrev μ-loop : tie.MeasureT-loop
+μ-loop mesh h starts members marks₀ runs₀ p axis levels count stand₀ m₀ marks runs stand m = count - m
+
+loop-holds : tie.Need-loop-holds Inv-loop μ-loop
+loop-holds c = (sweeping-starts _ _ _ _ _ _ _ (c .before .before .before .before .before .before .before .pre .4), c .before .before .before .before .before .before .before .pre .1, omega arith, refl, refl)
+
+level-at-requires : tie.Need-level-at-requires Inv-loop μ-loop
+level-at-requires c κs = omega (arith, c .before .before .loop-test .taken, c .before .before .before .before .before .before .before .before .before .before .before .pre .2)
+
+search-level-requires : tie.Need-search-level-requires Inv-loop μ-loop
+search-level-requires c κs =
+    let s = c .before .before .before .before .before .before .before .before .before .before .before .before in
+    let l = c .before .before .before .before .loop in (
+      s .pre .0,
+      l .inv .1,
+      sweeping-coarse _ _ _ _ _ _ _ _ _ _ (c .before .before .before .loop-test .taken) (l .inv .0) (c .level-at .ensures),
+      omega (arith, l .inv .0 .few, ap (λ (y : Tally). y .rows) (c .before .before .before .before .before .begin .ensures), c .before .before .before .loop-test .taken, s .pre .3),
+    )
+
+loop-again : tie.Need-loop-again Inv-loop μ-loop
+loop-again c =
+    let l = c .before .before .before .before .before .before .before .before .before .loop in
+    let e = c .before .before .before .before .search-level .ensures in
+    (sweeping-goes _ _ _ _ _ _ _ _ _ _ (c .before .before .before .before .before .before .before .before .loop-test .taken) (l .inv .0) (c .before .before .before .before .before .level-at .ensures) _ (e .0), e .1, omega (arith, c .before .before .before .before .before .before .before .before .loop-test .taken), search needs, search needs)
+
+returns : tie.Need-returns Inv-loop μ-loop
+returns c =
+    let l = c .before .before .before .before .before .before .loop in
+    (searched _ _ _ _ _ _ _ _ _ _ (c .before .before .before .before .before .before .before .begin .ensures) (sweeping-ends _ _ _ _ _ _ _ (l .m) _ (omega (arith, c .before .before .before .before .before .loop-test .left)) (l .inv .0)) (c .before .before .close .ensures), l .inv .1 .size)
+
+pub search-levels-spec : {M : Type 1} → statement M
+search-levels-spec =
+    tie.close
+    (tie.spec Inv-loop μ-loop (λ c κs. tt) loop-holds level-at-requires search-level-requires (λ c. omega (arith, c .before .before .before .before .before .before .before .before .loop-test .taken, c .before .before .before .before .before .before .before .before .before .before .before .before .before .before .before .before .before .pre .3)) (λ c. omega (arith, c .before .before .before .before .before .before .before .before .loop-test .taken)) loop-again (λ c κs. tt) (λ c. search needs) (λ c. search needs) returns)
