@@ -4,6 +4,7 @@ ghost use Prim.Native.Nat.{_+_, _*_, _≤_, _<_, min};
 ghost use lib.ListN.{length};
 ghost use Rattle.query.specs.Asked.{isMarked, isPoint};
 ghost use Rattle.query.specs.Patch.{heldTo, spanOf, patchOf};
+ghost use Rattle.query.specs.Near.{squaresOf};
 ghost use Rattle.query.specs.Usable.{each, triangleUsable, memberUsable, cellUsable, rowUsable, cellsUsable, usable};
 use grid::Header;
 
@@ -109,8 +110,30 @@ pub fn usable(
     }
 }
 
-// Whether no coordinate of triangle i is one that 4 would refuse.
+// Whether no coordinate of triangle i is one that 4 would refuse: none is where their squares have a small sum, and else each is looked at.
 pub fn triangle_usable(mesh: &[f64], i: usize) -> bool
+    requires { ⌜ 9 * i + 9 ≤ length (now mesh) ⌝ }
+    ensures { λ r. ⌜ r ≡ triangleUsable (now (mesh .entry)) i ⌝ }
+{
+    let k = 9 * i;
+    let last = mesh[k + 8];
+    let evens = squares(mesh[k], mesh[k + 2], mesh[k + 4], mesh[k + 6]);
+    let odds = squares(mesh[k + 1], mesh[k + 3], mesh[k + 5], mesh[k + 7]);
+    if evens + odds + last * last <= 9e11 {
+        return true;
+    }
+    each_usable(mesh, i)
+}
+
+// The sum of four squares.
+fn squares(a: f64, b: f64, c: f64, d: f64) -> f64
+    ensures { λ s. ⌜ s ≡ squaresOf a b c d ⌝ }
+{
+    (a * a + b * b) + (c * c + d * d)
+}
+
+// Whether no coordinate of triangle i is one that 4 would refuse, one after the other.
+fn each_usable(mesh: &[f64], i: usize) -> bool
     requires { ⌜ 9 * i + 9 ≤ length (now mesh) ⌝ }
     ensures { λ r. ⌜ r ≡ triangleUsable (now (mesh .entry)) i ⌝ }
 {
