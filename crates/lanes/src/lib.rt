@@ -59,40 +59,8 @@ pub fn search_levels(
     runs::close(runs, tally)
 }
 
-// A row taken: every second row that has a stretch is walked back.
-fn search_row(
-    mesh: &[f64],
-    h: Header,
-    starts: &[u32],
-    members: &[u32],
-    marks: &mut [u32],
-    runs: &mut [f64],
-    a: Aim,
-    l: Lane,
-    s: Stand,
-) -> Stand
-    requires { ⌜ Askable (now mesh) h (now starts) (now members) × Marked (h .n) (s .stamp) (now marks) × (l .samples ≤ 65535) × (s .tally .rows < 8589934592) ⌝ }
-    ensures { λ e. ⌜ (work (now (runs .exit)) (e .tally) ≡ laneTaken (heightUnder (now (mesh .entry)) h (now (starts .entry)) (now (members .entry))) a l (work (now (runs .entry)) (s .tally))) × Marked (h .n) (e .stamp) (now (marks .exit)) ⌝ }
-{
-    let t = s.tally;
-    let n = t.rows + 1;
-    search::walk_row(
-        mesh,
-        h,
-        starts,
-        members,
-        marks,
-        runs,
-        a,
-        l,
-        n % 2 != 0,
-        n,
-        s,
-    )
-}
-
 // The rows of a level taken, from the first to the last.
-pub fn search_level(
+fn search_level(
     mesh: &[f64],
     h: Header,
     starts: &[u32],
@@ -125,4 +93,36 @@ pub fn search_level(
         );
     }
     stand
+}
+
+// A row taken: every second row that has a stretch is walked back.
+fn search_row(
+    mesh: &[f64],
+    h: Header,
+    starts: &[u32],
+    members: &[u32],
+    marks: &mut [u32],
+    runs: &mut [f64],
+    a: Aim,
+    l: Lane,
+    s: Stand,
+) -> Stand
+    requires { ⌜ Askable (now mesh) h (now starts) (now members) × Marked (h .n) (s .stamp) (now marks) × (l .samples ≤ 65535) × (s .tally .rows < 8589934592) ⌝ }
+    ensures { λ e. ⌜ (work (now (runs .exit)) (e .tally) ≡ laneTaken (heightUnder (now (mesh .entry)) h (now (starts .entry)) (now (members .entry))) a l (work (now (runs .entry)) (s .tally))) × Marked (h .n) (e .stamp) (now (marks .exit)) ⌝ }
+{
+    let t = s.tally;
+    let n = t.rows + 1;
+    search::walk_row(
+        mesh,
+        h,
+        starts,
+        members,
+        marks,
+        runs,
+        a,
+        l,
+        n % 2 != 0,
+        n,
+        s,
+    )
 }
