@@ -1,0 +1,191 @@
+-- What a plan answers and leaves, refusal by refusal, and where it is accepted.
+use mathlib.Core.Bool.{true, false}
+use mathlib.Core.List.{List, map}
+use mathlib.Core.Logic.{⊎-elim}
+use mathlib.Core.Path.{_≡_, refl, sym, ap, subst, _∙_}
+use Prim.Native.Nat.{ℕ, zero, suc, _+_, _*_, _/_, _≤_, _<_, min}
+use native.Mathlib.Omega.{arith}
+use borrow.Author.Tests.{eq-eqb, ne-eqb, lt-ltb, le-ltb, ltb-true, ltb-false, eqb-true}
+use lib.Dec.{eqb, leb, ltb, lit<}
+use lib.Ieee.{Float}
+use lib.ListN.{length, getD, replicate, length-replicate}
+use Rattle.numbers.specs.Reals.{f0}
+use Rattle.numbers.proofs.Branches.{taken, left}
+use Rattle.sort.proofs.Counts.{on-or-off}
+use Rattle.fives.specs.Tables.{roomOf, written, zeroed}
+use Rattle.fives.proofs.Writing.{written-length}
+use Rattle.grid.specs.declared.Header.{Header}
+use Rattle.grid.proofs.Ladder.{demanded, refuse-here, refuse-next}
+use Rattle.header.proofs.Ands.{both}
+use Rattle.query.specs.Asked.{isMarked}
+use Rattle.query.specs.Usable.{usableWhole}
+use Rattle.whole.proofs.Wholly.{whole-head, whole-walkable}
+use Rattle.levels.specs.declared.Level.{Level}
+use Rattle.levels.specs.Levels.{levelsOf, fiveOf as levelFive}
+use Rattle.runs.specs.declared.Run.{Run}
+use Rattle.runs.specs.declared.Tally.{Tally}
+use Rattle.runs.specs.Runs.{joinedOf, fiveOf as runFive}
+use Rattle.runs.specs.Pieces.{keptOf}
+use Rattle.rows.specs.declared.Axis.{Axis}
+use Rattle.terms.specs.declared.Parameters.{Parameters}
+use Rattle.terms.specs.Terms.{areTerms, tooFine, anyOf, refusalOfLevels}
+use Rattle.terms.specs.Tested.{levelsIn}
+use Rattle.terms.proofs.Testing.{levels-read}
+use Rattle.probe.specs.Asked.{Askable, Marked}
+use Rattle.search.specs.Search.{Found}
+use Rattle.lanes.specs.Searched.{Searched}
+use Rattle.plan.specs.declared.Planned.{Planned}
+use Rattle.plan.specs.declared.Surveyed.{Surveyed}
+use Rattle.plan.specs.Plan.{refusalOfInput, refusalOfTables, levelsUnder, foundOn, Outcome, outcome, refusedBy, wiped, workedOf, planOf}
+use Rattle.plan.specs.Stages.{Ready, Surveys, Settled, settled, givenUp, settledOf}
+use Rattle.plan.proofs.Counting.{levels-few}
+use Rattle.plan.proofs.Surveying.{Taken, survey-taken}
+
+-- ---- 1, 9 and 7
+
+module _ (mesh : List Float) (h : Header) (starts members marks : List ℕ) (p : Parameters) where
+  pub passed : refusalOfInput mesh h starts members marks p ≡ 0 → Ready mesh h starts members marks
+  unfolding refusalOfInput isMarked
+  passed z =
+      let a = demanded (isMarked mesh marks) 1 _ (lit< tt) z in
+      let b = demanded (areTerms p (h .r) (h .floor)) 9 _ (lit< tt) (a .1) in
+      let u = demanded (usableWhole mesh h starts members) 7 0 (lit< tt) (b .1) .0 in
+      let m = both (leb (length marks) 65536) (eqb (length mesh) (length marks * 9)) (a .0) in
+      let w = whole-head mesh h starts members u in
+      let e : length mesh ≡ length marks * 9 = eqb-true _ _ (m .1) in
+      record {
+        askable = record { nine = w .nine; few = w .ranged .few; walkable = whole-walkable mesh h starts members u };
+        size = omega (arith, w .nine);
+      }
+
+  module _ (levels runs : List Float) (axis : Axis) (k : ℕ) (e : k ≡ refusalOfInput mesh h starts members marks p) where
+    pub input-refused : (a : Planned) → (k ≡ 0 → ⊥) → a ≡ refusedBy k → outcome a levels runs marks ≡ planOf mesh h starts members marks levels runs p axis
+    unfolding planOf
+    input-refused a n f =
+        left _ _ _ _ (ne-eqb _ 0 (λ z. n (e ∙ z)))
+        (ap (λ (b : Planned). outcome b levels runs marks) f ∙ ap (λ (j : ℕ). outcome (refusedBy j) levels runs marks) e)
+
+    pub input-passed : (o : Outcome) → k ≡ 0 → o ≡ workedOf mesh h starts members marks levels runs p axis → o ≡ planOf mesh h starts members marks levels runs p axis
+    unfolding planOf
+    input-passed o z f = taken _ _ _ _ (eq-eqb _ 0 (sym e ∙ z)) f
+
+-- ---- 11, 10, 12 and 13
+
+pub settled-same : (a b : Planned) (t t′ u u′ : List Float) → a ≡ b → t ≡ t′ → u ≡ u′ → settled a t u ≡ settled b t′ u′
+settled-same a b t t′ u u′ e p q = ap (λ (x : Planned). settled x t u) e ∙ (rw (p, q))
+
+zeros-below : (n i : ℕ) → getD (replicate n 0) i 0 ≤ 0
+zeros-below zero i = omega arith
+zeros-below (suc n) zero = omega arith
+zeros-below (suc n) (suc i) = zeros-below n i
+
+wiped-marked : (n : ℕ) (marks m : List ℕ) → length marks ≡ n → m ≡ wiped marks → Marked n 0 m
+wiped-marked n marks m size w =
+    record { size = ap length w ∙ length-replicate (length marks) 0 ∙ size; below = λ i. rw w (zeros-below (length marks) i) }
+
+zeroed-length : (t : List Float) → length (zeroed t) ≡ length t
+zeroed-length t = length-replicate (length t) f0
+
+module _ (mesh : List Float) (h : Header) (starts members marks : List ℕ) (levels runs : List Float) (p : Parameters) (axis : Axis) where
+  abbrev ls : List Level
+  ls = levelsUnder mesh h p
+
+  abbrev found : Found
+  found = foundOn mesh h starts members p axis ls
+
+  abbrev joined : List Run
+  joined = joinedOf (keptOf (found .pieces))
+
+  abbrev refusal : ℕ
+  refusal = refusalOfTables (roomOf levels) (roomOf runs) p axis (h .r) ls joined
+
+  abbrev answer : Outcome
+  answer = workedOf mesh h starts members marks levels runs p axis
+
+  -- a late refusal, over tables that are as long as they were
+  late : (k : ℕ) → k ≡ refusal → (k ≡ 0 → ⊥) → (s : Settled) (t u : List Float) (m : List ℕ) → length t ≡ length levels → length u ≡ length runs → s ≡ givenUp k t u → m ≡ wiped marks →
+      outcome (s .answer) (s .levels) (s .runs) m ≡ answer
+  unfolding workedOf
+  late k e n s t u m a b g w =
+      left _ _ _ _ (ne-eqb refusal 0 (λ z. n (e ∙ z)))
+      (ap (λ (x : Settled). outcome (x .answer) (x .levels) (x .runs) m) g
+      ∙ ap (λ (j : ℕ). outcome (refusedBy j) (zeroed t) (zeroed u) m) e
+      ∙ (rw (a, b, w)))
+
+  -- where the tables are zero and the levels are written
+  module _ (t₀ u₀ t : List Float) (m : List ℕ) (s : Surveyed) (size : length marks ≡ h .n) (zt : t₀ ≡ zeroed levels) (zu : u₀ ≡ zeroed runs) (v₀ : Surveys (levelsOf mesh (length marks) (p .tolerance) (p .«level_tolerance») (h .floor)) p axis (h .r) t₀ marks t m s) where
+    v : Surveys ls p axis (h .r) t₀ marks t m s
+    unfolding levelsUnder
+    v = subst (λ (n : ℕ). Surveys (levelsOf mesh n (p .tolerance) (p .«level_tolerance») (h .floor)) p axis (h .r) t₀ marks t m s) size v₀
+
+    levels-room : length t₀ ≡ length levels
+    levels-room = ap length zt ∙ zeroed-length levels
+
+    table-room : length t ≡ length levels
+    table-room = ap length (v .table) ∙ written-length levelFive (λ _. refl) ls t₀ ∙ levels-room
+
+    runs-room : length u₀ ≡ length runs
+    runs-room = ap length zu ∙ zeroed-length runs
+
+    tested : s .refusal ≡ refusalOfLevels (roomOf levels) p axis (h .r) ls
+    tested = v .refusal ∙ ap (λ (n : ℕ). refusalOfLevels (n / 5) p axis (h .r) ls) levels-room
+
+    -- 11, 10 or 12
+    pub levels-refused : (s .refusal ≡ 0 → ⊥) → (a : Settled) → a ≡ givenUp (s .refusal) t u₀ → outcome (a .answer) (a .levels) (a .runs) m ≡ answer
+    unfolding refusalOfTables
+    levels-refused n a e = late (s .refusal) (left _ _ _ _ (ne-eqb _ 0 (λ z. n (tested ∙ z))) tested) n a t u₀ m table-room runs-room e (v .clean)
+
+    module _ (z : s .refusal ≡ 0) where
+      taken-levels : Taken t₀ ls p axis (h .r)
+      taken-levels = survey-taken t₀ ls p axis (h .r) (sym (v .refusal) ∙ z)
+
+      read : levelsIn t 0 (s .count) ≡ ls
+      read = ap (λ (x : List Float). levelsIn x 0 (s .count)) (v .table) ∙ ap (levelsIn (written (map levelFive ls) t₀) 0) (v .count) ∙ levels-read t₀ ls (taken-levels .room)
+
+      -- what the search asks for
+      pub search-asks : Askable mesh h starts members → Askable mesh h starts members × Marked (h .n) 0 m × (s .count * 5 ≤ length t) × (s .count ≤ 65536) × (anyOf (tooFine p axis (h .r)) (levelsIn t 0 (s .count)) ≡ false)
+      unfolding levelsUnder
+      search-asks q = (
+        q,
+        wiped-marked (h .n) marks m size (v .clean),
+        omega (arith, taken-levels .room, v .count, table-room, levels-room),
+        omega (arith, v .count, q .few, levels-few mesh (h .n) (p .tolerance) (p .«level_tolerance») (h .floor)),
+        rw read (taken-levels .coarse),
+      )
+
+      module _ (u : List Float) (m′ : List ℕ) (y : Tally) (f : Searched u₀ (foundOn mesh h starts members p axis (levelsIn t 0 (s .count))) u y) (w : m′ ≡ wiped marks) where
+        searched : Searched (zeroed runs) found u y
+        searched = rw (zu, read) at f
+
+        long : length u ≡ length runs
+        long = ap length (searched .table) ∙ written-length runFive (λ _. refl) joined (zeroed runs) ∙ zeroed-length runs
+
+        counted : y .count ≡ min (length joined) (roomOf runs + 1)
+        counted = searched .count ∙ (rw (zeroed-length runs))
+
+        -- 13
+        over : ltb (roomOf u) (y .count) ≡ true → (a : Settled) → a ≡ settledOf t u (s .count) y → outcome (a .answer) (a .levels) (a .runs) m′ ≡ answer
+        unfolding settledOf refusalOfTables
+        over g a e =
+            let l : roomOf u < y .count = ltb-true (roomOf u) (y .count) g in
+            let r : roomOf u ≡ roomOf runs = ap (λ (n : ℕ). n / 5) long in
+            late 13 (taken _ _ _ _ (eq-eqb _ 0 (sym tested ∙ z)) (refuse-here _ 13 0 13 (lt-ltb (roomOf runs) (length joined) (omega (arith, counted))) refl)) (λ d. omega arith)
+            a t u m′ table-room long (e ∙ (rw g)) w
+
+        left-is : ltb (roomOf u) (y .count) ≡ false → settledOf t u (s .count) y ≡ settled (record { refusal = 0; levels = s .count; rows = y .rows; runs = y .count; cut = y .cut; dropped = y .dropped }) t u
+        unfolding settledOf
+        left-is g = rw g
+
+        -- accepted
+        within : ltb (roomOf u) (y .count) ≡ false → (a : Settled) → a ≡ settledOf t u (s .count) y → outcome (a .answer) (a .levels) (a .runs) m′ ≡ answer
+        unfolding workedOf refusalOfTables
+        within g a e =
+            let l : y .count ≤ roomOf u = ltb-false (roomOf u) (y .count) g in
+            let r : roomOf u ≡ roomOf runs = ap (λ (n : ℕ). n / 5) long in
+            let n : y .count ≡ length joined = omega (arith, counted) in
+            taken _ _ _ _ (eq-eqb _ 0 (sym (taken _ _ _ _ (eq-eqb _ 0 (sym tested ∙ z)) (refuse-next _ 13 0 0 (le-ltb (roomOf runs) (length joined) (omega (arith, counted))) refl))))
+            (ap (λ (x : Settled). outcome (x .answer) (x .levels) (x .runs) m′) (e ∙ left-is g)
+            ∙ (rw (v .table, zt, v .count, searched .table, n, searched .rows, searched .cut, searched .dropped, w)))
+
+        pub found-settled : (a : Settled) → a ≡ settledOf t u (s .count) y → outcome (a .answer) (a .levels) (a .runs) m′ ≡ answer
+        found-settled a e = ⊎-elim (λ g. over g a e) (λ g. within g a e) (on-or-off _)

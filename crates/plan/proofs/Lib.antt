@@ -1,0 +1,3 @@
+pub mod Counting
+pub mod Surveying
+pub mod Answering
