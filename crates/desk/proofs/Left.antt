@@ -1,4 +1,4 @@
--- What the builder leaves, refused and accepted, and that a header in its ranges fits the arrays of C.
+-- What the builder leaves, refused and accepted, that a header in its ranges fits the arrays of C, and a verdict's number.
 use mathlib.Core.Bool.{Bool, true, _&&_}
 use mathlib.Core.List.{[], _∷_}
 use mathlib.Core.Path.{_≡_, refl}
@@ -15,7 +15,10 @@ use Rattle.grid.specs.declared.Header.{Header}
 use Rattle.grid.specs.Header.{inRanges}
 use Rattle.grid.specs.Build.{Outcome}
 use Rattle.header.proofs.Ands.{both, from-is}
-use Rattle.desk.specs.Doors.{measuresOf, sizesOf, builtLeft, builtLeftBy}
+use Rattle.ask.specs.declared.Finding.{Finding}
+use Rattle.ask.specs.declared.Finding.the-variants.{Neither, Clear, Blocked}
+use Rattle.ask.specs.Ask.{findingNumber}
+use Rattle.desk.specs.Doors.{measuresOf, sizesOf, builtLeft, builtLeftBy, findingFrom}
 
 pub record Narrow (h : Header) : Type 0 where
   pub n : h .n < 2 ^ 32
@@ -55,3 +58,10 @@ accepted-left o none =
     (builtLeft k (o .starts) (o .members) (measuresOf (o .built .header)) (sizesOf (o .built .header)))
     (builtLeft k (o .starts) (o .members) (f0 ∷ f0 ∷ f0 ∷ f0 ∷ f0 ∷ f0 ∷ []) (0 ∷ 0 ∷ 0 ∷ []))
     (eq-eqb k 0 none) refl
+
+-- C's number of a verdict says which it is.
+pub finding-back : (f : Finding) → findingFrom (findingNumber f) ≡ f
+unfolding findingNumber
+finding-back Neither = refl
+finding-back Clear = refl
+finding-back Blocked = refl

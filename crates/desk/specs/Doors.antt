@@ -11,9 +11,12 @@ use Rattle.plane.specs.declared.Contact.the-variants.{Nothing, Height}
 use Rattle.section.specs.declared.Section.{Section}
 use Rattle.grid.specs.declared.Header.{Header}
 use Rattle.grid.specs.Build.{Outcome}
+use Rattle.height.specs.declared.Answer as high
 use Rattle.height.specs.Height as swept
 use Rattle.ask.specs.declared.Answer.{Answer}
 use Rattle.ask.specs.declared.Ruling.{Ruling}
+use Rattle.ask.specs.declared.Finding.{Finding}
+use Rattle.ask.specs.declared.Finding.the-variants.{Neither, Clear, Blocked}
 use Rattle.ask.specs.Ask as asked
 use Rattle.job.specs.Reader as reader
 
@@ -105,6 +108,10 @@ heightLeftBy o =
     let a = o .answer in
     heightLeft (a .refusal) (o .marks) (a .height ∷ []) (a .count ∷ a .stamp ∷ [])
 
+-- The height's answer that C reads off its arrays.
+abbrev pub answerFrom : ℕ → List Float → List ℕ → high.Answer
+answerFrom k fs ns = record { refusal = k; height = num fs 0; count = getD ns 0 0; stamp = getD ns 1 0 }
+
 -- The same of a cutter or a tool that rests on the part.
 unfoldable pub tipLeftBy : asked.Outcome Answer → HeightLeft
 tipLeftBy o =
@@ -124,3 +131,10 @@ unfoldable pub verdictLeftBy : asked.Outcome Ruling → VerdictLeft
 verdictLeftBy o =
     let a = o .answer in
     verdictLeft (a .refusal) (o .marks) (asked.findingNumber (a .finding) ∷ a .count ∷ a .stamp ∷ [])
+
+-- The ruling that C reads off its array: the verdict's number is 1 for clear, 2 for blocked, else there is none.
+abbrev pub findingFrom : ℕ → Finding
+findingFrom n = cond (eqb n 1) Clear (cond (eqb n 2) Blocked Neither)
+
+abbrev pub rulingFrom : ℕ → List ℕ → Ruling
+rulingFrom k ns = record { refusal = k; finding = findingFrom (getD ns 0 0); count = getD ns 1 0; stamp = getD ns 2 0 }

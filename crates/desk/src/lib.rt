@@ -1,20 +1,28 @@
 // What C and Rust call: include/mandrikelo.h declares these functions. Each hands its arguments to the library and lays the answer
 // into fixed arrays; the contract is the library's own, and asks nothing of the caller.
 ghost use mathlib.Core.Path.{_≡_};
+ghost use Prim.Native.Nat.{_/_};
+ghost use lib.ListN.{length, getD};
 ghost use Rattle.numbers.specs.Reals.{maxOf, minOf, clampUnit};
 ghost use Rattle.numbers.specs.Root.{rootOf};
 ghost use Rattle.numbers.specs.Rounding.{roundDownOf, roundUpOf};
 ghost use Rattle.numbers.specs.Hypot.{hypotOf};
 ghost use Rattle.numbers.specs.Order.{totalLess};
-ghost use Rattle.job.specs.Reader.{readOf};
+ghost use Rattle.job.specs.Reader.{readOf, SoundExactly};
 ghost use Rattle.capsule.specs.Candidates.{maxInCapsule};
 ghost use Rattle.bull.specs.Bull.{bullProfile, bullContactAbove};
 ghost use Rattle.section.specs.Section.{sectionContact};
-ghost use Rattle.desk.specs.Doors.{jobLeft, jobLeftBy, contactLeft, contactLeftBy, sectionFrom, builtLeft, builtLeftBy, headerFrom, heightLeft, heightLeftBy, tipLeftBy, verdictLeft, verdictLeftBy};
+ghost use Rattle.desk.specs.Doors.{jobLeft, jobLeftBy, contactLeft, contactLeftBy, sectionFrom, builtLeft, builtLeftBy, headerFrom, heightLeft, heightLeftBy, answerFrom, tipLeftBy, verdictLeft, verdictLeftBy, rulingFrom};
 ghost use Rattle.grid.specs.Build.{buildOf};
+ghost use Rattle.grid.specs.Indexed.{Indexed};
+ghost use Rattle.query.specs.Patch.{patchOf};
+ghost use Rattle.query.specs.Looked.{IndexOf};
 ghost use Rattle.height.specs.Height.{maxHeightOf};
+ghost use Rattle.height.specs.Demand.{Demand3};
+ghost use Rattle.ask.specs.Demand.{LookedAll, LookedTo};
+ghost use Rattle.tool.specs.Tool.{widestOf, lowestOf, sectionsIn};
 ghost use Rattle.contact.specs.Contact.{maxBullOf, maxSectionsOf};
-ghost use Rattle.chords.specs.Chords.{bullChordOf, sectionsChordOf};
+ghost use Rattle.chords.specs.Chords.{bullChordOf, sectionsChordOf, blockedAtOnce, bullBlocksAt, toolBlocksAt};
 ghost use Rattle.plane.specs.Mesh.{triangleOf};
 ghost use Rattle.plane.specs.Distance.{dist2ToSegment, distanceXy};
 use bull::Bull;
@@ -120,6 +128,7 @@ pub extern "C" fn mandrikelo_read_job(
     sizes: &mut [u32; 2],
 ) -> u32
     ensures { λ k. ⌜ jobLeft k (now (mesh .exit)) (now (questions .exit)) (now (measures .exit)) (now (sizes .exit)) ≡ jobLeftBy (readOf (now (bytes .entry)) (now (mesh .entry)) (now (questions .entry))) ⌝ }
+    ensures { λ k. ⌜ SoundExactly (now (bytes .entry)) (length (now (mesh .entry)) / 9) (length (now (questions .entry)) / 5) k ⌝ }
 {
     let a = job::read_job(bytes, mesh, questions);
     let refusal = a.refusal;
@@ -236,6 +245,8 @@ pub extern "C" fn mandrikelo_build(
     sizes: &mut [u32; 3],
 ) -> u32
     ensures { λ k. ⌜ builtLeft k (now (starts .exit)) (now (members .exit)) (now (measures .exit)) (now (sizes .exit)) ≡ builtLeftBy (buildOf (now (mesh .entry)) floor r (now (starts .entry)) (now (members .entry))) ⌝ }
+    ensures { λ k. ⌜ (k ≡ 0 → Indexed (now (mesh .entry)) (headerFrom (now (measures .exit)) (now (sizes .exit))) (now (starts .exit)) (now (members .exit))) ⌝ }
+    ensures { λ k. ⌜ (k ≡ 0 → IndexOf (now (mesh .entry)) (headerFrom (now (measures .exit)) (now (sizes .exit))) (now (starts .exit)) (now (members .exit))) ⌝ }
 {
     let b = grid::build(mesh, floor, r, starts, members);
     let k = b.refusal;
@@ -293,6 +304,7 @@ pub extern "C" fn mandrikelo_max_height(
     counts: &mut [u32; 2],
 ) -> u32
     ensures { λ k. ⌜ heightLeft k (now (marks .exit)) (now (found .exit)) (now (counts .exit)) ≡ heightLeftBy (maxHeightOf (now (mesh .entry)) (headerFrom (now (measures .entry)) (now (sizes .entry))) (now (starts .entry)) (now (members .entry)) (now (marks .entry)) stamp px py qx qy r) ⌝ }
+    ensures { λ k. ⌜ (IndexOf (now (mesh .entry)) (headerFrom (now (measures .entry)) (now (sizes .entry))) (now (starts .entry)) (now (members .entry)) → k ≡ 0 → Demand3 (now (mesh .entry)) (headerFrom (now (measures .entry)) (now (sizes .entry))) (now (starts .entry)) (now (members .entry)) (now (marks .entry)) stamp px py qx qy r (answerFrom k (now (found .exit)) (now (counts .exit)))) ⌝ }
 {
     let a = height::max_height(
         mesh,
@@ -334,6 +346,7 @@ pub extern "C" fn mandrikelo_max_bull(
     counts: &mut [u32; 2],
 ) -> u32
     ensures { λ k. ⌜ heightLeft k (now (marks .exit)) (now (found .exit)) (now (counts .exit)) ≡ tipLeftBy (maxBullOf (now (mesh .entry)) (headerFrom (now (measures .entry)) (now (sizes .entry))) (now (starts .entry)) (now (members .entry)) (now (marks .entry)) stamp (record { x = px; y = py; r = r; rc = rc })) ⌝ }
+    ensures { λ k. ⌜ (IndexOf (now (mesh .entry)) (headerFrom (now (measures .entry)) (now (sizes .entry))) (now (starts .entry)) (now (members .entry)) → k ≡ 0 → LookedAll (now (mesh .entry)) (headerFrom (now (measures .entry)) (now (sizes .entry))) (now (starts .entry)) (now (members .entry)) (now (marks .entry)) stamp (patchOf (headerFrom (now (measures .entry)) (now (sizes .entry))) px py px py r) (getD (now (counts .exit)) 0 0)) ⌝ }
 {
     let a = contact::max_bull(
         mesh,
@@ -373,6 +386,7 @@ pub extern "C" fn mandrikelo_max_sections(
     counts: &mut [u32; 2],
 ) -> u32
     ensures { λ k. ⌜ heightLeft k (now (marks .exit)) (now (found .exit)) (now (counts .exit)) ≡ tipLeftBy (maxSectionsOf (now (mesh .entry)) (headerFrom (now (measures .entry)) (now (sizes .entry))) (now (starts .entry)) (now (members .entry)) (now (marks .entry)) stamp px py (now (sections .entry))) ⌝ }
+    ensures { λ k. ⌜ (IndexOf (now (mesh .entry)) (headerFrom (now (measures .entry)) (now (sizes .entry))) (now (starts .entry)) (now (members .entry)) → k ≡ 0 → LookedAll (now (mesh .entry)) (headerFrom (now (measures .entry)) (now (sizes .entry))) (now (starts .entry)) (now (members .entry)) (now (marks .entry)) stamp (patchOf (headerFrom (now (measures .entry)) (now (sizes .entry))) px py px py (widestOf (now (sections .entry)) (sectionsIn (now (sections .entry))))) (getD (now (counts .exit)) 0 0)) ⌝ }
 {
     let a = contact::max_sections(
         mesh,
@@ -416,6 +430,7 @@ pub extern "C" fn mandrikelo_bull_chord_clear(
     counts: &mut [u32; 3],
 ) -> u32
     ensures { λ k. ⌜ verdictLeft k (now (marks .exit)) (now (counts .exit)) ≡ verdictLeftBy (bullChordOf (now (mesh .entry)) (headerFrom (now (measures .entry)) (now (sizes .entry))) (now (starts .entry)) (now (members .entry)) (now (marks .entry)) stamp (record { ax = ax; ay = ay; az = az; bx = bx; by = by; bz = bz; lift = lift }) r rc) ⌝ }
+    ensures { λ k. ⌜ (IndexOf (now (mesh .entry)) (headerFrom (now (measures .entry)) (now (sizes .entry))) (now (starts .entry)) (now (members .entry)) → k ≡ 0 → LookedTo (now (mesh .entry)) (headerFrom (now (measures .entry)) (now (sizes .entry))) (now (starts .entry)) (now (members .entry)) (now (marks .entry)) stamp (patchOf (headerFrom (now (measures .entry)) (now (sizes .entry))) ax ay bx by r) (blockedAtOnce ((headerFrom (now (measures .entry)) (now (sizes .entry))) .floor) (record { ax = ax; ay = ay; az = az; bx = bx; by = by; bz = bz; lift = lift })) (bullBlocksAt (now (mesh .entry)) (record { ax = ax; ay = ay; az = az; bx = bx; by = by; bz = bz; lift = lift }) r rc) (rulingFrom k (now (counts .exit)))) ⌝ }
 {
     let m = Chord {
         ax: ax,
@@ -467,6 +482,7 @@ pub extern "C" fn mandrikelo_sections_chord_clear(
     counts: &mut [u32; 3],
 ) -> u32
     ensures { λ k. ⌜ verdictLeft k (now (marks .exit)) (now (counts .exit)) ≡ verdictLeftBy (sectionsChordOf (now (mesh .entry)) (headerFrom (now (measures .entry)) (now (sizes .entry))) (now (starts .entry)) (now (members .entry)) (now (marks .entry)) stamp (record { ax = ax; ay = ay; az = az; bx = bx; by = by; bz = bz; lift = lift }) (now (sections .entry))) ⌝ }
+    ensures { λ k. ⌜ (IndexOf (now (mesh .entry)) (headerFrom (now (measures .entry)) (now (sizes .entry))) (now (starts .entry)) (now (members .entry)) → k ≡ 0 → LookedTo (now (mesh .entry)) (headerFrom (now (measures .entry)) (now (sizes .entry))) (now (starts .entry)) (now (members .entry)) (now (marks .entry)) stamp (patchOf (headerFrom (now (measures .entry)) (now (sizes .entry))) ax ay bx by (widestOf (now (sections .entry)) (sectionsIn (now (sections .entry))))) (blockedAtOnce ((headerFrom (now (measures .entry)) (now (sizes .entry))) .floor) (record { ax = ax; ay = ay; az = az; bx = bx; by = by; bz = bz; lift = lift })) (toolBlocksAt (now (mesh .entry)) (record { ax = ax; ay = ay; az = az; bx = bx; by = by; bz = bz; lift = lift }) (lowestOf (now (sections .entry)) (sectionsIn (now (sections .entry)))) (now (sections .entry))) (rulingFrom k (now (counts .exit)))) ⌝ }
 {
     let m = Chord {
         ax: ax,
