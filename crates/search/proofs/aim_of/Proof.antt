@@ -4,7 +4,7 @@ use Rattle.search.proofs.aim_of.Tie as tie
 
 returns : tie.Need-returns
 unfolding aimOf
-returns c = cc
+returns c = rw (c .step .ensures)
 
 pub aim-of-spec : {M : Type 1} → statement M
 aim-of-spec = tie.close (tie.spec (λ c κs. tt) returns)
