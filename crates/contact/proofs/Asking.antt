@@ -38,7 +38,7 @@ module _ (mesh : List Float) (h : Header) (starts members marks : List ℕ) (sta
       let i = patch-inside h (k .x) (k .y) (k .x) (k .y) (k .r) in
       height-looks _ _ mesh h starts members marks stamp _ (i .0) (i .1) x (bullStep mesh k) a m e z
 
-  tool-looks : (x y : Float) (table : List Float) → ended a m ≡ maxSectionsOf mesh h starts members marks stamp x y table → IndexOf mesh h starts members → a .refusal ≡ 0 → LookedAll mesh h starts members marks stamp (patchOf h x y x y (widestOf table (sectionsIn table))) (a .count)
+  pub tool-looks : (x y : Float) (table : List Float) → ended a m ≡ maxSectionsOf mesh h starts members marks stamp x y table → IndexOf mesh h starts members → a .refusal ≡ 0 → LookedAll mesh h starts members marks stamp (patchOf h x y x y (widestOf table (sectionsIn table))) (a .count)
   unfolding maxSectionsOf
   tool-looks x y table e d z =
       let i = patch-inside h x y x y (widestOf table (sectionsIn table)) in

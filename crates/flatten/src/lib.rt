@@ -14,7 +14,7 @@ pub struct Table {
 
 // The numbers of up to 32 sections; none of a longer slice.
 pub fn flat(sections: &[Section]) -> Table
-    ensures { λ t. ⌜ (t .count ≤ 128) × (heldIn t ≡ flatOf (take (copiedOf (length (now (sections .entry)))) (now (sections .entry)))) ⌝ }
+    ensures { λ t. ⌜ (t .count ≤ length (t .numbers)) × (heldIn t ≡ flatOf (take (copiedOf (length (now (sections .entry)))) (now (sections .entry)))) ⌝ }
 {
     let n = copied(sections.len());
     let mut t = empty();

@@ -182,7 +182,7 @@ module _ {M : Type 1} (𝓤 : URA M) (H : Heap 𝓤) (A : Atoms 𝓤) (W : Given
   exits s e =
       qed W (Tokens ∷ ‵ Own ∷ []) ∵
       suffices ! _ (ends-at 𝓤 H A f.ended stayed (f.clauses 𝓤 H A mem run) W (((κ, tt), (q, tt), tt, (x, tt), (v ∷ [], tt)), tt) (s .val) (s .table) (tt, tt) (tt, tt)) $
-      says ! (omega (arith, copied-few (length ys), s .count), s .held ∙ ap (λ (j : ℕ). flatOf (take j ys)) e) $
+      says ! (omega (arith, copied-few (length ys), s .count, s .room), s .held ∙ ap (λ (j : ℕ). flatOf (take j ys)) e) $
       frame ! $ nothing ! $ move ! (1 ∷ 0 ∷ []) $ fjoin ! $ frame ! $ owned ! B.the-row (Is B.the-row) ((LL.makes B.the-type B′.the-plain) 𝓤 H A) (s .table) _ (s .is) $ done !
 
   module _ (𝓣 : Tables 𝓤 H) (fm : FmC 𝓤 H (W .laws) (𝓣 .C)) (gn : Room T.the-row (length ys)) (known-at : Triple 𝓤 (𝓣 .C #flatten·at) (At 𝓤 H A mem run)) (known-push : Triple 𝓤 (𝓣 .C #flatten·push) (Push 𝓤 H A mem run)) (l₀ l₁ l₂ l₃ l₄ l₅ l₆ l₇ : ℕ) where

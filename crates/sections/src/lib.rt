@@ -1,0 +1,105 @@
+// The section questions over a lent slice of sections: thin functions over those of a flat table. The borrow checker covers no function that takes a slice of
+// structs, so `max_sections` and `sections_chord_clear` are proved by a walk of their code by hand; the work is done by the others.
+ghost use mathlib.Core.Path.{_≡_};
+ghost use Prim.Native.Nat.{_≤_};
+ghost use lib.ListN.{length};
+ghost use Rattle.query.specs.Patch.{patchOf};
+ghost use Rattle.query.specs.Looked.{IndexOf};
+ghost use Rattle.ask.specs.Ask.{ended};
+ghost use Rattle.ask.specs.Demand.{LookedAll, LookedTo};
+ghost use Rattle.tool.specs.Tool.{sectionsIn, widestOf, lowestOf};
+ghost use Rattle.contact.specs.Contact.{maxSectionsOf};
+ghost use Rattle.chords.specs.Chords.{blockedAtOnce, toolBlocksAt, sectionsChordOf};
+ghost use Rattle.flatten.specs.Flat.{flatOf, heldIn};
+use ask::Answer;
+use ask::Ruling;
+use flatten::Table;
+use grid::Header;
+use reach::Chord;
+use section::Section;
+
+// The highest tip of a tool of the sections at (px, py), or why the question is refused.
+pub fn max_sections(
+    mesh: &[f64],
+    h: Header,
+    starts: &[u32],
+    members: &[u32],
+    marks: &mut [u32],
+    stamp: u32,
+    px: f64,
+    py: f64,
+    sections: &[Section],
+) -> Answer
+    ensures { λ a. ⌜ ended a (now (marks .exit)) ≡ maxSectionsOf (now (mesh .entry)) h (now (starts .entry)) (now (members .entry)) (now (marks .entry)) stamp px py (flatOf (now (sections .entry))) ⌝ }
+    ensures { λ a. ⌜ (IndexOf (now (mesh .entry)) h (now (starts .entry)) (now (members .entry)) → a .refusal ≡ 0 → LookedAll (now (mesh .entry)) h (now (starts .entry)) (now (members .entry)) (now (marks .entry)) stamp (patchOf h px py px py (widestOf (flatOf (now (sections .entry))) (sectionsIn (flatOf (now (sections .entry)))))) (a .count)) ⌝ }
+{
+    let t = flatten::flat(sections);
+    max_over(mesh, h, starts, members, marks, stamp, px, py, t)
+}
+
+// Whether a tool of the sections is clear from the tip a to the tip b, or why the question is refused.
+pub fn sections_chord_clear(
+    mesh: &[f64],
+    h: Header,
+    starts: &[u32],
+    members: &[u32],
+    marks: &mut [u32],
+    stamp: u32,
+    m: Chord,
+    sections: &[Section],
+) -> Ruling
+    ensures { λ a. ⌜ ended a (now (marks .exit)) ≡ sectionsChordOf (now (mesh .entry)) h (now (starts .entry)) (now (members .entry)) (now (marks .entry)) stamp m (flatOf (now (sections .entry))) ⌝ }
+    ensures { λ a. ⌜ (IndexOf (now (mesh .entry)) h (now (starts .entry)) (now (members .entry)) → a .refusal ≡ 0 → LookedTo (now (mesh .entry)) h (now (starts .entry)) (now (members .entry)) (now (marks .entry)) stamp (patchOf h (m .ax) (m .ay) (m .bx) (m .by) (widestOf (flatOf (now (sections .entry))) (sectionsIn (flatOf (now (sections .entry)))))) (blockedAtOnce (h .floor) m) (toolBlocksAt (now (mesh .entry)) m (lowestOf (flatOf (now (sections .entry))) (sectionsIn (flatOf (now (sections .entry))))) (flatOf (now (sections .entry)))) a) ⌝ }
+{
+    let t = flatten::flat(sections);
+    chord_over(mesh, h, starts, members, marks, stamp, m, t)
+}
+
+// The highest tip of a tool of the sections whose numbers a table holds.
+fn max_over(
+    mesh: &[f64],
+    h: Header,
+    starts: &[u32],
+    members: &[u32],
+    marks: &mut [u32],
+    stamp: u32,
+    px: f64,
+    py: f64,
+    t: Table,
+) -> Answer
+    requires { ⌜ t .count ≤ length (t .numbers) ⌝ }
+    ensures { λ a. ⌜ ended a (now (marks .exit)) ≡ maxSectionsOf (now (mesh .entry)) h (now (starts .entry)) (now (members .entry)) (now (marks .entry)) stamp px py (heldIn t) ⌝ }
+{
+    let numbers = t.numbers;
+    let n = t.count;
+    contact::max_sections(
+        mesh,
+        h,
+        starts,
+        members,
+        marks,
+        stamp,
+        px,
+        py,
+        &numbers[..n],
+    )
+}
+
+// Whether a tool of the sections whose numbers a table holds is clear.
+fn chord_over(
+    mesh: &[f64],
+    h: Header,
+    starts: &[u32],
+    members: &[u32],
+    marks: &mut [u32],
+    stamp: u32,
+    m: Chord,
+    t: Table,
+) -> Ruling
+    requires { ⌜ t .count ≤ length (t .numbers) ⌝ }
+    ensures { λ a. ⌜ ended a (now (marks .exit)) ≡ sectionsChordOf (now (mesh .entry)) h (now (starts .entry)) (now (members .entry)) (now (marks .entry)) stamp m (heldIn t) ⌝ }
+{
+    let numbers = t.numbers;
+    let n = t.count;
+    chords::sections_chord_clear(mesh, h, starts, members, marks, stamp, m, &numbers[..n])
+}
