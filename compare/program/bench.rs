@@ -31,9 +31,15 @@ fn used<T>(answer: T) {
     black_box(answer);
 }
 
+/// Whether a row was asked for: `bench WORD..` times the rows whose name has one of the words, `bench` alone all of them.
+fn wanted(name: &str) -> bool {
+    let words: Vec<String> = std::env::args().skip(2).collect();
+    words.is_empty() || words.iter().any(|w| name.contains(w.as_str()))
+}
+
 /// One row: each closure makes `calls` calls. Rounds go on until `rounds` are done and a quarter of a second is spent.
 fn row(name: &str, doors: &[&str], rounds: usize, calls: usize, each: [&mut dyn FnMut(); 3]) {
-    if doors.iter().any(|d| MISSING.contains(d)) {
+    if doors.iter().any(|d| MISSING.contains(d)) || !wanted(name) {
         return;
     }
     let mut times = [vec![], vec![], vec![]];

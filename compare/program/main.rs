@@ -2,7 +2,7 @@
 //!
 //!     compare run  [--cases N] [--seed S] [--part NAME] [--case 'LINE']
 //!     compare fuzz [--cases N] [--seed S] [--part NAME]
-//!     compare bench
+//!     compare bench [WORD..]
 
 mod bench;
 mod case;

@@ -1,6 +1,8 @@
 // Whether a triangle blocks a bull-nose cutter on a chord.
 ghost use mathlib.Core.Path.{_≡_};
-ghost use Rattle.golden.specs.Search.{rises, goldenStart, goldenStep, goldenMax};
+ghost use lib.Ieee.{lt};
+ghost use Rattle.numbers.specs.Reals.{f0};
+ghost use Rattle.golden.specs.Search.{rises, goldenStart, goldenStep, goldenAt, goldenMax};
 ghost use Rattle.bull_gap.specs.Blocks.{bullGap, bullSearched, bullBlocks};
 use bull::Bull;
 use golden::Golden;
@@ -26,19 +28,35 @@ fn searched(t: Triangle, m: Chord, r: f64, rc: f64, s: Stretch) -> bool
 {
     match s {
         Stretch::Nowhere => false,
-        Stretch::Between(s0, s1) => search(t, m, r, rc, s0, s1) > 0.0,
+        Stretch::Between(s0, s1) => stands(t, m, r, rc, s0, s1),
     }
 }
 
-// How far the contact, lifted, stands above the tip at most between two places of the chord.
-fn search(t: Triangle, m: Chord, r: f64, rc: f64, lo: f64, hi: f64) -> f64
-    ensures { λ z. ⌜ z ≡ goldenMax (bullGap t m r rc) lo hi 40 ⌝ }
+// Whether the contact, lifted, stands above the tip between two places of the chord. Where it does at one of the two, no search is needed.
+fn stands(t: Triangle, m: Chord, r: f64, rc: f64, lo: f64, hi: f64) -> bool
+    ensures { λ b. ⌜ b ≡ lt f0 (goldenMax (bullGap t m r rc) lo hi 40) ⌝ }
+{
+    let low = gap(t, m, r, rc, lo);
+    if low > 0.0 {
+        return true;
+    }
+    let high = gap(t, m, r, rc, hi);
+    if numbers::max(low, high) > 0.0 {
+        return true;
+    }
+    let g = search(t, m, r, rc, lo, hi);
+    golden::best(low, high, g.f1, g.f2) > 0.0
+}
+
+// The last bracket of the search for how far it stands above at most.
+fn search(t: Triangle, m: Chord, r: f64, rc: f64, lo: f64, hi: f64) -> Golden
+    ensures { λ g. ⌜ g ≡ goldenAt rises (bullGap t m r rc) lo hi 40 ⌝ }
 {
     let mut g = start(t, m, r, rc, lo, hi);
     for n in 0..40usize {
         g = step(t, m, r, rc, g);
     }
-    golden::best(gap(t, m, r, rc, lo), gap(t, m, r, rc, hi), g.f1, g.f2)
+    g
 }
 
 // The search's first bracket.

@@ -1,5 +1,5 @@
 use Prim.Native.Nat.{_≤_, _-_}
-use mathlib.Core.Path.{_≡_}
+use mathlib.Core.Path.{_≡_, ap, _∙_}
 use borrow.Author.Needs.{needs}
 use native.Mathlib.Omega.{arith}
 use Rattle.golden.specs.Search.{rises, goldenAt}
@@ -21,9 +21,7 @@ loop-again : tie.Need-loop-again Inv-loop μ-loop
 loop-again c = (search search-laws, search needs)
 
 returns : tie.Need-returns Inv-loop μ-loop
-returns c = search search-laws
+returns c = let e : c .before .loop .n ≡ 40 = omega arith in c .before .loop .inv .0 ∙ ap (goldenAt rises _ _ _) e
 
 pub search-spec : {M : Type 1} → statement M
-search-spec =
-    tie.close
-    (tie.spec Inv-loop μ-loop (λ c κs. tt) loop-holds (λ c κs. tt) (λ c. omega arith) (λ c. omega arith) loop-again (λ c κs. tt) (λ c κs. tt) (λ c κs. tt) returns)
+search-spec = tie.close (tie.spec Inv-loop μ-loop (λ c κs. tt) loop-holds (λ c κs. tt) (λ c. omega arith) (λ c. omega arith) loop-again returns)

@@ -1,7 +1,5 @@
 use borrow.Author.Needs.{needs}
 use mathlib.Core.Path.{_≡_, refl, ap, sym, _∙_}
-use lib.Ieee.{lt}
-use Rattle.numbers.specs.Reals.{f0}
 use Rattle.bull_gap.specs.Blocks.{bullSearched}
 use Rattle.bull_gap.proofs.searched.Statement.{statement}
 use Rattle.bull_gap.proofs.searched.Tie as tie
@@ -12,7 +10,7 @@ returns c = ap (bullSearched _ _ _ _) (sym (c .enum-told .given .1))
 
 returns-2 : tie.Need-returns-2
 unfolding bullSearched
-returns-2 c = ap (lt f0) (c .search .ensures) ∙ ap (bullSearched _ _ _ _) (sym (c .before .before .s .given .1))
+returns-2 c = c .stands .ensures ∙ ap (bullSearched _ _ _ _) (sym (c .before .before .s .given .1))
 
 pub searched-spec : {M : Type 1} → statement M
 searched-spec = tie.close (tie.spec (λ c. search needs) (λ c. search needs) (λ c κs. tt) returns returns-2)
