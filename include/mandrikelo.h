@@ -10,10 +10,10 @@
  *
  * A mesh is 9 numbers a triangle: x, y, z of its three corners. A section is 4 numbers: z0, r0, r1, rise.
  *
- * The functions that answer uint32_t answer 0, or a refusal number. A refusal leaves lent tables untouched and sets fixed results to
- * zero, the stamp to the one handed:
+ * The functions that answer uint32_t answer 0, or a refusal number. A refusal leaves lent tables untouched (exceptions: 10 to 13)
+ * and sets fixed results to zero, the stamp to the one handed:
  *
- *    1  the mesh's length is no multiple of 9 or over 65,536 triangles; in questions: marks_len is not the mesh's n
+ *    1  the mesh's length is no multiple of 9 or over 65,536 triangles; in questions and plan: marks_len is not the mesh's n
  *    2  a question's number, r or floor outside its range (points 3e6, radii 0 to 1e6, lift and floor 1e6 in magnitude)
  *    3  the mesh is empty
  *    4  a coordinate is not finite, or its magnitude is over 1e6
@@ -21,9 +21,16 @@
  *    6  members over 16,777,216 or over members_len
  *    7  measures, sizes and tables are not an index of this mesh, as far as the call looks; or a mark lies above the stamp
  *    8  no section, not four numbers each, over 32, an invalid one; or the corner radius is not within 0 to r
+ *    9  a parameter of the plan
+ *   10  a level lies above the stock's top, or deeper than the cutting length less 16 tolerances
+ *   11  more levels than room
+ *   12  over 65,535 intervals or samples on a level
+ *   13  more joined runs than room
  *   14  the job has under 30 bytes               15  its mark is not "FTM"           16  its version is not 1
  *   17  its sixth byte is not 0                  18  no triangle, or too many triangles or questions
  *   19  its length is not what its counts ask    20  a number in it is not finite
+ *
+ * 10 to 13 leave levels, runs and marks all zero.
  */
 #ifndef MANDRIKELO_H
 #define MANDRIKELO_H
@@ -81,6 +88,18 @@ uint32_t mandrikelo_sections_chord_clear(const double *mesh, size_t mesh_len, co
     double ax, double ay, double az, double bx, double by, double bz, double lift,
     const double *sections, size_t sections_len,
     uint32_t counts[3]);
+
+/* The flat runs, with the radius of the index. `levels` (z, low x, low y, high x, high y) and `runs` (ax, ay, bx, by, z) hold five
+ * numbers each, and zeros where they are not used. `marks` is one entry a triangle, whatever it holds, and all zero afterwards.
+ * Refusals in their order: 1, 9, 7 (every cell and every triangle, no mark), 11, 10, 12, 13. A count over 4,294,967,295 is told as
+ * 4,294,967,295; only the rows of 65,536 levels of 65,536 rows each, or runs in a table of 160 GB, could come to it. */
+uint32_t mandrikelo_plan(const double *mesh, size_t mesh_len, const double measures[6], const uint32_t sizes[3],
+    const uint32_t *starts, size_t starts_len, const uint32_t *members, size_t members_len,
+    uint32_t *marks, size_t marks_len,
+    const double parameters[7] /* tolerance, level tolerance, stepover, stock to leave, stock bottom, stock top, cutting length */,
+    uint32_t axis /* 0 X, 1 Y, else 9 */,
+    double *levels, size_t levels_len, double *runs, size_t runs_len,
+    double lengths[2] /* cut, dropped */, uint32_t counts[3] /* levels, rows, runs */);
 
 /* A job file (docs: "The job file"). `mesh` gets 9 numbers a triangle, `questions` 5 each (px, py, qx, qy, r); entries beyond those
  * keep what they held. */

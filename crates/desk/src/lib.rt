@@ -15,6 +15,8 @@ ghost use Rattle.section.specs.Section.{sectionContact};
 ghost use Rattle.desk.specs.Doors.{jobLeft, jobLeftBy, contactLeft, contactLeftBy, sectionFrom, builtLeft, builtLeftBy, headerFrom, heightLeft, heightLeftBy, answerFrom, tipLeftBy, verdictLeft, verdictLeftBy, rulingFrom};
 ghost use Rattle.grid.specs.Build.{buildOf};
 ghost use Rattle.grid.specs.Indexed.{Indexed};
+ghost use Rattle.grid.specs.Ladder.{demand};
+ghost use Rattle.query.specs.Asked.{isMarked};
 ghost use Rattle.query.specs.Patch.{patchOf};
 ghost use Rattle.query.specs.Looked.{IndexOf};
 ghost use Rattle.height.specs.Height.{maxHeightOf};
@@ -23,13 +25,18 @@ ghost use Rattle.ask.specs.Demand.{LookedAll, LookedTo};
 ghost use Rattle.tool.specs.Tool.{widestOf, lowestOf, sectionsIn};
 ghost use Rattle.contact.specs.Contact.{maxBullOf, maxSectionsOf};
 ghost use Rattle.chords.specs.Chords.{bullChordOf, sectionsChordOf, blockedAtOnce, bullBlocksAt, toolBlocksAt};
+ghost use Rattle.plan.specs.Plan.{outcome, refusedBy};
+ghost use Rattle.desk.specs.Plans.{parametersFrom, planAlong, narrowed, planLeft, planLeftBy};
 ghost use Rattle.plane.specs.Mesh.{triangleOf};
 ghost use Rattle.plane.specs.Distance.{dist2ToSegment, distanceXy};
 use bull::Bull;
 use grid::Header;
+use plan::Planned;
 use plane::Contact;
 use reach::Chord;
+use rows::Axis;
 use section::Section;
+use terms::Parameters;
 
 // The square root, rounded to the nearest f64.
 #[no_mangle]
@@ -509,5 +516,111 @@ pub extern "C" fn mandrikelo_sections_chord_clear(
     let next = a.stamp;
     let verdict = ask::finding_number(finding);
     *counts = [verdict, count, next];
+    k
+}
+
+// The plan's parameters from their seven numbers.
+fn parameters_from(numbers: &[f64; 7]) -> Parameters
+    ensures { λ p. ⌜ p ≡ parametersFrom (now (numbers .entry)) ⌝ }
+{
+    Parameters {
+        tolerance: numbers[0],
+        level_tolerance: numbers[1],
+        stepover: numbers[2],
+        stock_to_leave: numbers[3],
+        stock_bottom: numbers[4],
+        stock_top: numbers[5],
+        cutting_length: numbers[6],
+    }
+}
+
+// A count as C gets it.
+fn narrow(n: usize) -> u32
+    ensures { λ r. ⌜ r ≡ narrowed n ⌝ }
+{
+    if n <= 4294967295 {
+        n as u32
+    } else {
+        4294967295
+    }
+}
+
+// A refused plan: its number, zero counts and lengths.
+fn refused(k: u32) -> Planned
+    ensures { λ a. ⌜ a ≡ refusedBy k ⌝ }
+{
+    Planned {
+        refusal: k,
+        levels: 0,
+        rows: 0,
+        runs: 0,
+        cut: 0.0,
+        dropped: 0.0,
+    }
+}
+
+// The refusal of an axis that is neither X nor Y: 9, unless 1 comes first.
+fn no_axis(mesh: &[f64], marks: &[u32]) -> u32
+    ensures { λ k. ⌜ k ≡ demand (isMarked (now (mesh .entry)) (now (marks .entry))) 1 9 ⌝ }
+{
+    if !query::is_marked(mesh, marks) {
+        return 1;
+    }
+    9
+}
+
+// The plan along the axis of that number.
+fn plan_along(
+    mesh: &[f64],
+    h: Header,
+    starts: &[u32],
+    members: &[u32],
+    marks: &mut [u32],
+    levels: &mut [f64],
+    runs: &mut [f64],
+    p: Parameters,
+    axis: u32,
+) -> Planned
+    ensures { λ a. ⌜ outcome a (now (levels .exit)) (now (runs .exit)) (now (marks .exit)) ≡ planAlong (now (mesh .entry)) h (now (starts .entry)) (now (members .entry)) (now (marks .entry)) (now (levels .entry)) (now (runs .entry)) p axis ⌝ }
+{
+    if axis == 0 {
+        return plan::plan(mesh, h, starts, members, marks, levels, runs, p, Axis::X);
+    }
+    if axis == 1 {
+        return plan::plan(mesh, h, starts, members, marks, levels, runs, p, Axis::Y);
+    }
+    refused(no_axis(mesh, marks))
+}
+
+// The flat runs of a mesh: levels and runs get their tables, lengths the cut and the dropped length, counts the numbers of levels, rows
+// and runs.
+#[no_mangle]
+pub extern "C" fn mandrikelo_plan(
+    mesh: &[f64],
+    measures: &[f64; 6],
+    sizes: &[u32; 3],
+    starts: &[u32],
+    members: &[u32],
+    marks: &mut [u32],
+    parameters: &[f64; 7],
+    axis: u32,
+    levels: &mut [f64],
+    runs: &mut [f64],
+    lengths: &mut [f64; 2],
+    counts: &mut [u32; 3],
+) -> u32
+    ensures { λ k. ⌜ planLeft k (now (levels .exit)) (now (runs .exit)) (now (marks .exit)) (now (lengths .exit)) (now (counts .exit)) ≡ planLeftBy (planAlong (now (mesh .entry)) (headerFrom (now (measures .entry)) (now (sizes .entry))) (now (starts .entry)) (now (members .entry)) (now (marks .entry)) (now (levels .entry)) (now (runs .entry)) (parametersFrom (now (parameters .entry))) axis) ⌝ }
+{
+    let h = header_from(measures, sizes);
+    let p = parameters_from(parameters);
+    let a = plan_along(mesh, h, starts, members, marks, levels, runs, p, axis);
+    let k = a.refusal;
+    let cut = a.cut;
+    let dropped = a.dropped;
+    let level_count = narrow(a.levels);
+    let row_count = narrow(a.rows);
+    let run_count = narrow(a.runs);
+    *lengths = [cut, dropped];
+    *counts = [level_count, row_count, run_count];
     k
 }
