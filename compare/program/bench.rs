@@ -384,23 +384,28 @@ fn plans() {
         let mut marks = vec![0u32; bed.mesh.len() / 9];
         let (mut levels, mut runs) = (vec![0.; 500], vec![0.; 100_000]);
         let mut lengths = [0.; 2];
-        let name = format!("plan, {} triangles, stepover {stepover}", bed.mesh.len() / 9);
+        let (mut starts, mut members) = (bed.handed.starts.clone(), bed.handed.members.clone());
+        let (mut measures, mut sizes) = ([0.; 6], [0; 3]);
+        let name = format!("build and plan, {} triangles, stepover {stepover}", bed.mesh.len() / 9);
         row(
             &name, &["plan"], 5, 1,
             [
                 &mut || {
                     let (l, r) = (levels.as_mut_ptr(), runs.as_mut_ptr());
-                    let h = &bed.handed;
                     let mut counts = [0u32; 3];
+                    // camlib's plan builds its index too
                     black_box(unsafe {
+                        raw::mandrikelo_build(
+                            bed.mesh.as_ptr(), bed.mesh.len(), FLOOR, RADIUS, starts.as_mut_ptr(), starts.len(),
+                            members.as_mut_ptr(), members.len(), measures.as_mut_ptr(), sizes.as_mut_ptr(),
+                        );
                         raw::mandrikelo_plan(
-                            bed.mesh.as_ptr(), bed.mesh.len(), h.measures.as_ptr(), h.sizes.as_ptr(), h.starts.as_ptr(),
-                            h.starts.len(), h.members.as_ptr(), h.members.len(), marks.as_mut_ptr(), marks.len(),
+                            bed.mesh.as_ptr(), bed.mesh.len(), measures.as_ptr(), sizes.as_ptr(), starts.as_ptr(),
+                            starts.len(), members.as_ptr(), members.len(), marks.as_mut_ptr(), marks.len(),
                             parameters.as_ptr(), 0, l, 500, r, 100_000, lengths.as_mut_ptr(), counts.as_mut_ptr(),
                         )
                     });
                 },
-                // camlib's plan builds its index too; ours takes one that is built.
                 &mut || used(shipped::plan(&as_shipped, FLOOR, RADIUS, &parameters, 0, 100).refusal),
                 &mut || used(doc::plan(&as_doc, FLOOR, RADIUS, &parameters, 0, 100).refusal),
             ],
