@@ -1,0 +1,98 @@
+/* Prints the plan of a job file's mesh as a listing, for people and for examples/draw:
+ *
+ *     plan JOB x|y TOLERANCE LEVEL_TOLERANCE STEPOVER STOCK_TO_LEAVE STOCK_BOTTOM STOCK_TOP CUTTING_LENGTH
+ *
+ * To build it: rt staticlib desk && cc -Iinclude examples/plan.c target/staticlib/libdesk.a -o target/plan
+ *
+ * A line an entry: axis, floor, radius, parameters, then each triangle, level and run, the number of rows, the cut length and the
+ * dropped length. Every number is printed with 17 digits, so that it can be read back to the bit. The job's questions are not used.
+ * A refusal is told as `WHO refused NUMBER`, and the status is then 1. */
+#include <stdio.h>
+#include <stdlib.h>
+#include <string.h>
+
+#include "mandrikelo.h"
+
+enum { MOST = 65536, CELLS = 1048576, MEMBERS = 16777216, RUNS = 1000000 };
+
+static void *room(size_t entries, size_t size)
+{
+    void *p = calloc(entries + 1, size);
+    if (!p) {
+        fprintf(stderr, "plan: no memory\n");
+        exit(2);
+    }
+    return p;
+}
+
+static void row(const char *name, const double *x, size_t n)
+{
+    printf("%s", name);
+    for (size_t i = 0; i < n; i++)
+        printf(" %.17g", x[i]);
+    printf("\n");
+}
+
+static void rows(const char *name, const double *x, size_t many, size_t width)
+{
+    for (size_t i = 0; i < many; i++)
+        row(name, x + i * width, width);
+}
+
+static void passed(const char *who, uint32_t refusal)
+{
+    if (refusal) {
+        printf("%s refused %u\n", who, (unsigned)refusal);
+        exit(1);
+    }
+}
+
+int main(int argc, char **argv)
+{
+    if (argc != 10) {
+        fprintf(stderr, "plan JOB x|y TOLERANCE LEVEL_TOLERANCE STEPOVER STOCK_TO_LEAVE STOCK_BOTTOM STOCK_TOP CUTTING_LENGTH\n");
+        return 2;
+    }
+    double parameters[7];
+    for (int i = 0; i < 7; i++)
+        parameters[i] = strtod(argv[3 + i], NULL);
+    uint32_t axis = !strcmp(argv[2], "x") ? 0 : !strcmp(argv[2], "y") ? 1 : 2;
+
+    size_t most = 30 + 72 * (size_t)MOST + 40 * (size_t)MOST + 1;
+    uint8_t *bytes = room(most, 1);
+    FILE *file = fopen(argv[1], "rb");
+    if (!file) {
+        perror(argv[1]);
+        return 2;
+    }
+    size_t length = fread(bytes, 1, most, file);
+    fclose(file);
+
+    double *mesh = room(9 * (size_t)MOST, sizeof *mesh), *questions = room(5 * (size_t)MOST, sizeof *questions);
+    double place[2];
+    uint32_t read[2];
+    passed("job", mandrikelo_read_job(bytes, length, mesh, 9 * (size_t)MOST, questions, 5 * (size_t)MOST, place, read));
+
+    uint32_t n = read[0];
+    uint32_t *starts = room(CELLS + 1, sizeof *starts), *members = room(MEMBERS, sizeof *members);
+    double measures[6];
+    uint32_t sizes[3];
+    passed("build", mandrikelo_build(mesh, 9 * (size_t)n, place[0], place[1], starts, CELLS + 1, members, MEMBERS, measures, sizes));
+
+    uint32_t *marks = room(n, sizeof *marks), counts[3];
+    double *levels = room(5 * (size_t)n, sizeof *levels), *runs = room(5 * (size_t)RUNS, sizeof *runs), lengths[2];
+    passed("plan", mandrikelo_plan(mesh, 9 * (size_t)n, measures, sizes, starts, CELLS + 1, members, MEMBERS, marks, n, parameters, axis,
+        levels, 5 * (size_t)n, runs, 5 * (size_t)RUNS, lengths, counts));
+
+    printf("axis %s\n", argv[2]);
+    row("floor", place, 1);
+    row("radius", place + 1, 1);
+    row("parameters", parameters, 7);
+    rows("triangle", mesh, n, 9);
+    rows("level", levels, counts[0], 5);
+    rows("run", runs, counts[2], 5);
+    printf("rows %u\n", (unsigned)counts[1]);
+    row("cut", lengths, 1);
+    row("dropped", lengths + 1, 1);
+    return 0;
+}
