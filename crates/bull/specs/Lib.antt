@@ -1,1 +1,2 @@
 pub mod Bull
+pub mod Cap

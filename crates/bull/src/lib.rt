@@ -1,5 +1,8 @@
 // A bull-nose cutter: its profile, and its contact with one triangle.
 ghost use mathlib.Core.Path.{_≡_};
+ghost use Rattle.numbers.specs.Reals.{maxOf};
+ghost use Rattle.plane.specs.Contacts.{takeOf};
+ghost use Rattle.touch.specs.Touch.{offerOf};
 ghost use Rattle.golden.specs.Search.{rises, goldenStart, goldenStep, goldenMax};
 ghost use Rattle.bull.specs.Bull.{bullProfile, bullOver, bullVertex, bullVertices, bullAt, bullStretch, bestSoFar, tooLow, bullEdge, bullEdges, bullSloped, bullRest, bullFacet, bullContactAbove, bullContact};
 use golden::Golden;
@@ -10,6 +13,8 @@ use touch::Facing;
 use touch::Gradient;
 use touch::Rest;
 use touch::Stretch;
+
+mod cap;
 
 const MINUS_ONE: f64 = -1.0;
 
@@ -91,7 +96,7 @@ fn edge(k: Bull, floor: f64, c: Contact, e: Edge) -> Contact
     if too_low(floor, c, e) {
         return c;
     }
-    touch::offer(c, stretch_of(k, e, touch::reached(e, k.x, k.y, k.r)))
+    stretch_on(k, e, c, touch::reached(e, k.x, k.y, k.r))
 }
 
 // Whether an edge's higher end is not above the floor and the best so far.
@@ -111,14 +116,34 @@ fn best_so_far(c: Contact) -> f64
     }
 }
 
-// The best of an edge's stretch.
-fn stretch_of(k: Bull, e: Edge, s: Stretch) -> Contact
-    ensures { λ c. ⌜ c ≡ bullStretch k e s ⌝ }
+// The contact c with the best of an edge's stretch.
+fn stretch_on(k: Bull, e: Edge, c: Contact, s: Stretch) -> Contact
+    ensures { λ r. ⌜ r ≡ offerOf c (bullStretch k e s) ⌝ }
 {
     match s {
-        Stretch::Nowhere => Contact::Nothing,
-        Stretch::Between(t0, t1) => Contact::Height(search(k, e, t0, t1)),
+        Stretch::Nowhere => c,
+        Stretch::Between(t0, t1) => raised(k, e, c, t0, t1),
     }
+}
+
+// The contact c with the largest tip's height between two places of an edge.
+fn raised(k: Bull, e: Edge, c: Contact, lo: f64, hi: f64) -> Contact
+    ensures { λ r. ⌜ r ≡ takeOf c (goldenMax (bullAt k e) lo hi 40) ⌝ }
+{
+    match c {
+        Contact::Nothing => Contact::Height(search(k, e, lo, hi)),
+        Contact::Height(b) => Contact::Height(higher(k, e, b, lo, hi)),
+    }
+}
+
+// The higher of b and that height. Where no place of the edge exceeds b there is no search.
+fn higher(k: Bull, e: Edge, b: f64, lo: f64, hi: f64) -> f64
+    ensures { λ r. ⌜ r ≡ maxOf b (goldenMax (bullAt k e) lo hi 40) ⌝ }
+{
+    if cap::skips(k, e, b, lo, hi) {
+        return b;
+    }
+    numbers::max(b, search(k, e, lo, hi))
 }
 
 // The largest tip's height between two places of an edge.

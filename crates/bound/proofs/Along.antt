@@ -1,0 +1,151 @@
+-- A coordinate between its values at 0 and 1, and what small numbers make.
+use mathlib.Core.Bool.{Bool, true, false, not, cond}
+use mathlib.Core.Path.{_≡_, refl, ap, sym, _∙_}
+use Prim.Native.Nat.{ℕ, _+_, _*_, _≤_, _<_}
+use native.Mathlib.Omega.{arith}
+use lib.Dec.{T, eqb}
+use lib.IntN.{pos}
+use lib.Ieee.{Float, nan, inf, fin, binary64, unlike, sum, round, add, sub, mul, neg, lt, le, fits, ofBits}
+use lib.Ieee.Scale.{finite}
+use Rattle.numbers.specs.Reals.{_⊕_, _⊖_, _⊗_, f0, f1, million, minOf, maxOf}
+use Rattle.numbers.proofs.Branches.{either}
+use Rattle.spans.proofs.Ranges.{finite-between, sub-mono}
+use Rattle.spans.proofs.Sizes.{by-test, either-of, le-self, not-below, max-least}
+use Rattle.spans.proofs.Extremes.{min-either, max-first}
+use Rattle.bound.specs.Nearer.{nearerOf}
+use Rattle.bound.proofs.Order.{O, le-trans, sub-turns, add-left, add-right, mul-up, mul-down, no-lower, no-upper, square-up, square-down}
+use Rattle.bound.proofs.Roots.{lt-le, min-first, min-second, nearest-square}
+use Rattle.bound.proofs.Unit.{I, Unit, unit-finite}
+
+-- ---- what a finite result tells of its parts
+pub add-parts : (x y : Float) → T (finite (add binary64 x y)) → T (finite x) × T (finite y)
+unfolding add
+add-parts nan y h = absurd h
+add-parts (inf s) nan h = absurd h
+add-parts (inf true) (inf true) h = absurd h
+add-parts (inf true) (inf false) h = absurd h
+add-parts (inf false) (inf true) h = absurd h
+add-parts (inf false) (inf false) h = absurd h
+add-parts (inf s) (fin t n d) h = absurd h
+add-parts (fin s m e) nan h = absurd h
+add-parts (fin s m e) (inf t) h = absurd h
+add-parts (fin s m e) (fin t n d) h = (tt, tt)
+
+pub sub-parts : (x y : Float) → T (finite (sub binary64 x y)) → T (finite x) × T (finite y)
+unfolding sub neg
+sub-parts x nan h = absurd (add-parts x nan h .1)
+sub-parts x (inf s) h = absurd (add-parts x (inf (not s)) h .1)
+sub-parts x (fin t n d) h = (add-parts x (fin (not t) n d) h .0, tt)
+
+never : (b : Bool) (s : Bool) → T (finite (cond b nan (inf s))) → ⊥
+never true s h = h
+never false s h = h
+
+pub mul-part : (x y : Float) → T (finite x) → T (finite (mul binary64 x y)) → T (finite y)
+unfolding mul
+mul-part nan y p h = absurd p
+mul-part (inf s) y p h = absurd p
+mul-part (fin s m e) nan p h = absurd h
+mul-part (fin s m e) (inf t) p h = absurd (never (eqb m 0) (unlike s t) h)
+mul-part (fin s m e) (fin t n d) p h = tt
+
+-- ---- between two places
+abbrev pub at : Float → Float → Float → Float
+at a b t = a ⊕ t ⊗ (b ⊖ a)
+
+pub record Between (p q s : Float) : Type 0 where
+  pub low : T (le (minOf p q) s)
+  pub high : T (le s (maxOf p q))
+  pub fine : T (finite s)
+
+module _ (p q : Float) (P : T (finite p)) (Q : T (finite q)) where
+  low-fine : T (finite (minOf p q))
+  low-fine = min-either (λ v. T (finite v)) p q P Q
+
+  high-fine : T (finite (maxOf p q))
+  high-fine = either-of (λ v. T (finite v)) p q P Q
+
+  pub rising : (s : Float) → T (le p s) → T (le s q) → Between p q s
+  rising s h k =
+      let a = le-trans (minOf p q) p s (min-first p q P Q) h in
+      let b = le-trans s q (maxOf p q) k (max-least p q P Q) in
+      record { low = a; high = b; fine = finite-between (minOf p q) s (maxOf p q) low-fine high-fine a b }
+
+  pub falling : (s : Float) → T (le q s) → T (le s p) → Between p q s
+  falling s h k =
+      let a = le-trans (minOf p q) q s (min-second p q P Q) h in
+      let b = le-trans s p (maxOf p q) k (max-first p q P Q) in
+      record { low = a; high = b; fine = finite-between (minOf p q) s (maxOf p q) low-fine high-fine a b }
+
+  pub nearest-fine : T (finite (nearerOf (minOf p q) (maxOf p q)))
+  unfolding nearerOf ofBits
+  nearest-fine =
+      either (λ v. T (finite v)) (lt f0 (minOf p q)) (minOf p q) (cond (lt (maxOf p q) f0) (maxOf p q) f0) (λ e. low-fine)
+      (λ e. either (λ v. T (finite v)) (lt (maxOf p q) f0) (maxOf p q) f0 (λ g. high-fine) (λ g. tt))
+
+  pub nearest-below : (s : Float) → Between p q s → T (le (nearerOf (minOf p q) (maxOf p q) ⊗ nearerOf (minOf p q) (maxOf p q)) (s ⊗ s))
+  nearest-below s b = nearest-square (minOf p q) (maxOf p q) s low-fine high-fine (b .fine) (b .low) (b .high)
+
+module _ (a b t : Float) (u : Unit t) (P : T (finite (at a b O))) (Q : T (finite (at a b I))) where
+  fa : T (finite a)
+  fa = add-parts a (O ⊗ (b ⊖ a)) P .0
+
+  abbrev e : Float
+  e = b ⊖ a
+
+  fe : T (finite e)
+  fe = mul-part O e tt (add-parts a (O ⊗ e) P .1)
+
+  fO : T (finite (O ⊗ e))
+  fO = add-parts a (O ⊗ e) P .1
+
+  fI : T (finite (I ⊗ e))
+  fI = add-parts a (I ⊗ e) Q .1
+
+  ft : T (finite t)
+  ft = unit-finite t u
+
+  -- both ways round
+  up-way : T (le O e) → T (le (at a b O) (at a b t)) × T (le (at a b t) (at a b I))
+  up-way h =
+      let z = no-lower e fe h in
+      let k = mul-up O t e tt ft fe (u .low) z in
+      let l = mul-up t I e ft tt fe (u .high) z in
+      let f = finite-between (O ⊗ e) (t ⊗ e) (I ⊗ e) fO fI k l in
+      (add-right binary64 (O ⊗ e) (t ⊗ e) a fO f fa k, add-right binary64 (t ⊗ e) (I ⊗ e) a f fI fa l)
+
+  down-way : T (le e O) → T (le (at a b I) (at a b t)) × T (le (at a b t) (at a b O))
+  down-way h =
+      let z = no-upper e fe h in
+      let k = mul-down O t e tt ft fe (u .low) z in
+      let l = mul-down t I e ft tt fe (u .high) z in
+      let f = finite-between (I ⊗ e) (t ⊗ e) (O ⊗ e) fI fO l k in
+      (add-right binary64 (I ⊗ e) (t ⊗ e) a fI f fa l, add-right binary64 (t ⊗ e) (O ⊗ e) a f fO fa k)
+
+  pub along-between : Between (at a b O) (at a b I) (at a b t)
+  along-between =
+      by-test (lt e O)
+      (λ l. let w = down-way (lt-le e O l) in falling _ _ P Q _ (w .0) (w .1))
+      (λ l. let w = up-way (not-below e O fe tt l) in rising _ _ P Q _ (w .0) (w .1))
+
+-- the same as seen from x
+module _ (a b x t : Float) (u : Unit t) (P : T (finite (at a b O ⊖ x))) (Q : T (finite (at a b I ⊖ x))) where
+  p₀ : T (finite (at a b O))
+  p₀ = sub-parts (at a b O) x P .0
+
+  q₀ : T (finite (at a b I))
+  q₀ = sub-parts (at a b I) x Q .0
+
+  fx : T (finite x)
+  fx = sub-parts (at a b O) x P .1
+
+  pub side-between : Between (at a b O ⊖ x) (at a b I ⊖ x) (at a b t ⊖ x)
+  side-between =
+      let b₀ = along-between a b t u p₀ q₀ in
+      by-test (lt (b ⊖ a) O)
+      (λ l.
+      let w = down-way a b t u p₀ q₀ (lt-le (b ⊖ a) O l) in
+      falling _ _ P Q _ (sub-mono binary64 (at a b I) (at a b t) x q₀ (b₀ .fine) fx (w .0)) (sub-mono binary64 (at a b t) (at a b O) x (b₀ .fine) p₀ fx (w .1)))
+      (λ l.
+      let w = up-way a b t u p₀ q₀ (not-below (b ⊖ a) O (fe a b t u p₀ q₀) tt l) in
+      rising _ _ P Q _ (sub-mono binary64 (at a b O) (at a b t) x p₀ (b₀ .fine) fx (w .0)) (sub-mono binary64 (at a b t) (at a b I) x (b₀ .fine) q₀ fx (w .1)))

@@ -1,0 +1,6 @@
+pub mod Order
+pub mod Roots
+pub mod Unit
+pub mod Held
+pub mod Along
+pub mod Small

@@ -1,0 +1,106 @@
+-- Roots, minima and maxima keep the order; and what is between low and high has a square that is no less than that of the number nearest to 0.
+use mathlib.Core.Bool.{Bool, true, false, cond}
+use mathlib.Core.Path.{_≡_, refl, ap, sym, _∙_, subst}
+use Prim.Native.Nat.{ℕ, zero, suc, _+_, _*_, _^_, _≤_, _<_}
+use native.Mathlib.Nat.{zero-mul, mul-pos}
+use native.Mathlib.Omega.{arith}
+use lib.Dec.{T, lt→ltb}
+use lib.IntN.{pos}
+use lib.Ieee.{Float, nan, inf, fin, binary64, up, down, mul, lt, le, fits, isNan}
+use lib.Ieee.Exact.{HasValue}
+use lib.Ieee.Fits.{up-pos, down-pos}
+use lib.Ieee.Scale.{finite}
+use lib.Ieee.Positive.{positive}
+use Rattle.numbers.specs.Reals.{f0, minOf, maxOf}
+use Rattle.numbers.specs.Root.{rootOf}
+use Rattle.numbers.proofs.Between.{root-nearest}
+use Rattle.numbers.proofs.Monotone.{root-mono}
+use Rattle.spans.proofs.Signed.{le→parts, parts→le}
+use Rattle.spans.proofs.Sizes.{by-test, either-of, le-self, not-below, max-least, f0-is}
+use Rattle.spans.proofs.Extremes.{min-either, max-first}
+use Rattle.bound.specs.Nearer.{nearerOf}
+use Rattle.bound.proofs.Order.{O, le-trans, no-lower, square-up, square-down}
+
+-- ---- roots
+of-value : (w : Float) (a c : ℕ) → HasValue w false a c → T (le O w) × T (finite w)
+of-value nan a c v = absurd v
+of-value (inf s) a c v = absurd v
+of-value (fin true n d) a c v = absurd (let k : _≡_ {A = ℕ} 0 1 = cc in omega arith)
+of-value (fin false n d) a c v = (parts→le O (fin false n d) tt tt (omega (arith, zero-mul (down d))), tt)
+
+not-zero : (n : ℕ) (u : ℕ) → 0 < u → suc n * u ≡ 0 → ⊥
+not-zero n u h e = omega (arith, mul-pos {m = suc n} {n = u} (omega arith) h)
+
+pub root-finite : (y : Float) → T (fits binary64 y) → T (finite y) → T (le O y) → T (le O (rootOf y)) × T (finite (rootOf y))
+unfolding rootOf
+root-finite nan g p h = absurd p
+root-finite (inf s) g p h = absurd p
+root-finite (fin s zero e) g p h = (h, tt)
+root-finite (fin true (suc n) d) g p h = absurd (not-zero n (up d) (up-pos d) (no-lower (fin true (suc n) d) tt h))
+root-finite (fin false (suc n) d) g p h = let b = root-nearest (fin false (suc n) d) g (lt→ltb 0 (suc n) (omega arith)) in of-value (rootOf (fin false (suc n) d)) _ _ (b .root)
+
+none-below : (s : Bool) (e : _) (w : Float) → T (le O w) → T (le (fin s 0 e) w)
+none-below s e w h = le-trans (fin s 0 e) O w (at s) h
+  where
+    at : (s : Bool) → T (le (fin s 0 e) O)
+    at true = parts→le (fin true 0 e) O tt tt (omega (arith, zero-mul (up e), zero-mul (down e)))
+    at false = parts→le (fin false 0 e) O tt tt (omega (arith, zero-mul (up e), zero-mul (down e)))
+
+too-large : (m u d : ℕ) → 0 < u → 0 < d → suc m * u * d ≤ 0 → ⊥
+too-large m u d p q h = omega (arith, mul-pos {m = suc m * u} {n = d} (mul-pos {m = suc m} {n = u} (omega arith) p) q)
+
+pub root-le : (x y : Float) → T (fits binary64 x) → T (fits binary64 y) → T (finite x) → T (finite y) → T (le O x) → T (le x y) → T (le (rootOf x) (rootOf y))
+root-le nan y f g p q h k = absurd p
+root-le (inf s) y f g p q h k = absurd p
+root-le (fin s zero e) y f g p q h k = unfold rootOf in none-below s e (rootOf y) (root-finite y g q (le-trans O (fin s zero e) y h k) .0)
+root-le (fin true (suc m) e) y f g p q h k = absurd (not-zero m (up e) (up-pos e) (no-lower (fin true (suc m) e) tt h))
+root-le (fin false (suc m) e) nan f g p q h k = absurd q
+root-le (fin false (suc m) e) (inf s) f g p q h k = absurd q
+root-le (fin false (suc m) e) (fin true n d) f g p q h k =
+    absurd (too-large m (up e) (down d) (up-pos e) (down-pos d) (omega (arith, le→parts (fin false (suc m) e) (fin true n d) tt tt k, zero-mul (down d), zero-mul (down e))))
+root-le (fin false (suc m) e) (fin false zero d) f g p q h k =
+    absurd
+    (too-large m (up e) (down d) (up-pos e) (down-pos d)
+    (omega (arith, le→parts (fin false (suc m) e) (fin false 0 d) tt tt k, zero-mul (up d), zero-mul (down d), zero-mul (down e), ap (λ (z : ℕ). z * down e) (zero-mul (up d)))))
+root-le (fin false (suc m) e) (fin false (suc n) d) f g p q h k =
+    root-mono (fin false (suc m) e) (fin false (suc n) d) f g (lt→ltb 0 (suc m) (omega arith)) (lt→ltb 0 (suc n) (omega arith)) k
+
+-- ---- minima and maxima
+pub lt-le : (x y : Float) → lt x y ≡ true → T (le x y)
+unfolding le
+lt-le x y e = rw e tt
+
+not-nan : (x : Float) → T (finite x) → isNan x ≡ false
+unfolding isNan
+not-nan nan p = absurd p
+not-nan (inf s) p = absurd p
+not-nan (fin s m e) p = refl
+
+module _ (x y : Float) (p : T (finite x)) (q : T (finite y)) where
+  pub min-first : T (le (minOf x y) x)
+  unfolding minOf
+  min-first = rw (not-nan x p) (by-test (lt y x) (λ f. rw f (lt-le y x f)) (λ f. rw f (le-self x p)))
+
+  pub min-second : T (le (minOf x y) y)
+  unfolding minOf
+  min-second = rw (not-nan x p) (by-test (lt y x) (λ f. rw f (le-self y q)) (λ f. rw f (not-below y x q p f)))
+
+pub min-up : (x y z : Float) → T (finite x) → T (finite z) → T (le x y) → T (le (minOf x z) (minOf y z))
+min-up x y z p r h =
+    min-either (λ v. T (le (minOf x z) v)) y z (le-trans (minOf x z) x y (min-first x z p r) h) (min-second x z p r)
+
+pub max-up : (x y z : Float) → T (finite y) → T (finite z) → T (le x y) → T (le (maxOf x z) (maxOf y z))
+max-up x y z q r h =
+    either-of (λ v. T (le v (maxOf y z))) x z (le-trans x y (maxOf y z) h (max-first y z q r)) (max-least y z q r)
+
+-- ---- the number nearest to 0
+pub nearest-square : (low high x : Float) → T (finite low) → T (finite high) → T (finite x) → T (le low x) → T (le x high)
+    → T (le (mul binary64 (nearerOf low high) (nearerOf low high)) (mul binary64 x x))
+unfolding nearerOf
+nearest-square low high x p q r h k =
+    by-test (lt f0 low)
+    (λ e. rw e (square-up low x p r (rw f0-is at (lt-le f0 low e)) h))
+    (λ e.
+    by-test (lt high f0)
+    (λ g. rw (e, g) (square-down high x q r (rw f0-is at (lt-le high f0 g)) k))
+    (λ g. rw (e, g, f0-is) (by-test (lt x O) (λ l. square-down O x tt r (le-self O tt) (lt-le x O l)) (λ l. square-up O x tt r (le-self O tt) (not-below x O r tt l)))))

@@ -1,0 +1,115 @@
+-- Numbers of at most 1e6 in size: their squares, and sums of two of these, are finite and not below 0.
+use mathlib.Core.Bool.{Bool, true, false, cond, _&&_}
+use mathlib.Core.Path.{_≡_, refl, ap, sym, _∙_}
+use lib.Dec.{T}
+use lib.IntN.{pos}
+use lib.Ieee.{Float, nan, inf, fin, binary64, sum, round, add, sub, mul, neg, lt, le, ofBits}
+use lib.Ieee.Scale.{finite}
+use Rattle.numbers.specs.Reals.{_⊕_, _⊖_, _⊗_, f0, million, minOf, maxOf}
+use Rattle.numbers.specs.Root.{rootOf, rootOfUnits, nearestRoot, wholeRoot}
+use Rattle.spans.specs.Mesh.{isCoordinate, isRadius}
+use Rattle.spans.proofs.Ranges.{finite-between, Coordinate, coordinate, million-is, two, minus-two, extent-finite, extent-high, extent-low}
+use Rattle.spans.proofs.Sizes.{by-test, either-of, le-self, not-below, Radius, radius, f0-is}
+use Rattle.spans.proofs.Extremes.{min-either}
+use Rattle.bound.proofs.Order.{O, le-trans, add-left, add-right, square-up, square-down}
+use Rattle.bound.proofs.Roots.{lt-le}
+use Rattle.bound.proofs.Along.{Between}
+
+-- 1e6 and -1e6
+abbrev pub M : Float
+M = fin false 15625 (pos 6)
+
+abbrev pub M′ : Float
+M′ = fin true 15625 (pos 6)
+
+minus-million-is : neg million ≡ M′
+unfolding ofBits neg
+minus-million-is = refl
+
+pub record Small (x : Float) : Type 0 where
+  pub low : T (le M′ x)
+  pub high : T (le x M)
+
+pub small : (x : Float) → isCoordinate x ≡ true → Small x
+small x e = let c = coordinate x e in record { low = rw minus-million-is at (c .low); high = rw million-is at (c .high) }
+
+pub small-finite : (x : Float) → Small x → T (finite x)
+small-finite x s = finite-between M′ x M tt tt (s .low) (s .high)
+
+pub small-up : (x : Float) → T (le O x) → T (le x M) → Small x
+small-up x h k = record { low = le-trans M′ O x (unfold le in tt) h; high = k }
+
+pub small-radius : (r : Float) → isRadius r ≡ true → T (le O r) × T (le r M)
+small-radius r e = let c = radius r e in (rw f0-is at (c .low), rw million-is at (c .high))
+
+pub small-sub : (x y : Float) → Small x → Small y → T (finite (x ⊖ y))
+small-sub x y s t =
+    extent-finite x y (record { low = rw minus-million-is (s .low); high = rw million-is (s .high) }) (record { low = rw minus-million-is (t .low); high = rw million-is (t .high) })
+
+pub small-range : (x y : Float) → Small x → Small y → T (le minus-two (x ⊖ y)) × T (le (x ⊖ y) two)
+small-range x y s t =
+    let a : Coordinate x = record { low = rw minus-million-is (s .low); high = rw million-is (s .high) } in
+    let b : Coordinate y = record { low = rw minus-million-is (t .low); high = rw million-is (t .high) } in
+    (extent-low x y a b, extent-high x y a b)
+
+pub small-between : (p q s : Float) → Small p → Small q → Between p q s → Small s
+small-between p q s a b h =
+    record { low = le-trans M′ (minOf p q) s (min-either (λ v. T (le M′ v)) p q (a .low) (b .low)) (h .low); high = le-trans s (maxOf p q) M (h .high) (either-of (λ v. T (le v M)) p q (a .high) (b .high)) }
+
+-- ---- squares
+zero-square : O ⊗ O ≡ O
+unfolding mul round
+zero-square = refl
+
+pub square-nonneg : (s : Float) → T (finite s) → T (le O (s ⊗ s))
+square-nonneg s p =
+    rw zero-square at
+    (by-test {P = T (le (O ⊗ O) (s ⊗ s))} (lt s O)
+    (λ l. square-down O s tt p (le-self O tt) (lt-le s O l))
+    (λ l. square-up O s tt p (le-self O tt) (not-below s O p tt l)))
+
+minus-square : M′ ⊗ M′ ≡ M ⊗ M
+unfolding mul
+minus-square = refl
+
+pub square-small : (s : Float) → Small s → T (le (s ⊗ s) (M ⊗ M))
+square-small s h =
+    let p = small-finite s h in
+    by-test (lt s O)
+    (λ l. rw minus-square at (square-down s M′ p tt (lt-le s O l) (h .low)))
+    (λ l. square-up s M p tt (not-below s O p tt l) (h .high))
+
+pub square-limit : T (finite (M ⊗ M))
+unfolding mul round
+square-limit = tt
+
+pub square-finite : (s : Float) → Small s → T (finite (s ⊗ s))
+square-finite s h = finite-between O (s ⊗ s) (M ⊗ M) tt square-limit (square-nonneg s (small-finite s h)) (square-small s h)
+
+-- ---- sums
+zero-sum : O ⊕ O ≡ O
+unfolding add sum round
+zero-sum = refl
+
+pub sum-nonneg : (x y : Float) → T (finite x) → T (finite y) → T (le O x) → T (le O y) → T (le O (x ⊕ y))
+sum-nonneg x y p q h k =
+    le-trans O (O ⊕ y) (x ⊕ y) (rw zero-sum at (add-right binary64 O y O tt q tt k)) (add-left binary64 O x y tt p q h)
+
+sum-limit : T (finite (M ⊗ M ⊕ M ⊗ M))
+unfolding mul add sum round
+sum-limit = tt
+
+pub sum-finite : (s t : Float) → Small s → Small t → T (finite (s ⊗ s ⊕ t ⊗ t))
+sum-finite s t a b =
+    let p = square-finite s a in
+    let q = square-finite t b in
+    finite-between O (s ⊗ s ⊕ t ⊗ t) (M ⊗ M ⊕ M ⊗ M) tt sum-limit
+    (sum-nonneg (s ⊗ s) (t ⊗ t) p q (square-nonneg s (small-finite s a)) (square-nonneg t (small-finite t b)))
+    (le-trans (s ⊗ s ⊕ t ⊗ t) (M ⊗ M ⊕ t ⊗ t) (M ⊗ M ⊕ M ⊗ M)
+    (add-left binary64 (s ⊗ s) (M ⊗ M) (t ⊗ t) p square-limit q (square-small s a))
+    (add-right binary64 (t ⊗ t) (M ⊗ M) (M ⊗ M) q square-limit square-limit (square-small t b)))
+
+-- ---- the root of 1e12
+pub root-limit : T (le (rootOf (M ⊗ M)) M)
+unfolding mul round rootOf rootOfUnits nearestRoot wholeRoot le
+root-limit = tt

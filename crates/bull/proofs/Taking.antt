@@ -1,0 +1,39 @@
+-- What a stretch of an edge adds to a contact.
+use mathlib.Core.Bool.{false}
+use mathlib.Core.Path.{_≡_, refl}
+use lib.Ieee.{Float}
+use Rattle.numbers.specs.Reals.{maxOf}
+use Rattle.numbers.proofs.Branches.{left}
+use Rattle.plane.specs.declared.Contact.{Contact}
+use Rattle.plane.specs.declared.Contact.the-variants.{Nothing, Height}
+use Rattle.plane.specs.Contacts.{takeOf}
+use Rattle.golden.specs.Search.{goldenMax}
+use Rattle.touch.specs.declared.Edge.{Edge}
+use Rattle.touch.specs.declared.Stretch.{Stretch}
+use Rattle.touch.specs.declared.Stretch.the-variants.{Nowhere, Between}
+use Rattle.touch.specs.Touch.{offerOf, reachedOf}
+use Rattle.bull.specs.declared.Bull.{Bull}
+use Rattle.bull.specs.Bull.{bullAt, bullStretch, tooLow, bullEdge}
+
+module _ (k : Bull) (e : Edge) (c : Contact) (s : Stretch) where
+  pub nowhere-on : s ≡ Nowhere → c ≡ offerOf c (bullStretch k e s)
+  unfolding offerOf bullStretch
+  nowhere-on p = rw p
+
+  pub between-on : (r : Contact) (lo hi : Float) → s ≡ Between lo hi → r ≡ takeOf c (goldenMax (bullAt k e) lo hi 40) → r ≡ offerOf c (bullStretch k e s)
+  unfolding offerOf bullStretch
+  between-on r lo hi p q = rw p q
+
+module _ (c : Contact) (v z : Float) where
+  pub first-taken : c ≡ Nothing → v ≡ z → Height v ≡ takeOf c z
+  unfolding takeOf
+  first-taken p q = rw (p, q)
+
+  pub next-taken : (b : Float) → c ≡ Height b → v ≡ maxOf b z → Height v ≡ takeOf c z
+  unfolding takeOf
+  next-taken b p q = rw (p, q)
+
+-- an edge that is not too low
+pub edge-on : (k : Bull) (floor : Float) (c : Contact) (e : Edge) (s : Stretch) (r : Contact) → tooLow floor c e ≡ false → s ≡ reachedOf e (k .x) (k .y) (k .r) → r ≡ offerOf c (bullStretch k e s) → r ≡ bullEdge k floor c e
+unfolding bullEdge
+edge-on k floor c e s r h p q = left _ _ _ _ h (rw p at q)

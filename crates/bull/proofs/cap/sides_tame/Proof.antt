@@ -1,0 +1,20 @@
+use mathlib.Core.Path.{_≡_, refl, ap, sym, _∙_}
+use Rattle.numbers.proofs.Branches.{and-on, and-off, bool-called}
+use Rattle.bull.specs.Cap.{sidesTame}
+use Rattle.bull.proofs.cap.sides_tame.Statement.{statement}
+use Rattle.bull.proofs.cap.sides_tame.Tie as tie
+
+returns : tie.Need-returns
+unfolding sidesTame
+returns c = and-on _ _ _ (bool-called _ _ _ (c .before .before .before .before .side-tame .ensures) (c .before .before .before .if1 .taken)) (and-on _ _ _ (bool-called _ _ _ (c .before .before .side-tame2 .ensures) (c .before .if2 .taken)) (c .side-tame3 .ensures))
+
+returns-2 : tie.Need-returns-2
+unfolding sidesTame
+returns-2 c = and-on _ _ _ (bool-called _ _ _ (c .before .before .before .side-tame .ensures) (c .before .before .if1 .taken)) (and-off _ _ _ (bool-called _ _ _ (c .before .side-tame2 .ensures) (c .if2 .left)) refl)
+
+returns-3 : tie.Need-returns-3
+unfolding sidesTame
+returns-3 c = and-off _ _ _ (bool-called _ _ _ (c .before .side-tame .ensures) (c .if1 .left)) refl
+
+pub sides-tame-spec : {M : Type 1} → statement M
+sides-tame-spec = tie.close (tie.spec (λ c κs. tt) (λ c κs. tt) (λ c κs. tt) returns returns-2 returns-3)

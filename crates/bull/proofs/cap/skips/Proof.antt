@@ -1,0 +1,16 @@
+use mathlib.Core.Path.{_≡_, refl, ap, sym, _∙_}
+use Rattle.numbers.proofs.Branches.{and-on, and-off, bool-called}
+use Rattle.bull.proofs.cap.skips.Statement.{statement}
+use Rattle.bull.proofs.cap.skips.Tie as tie
+
+returns : tie.Need-returns
+returns c = and-on _ _ _ (bool-called _ _ _ (c .before .before .before .before .is-unit .ensures) (c .before .before .before .if1 .taken)) (and-on _ _ _ (bool-called _ _ _ (c .before .before .is-unit2 .ensures) (c .before .if2 .taken)) (c .beaten .ensures))
+
+returns-2 : tie.Need-returns-2
+returns-2 c = and-on _ _ _ (bool-called _ _ _ (c .before .before .before .is-unit .ensures) (c .before .before .if1 .taken)) (and-off _ _ _ (bool-called _ _ _ (c .before .is-unit2 .ensures) (c .if2 .left)) refl)
+
+returns-3 : tie.Need-returns-3
+returns-3 c = and-off _ _ _ (bool-called _ _ _ (c .before .is-unit .ensures) (c .if1 .left)) refl
+
+pub skips-spec : {M : Type 1} → statement M
+skips-spec = tie.close (tie.spec (λ c κs. tt) (λ c κs. tt) (λ c κs. tt) returns returns-2 returns-3)
