@@ -3,7 +3,7 @@ use mathlib.Core.Bool.{true, false}
 use mathlib.Core.List.{List, map}
 use mathlib.Core.Logic.{⊎-elim}
 use mathlib.Core.Path.{_≡_, refl, sym, ap, subst, _∙_}
-use Prim.Native.Nat.{ℕ, zero, suc, _+_, _*_, _/_, _≤_, _<_, min}
+use Prim.Native.Nat.{ℕ, zero, suc, _*_, _/_, _≤_, _<_}
 use native.Mathlib.Omega.{arith}
 use borrow.Author.Tests.{eq-eqb, ne-eqb, lt-ltb, le-ltb, ltb-true, ltb-false, eqb-true}
 use lib.Dec.{eqb, leb, ltb, lit<}
@@ -37,7 +37,7 @@ use Rattle.lanes.specs.Searched.{Searched}
 use Rattle.plan.specs.declared.Planned.{Planned}
 use Rattle.plan.specs.declared.Surveyed.{Surveyed}
 use Rattle.plan.specs.Plan.{refusalOfInput, refusalOfTables, levelsUnder, foundOn, Outcome, outcome, refusedBy, wiped, workedOf, planOf}
-use Rattle.plan.specs.Stages.{Ready, Surveys, Settled, settled, givenUp, settledOf}
+use Rattle.plan.specs.Stages.{Ready, Surveys, Settled, settled, givenUp, settledOf, finishedOf}
 use Rattle.plan.proofs.Counting.{levels-few}
 use Rattle.plan.proofs.Surveying.{Taken, survey-taken}
 
@@ -70,6 +70,28 @@ module _ (mesh : List Float) (h : Header) (starts members marks : List ℕ) (p :
     input-passed o z f = taken _ _ _ _ (eq-eqb _ 0 (sym e ∙ z)) f
 
 -- ---- 11, 10, 12 and 13
+
+-- what the search left is settled as what it found
+module _ (t u₀ u : List Float) (count : ℕ) (f : Found) (y : Tally) (s : Searched u₀ f u y) where
+  abbrev rs : List Run
+  rs = joinedOf (keptOf (f .pieces))
+
+  searched-room : length u ≡ length u₀
+  searched-room = ap length (s .table) ∙ written-length runFive (λ _. refl) rs u₀
+
+  pub finished-is : settledOf t u count y ≡ finishedOf t u₀ count f
+  unfolding settledOf finishedOf
+  finished-is =
+      let r : roomOf u ≡ roomOf u₀ = ap (λ (n : ℕ). n / 5) searched-room in
+      ⊎-elim
+      (λ (b : ltb (roomOf u) (y .count) ≡ true).
+      let l : roomOf u < y .count = ltb-true (roomOf u) (y .count) b in
+      rw (b, searched-room, lt-ltb (roomOf u₀) (length rs) (omega (arith, s .count))))
+      (λ (b : ltb (roomOf u) (y .count) ≡ false).
+      let l : y .count ≤ roomOf u = ltb-false (roomOf u) (y .count) b in
+      let n : y .count ≡ length rs = omega (arith, s .count) in
+      rw (b, le-ltb (roomOf u₀) (length rs) (omega (arith, s .count)), s .table, n, s .rows, s .cut, s .dropped))
+      (on-or-off (ltb (roomOf u) (y .count)))
 
 pub settled-same : (a b : Planned) (t t′ u u′ : List Float) → a ≡ b → t ≡ t′ → u ≡ u′ → settled a t u ≡ settled b t′ u′
 settled-same a b t t′ u u′ e p q = ap (λ (x : Planned). settled x t u) e ∙ (rw (p, q))
@@ -153,39 +175,17 @@ module _ (mesh : List Float) (h : Header) (starts members marks : List ℕ) (lev
         rw read (taken-levels .coarse),
       )
 
-      module _ (u : List Float) (m′ : List ℕ) (y : Tally) (f : Searched u₀ (foundOn mesh h starts members p axis (levelsIn t 0 (s .count))) u y) (w : m′ ≡ wiped marks) where
-        searched : Searched (zeroed runs) found u y
-        searched = rw (zu, read) at f
-
-        long : length u ≡ length runs
-        long = ap length (searched .table) ∙ written-length runFive (λ _. refl) joined (zeroed runs) ∙ zeroed-length runs
-
-        counted : y .count ≡ min (length joined) (roomOf runs + 1)
-        counted = searched .count ∙ (rw (zeroed-length runs))
-
-        -- 13
-        over : ltb (roomOf u) (y .count) ≡ true → (a : Settled) → a ≡ settledOf t u (s .count) y → outcome (a .answer) (a .levels) (a .runs) m′ ≡ answer
-        unfolding settledOf refusalOfTables
-        over g a e =
-            let l : roomOf u < y .count = ltb-true (roomOf u) (y .count) g in
-            let r : roomOf u ≡ roomOf runs = ap (λ (n : ℕ). n / 5) long in
-            late 13 (taken _ _ _ _ (eq-eqb _ 0 (sym tested ∙ z)) (refuse-here _ 13 0 13 (lt-ltb (roomOf runs) (length joined) (omega (arith, counted))) refl)) (λ d. omega arith)
-            a t u m′ table-room long (e ∙ (rw g)) w
-
-        left-is : ltb (roomOf u) (y .count) ≡ false → settledOf t u (s .count) y ≡ settled (record { refusal = 0; levels = s .count; rows = y .rows; runs = y .count; cut = y .cut; dropped = y .dropped }) t u
-        unfolding settledOf
-        left-is g = rw g
-
-        -- accepted
-        within : ltb (roomOf u) (y .count) ≡ false → (a : Settled) → a ≡ settledOf t u (s .count) y → outcome (a .answer) (a .levels) (a .runs) m′ ≡ answer
-        unfolding workedOf refusalOfTables
-        within g a e =
-            let l : y .count ≤ roomOf u = ltb-false (roomOf u) (y .count) g in
-            let r : roomOf u ≡ roomOf runs = ap (λ (n : ℕ). n / 5) long in
-            let n : y .count ≡ length joined = omega (arith, counted) in
-            taken _ _ _ _ (eq-eqb _ 0 (sym (taken _ _ _ _ (eq-eqb _ 0 (sym tested ∙ z)) (refuse-next _ 13 0 0 (le-ltb (roomOf runs) (length joined) (omega (arith, counted))) refl))))
-            (ap (λ (x : Settled). outcome (x .answer) (x .levels) (x .runs) m′) (e ∙ left-is g)
-            ∙ (rw (v .table, zt, v .count, searched .table, n, searched .rows, searched .cut, searched .dropped, w)))
-
-        pub found-settled : (a : Settled) → a ≡ settledOf t u (s .count) y → outcome (a .answer) (a .levels) (a .runs) m′ ≡ answer
-        found-settled a e = ⊎-elim (λ g. over g a e) (λ g. within g a e) (on-or-off _)
+      -- 13, or accepted
+      pub found-settled : (a : Settled) (m′ : List ℕ) → a ≡ finishedOf t u₀ (s .count) (foundOn mesh h starts members p axis (levelsIn t 0 (s .count))) → m′ ≡ replicate (h .n) 0 → outcome (a .answer) (a .levels) (a .runs) m′ ≡ answer
+      unfolding finishedOf refusalOfTables workedOf
+      found-settled a m′ e w =
+          ⊎-elim
+          (λ (b : ltb (roomOf runs) (length joined) ≡ true).
+          late 13 (taken _ _ _ _ (eq-eqb _ 0 (sym tested ∙ z)) (refuse-here _ 13 0 13 b refl)) (λ d. omega arith) a t u₀ m′ table-room runs-room (e ∙ (rw (read, runs-room, b))) clean)
+          (λ (b : ltb (roomOf runs) (length joined) ≡ false).
+          taken _ _ _ _ (eq-eqb _ 0 (sym (taken _ _ _ _ (eq-eqb _ 0 (sym tested ∙ z)) (refuse-next _ 13 0 0 b refl))))
+          (ap (λ (x : Settled). outcome (x .answer) (x .levels) (x .runs) m′) e ∙ (rw (read, runs-room, b, v .table, zt, zu, v .count, clean))))
+          (on-or-off (ltb (roomOf runs) (length joined)))
+        where
+          clean : m′ ≡ wiped marks
+          clean = w ∙ ap (λ (n : ℕ). replicate n 0) (sym size)

@@ -6,15 +6,19 @@ use Prim.Native.Nat.{ℕ}
 use lib.Dec.{ltb}
 use lib.Ieee.{Float}
 use lib.ListN.{length}
+use Rattle.numbers.specs.Reals.{f0}
 use Rattle.grid.specs.declared.Header.{Header}
 use Rattle.fives.specs.Tables.{roomOf, written, zeroed}
 use Rattle.levels.specs.declared.Level.{Level}
 use Rattle.levels.specs.Levels.{fiveOf as levelFive}
 use Rattle.runs.specs.declared.Tally.{Tally}
+use Rattle.runs.specs.Runs.{joinedOf, cutOf, fiveOf as runFive}
+use Rattle.runs.specs.Pieces.{keptOf, droppedBy}
 use Rattle.rows.specs.declared.Axis.{Axis}
 use Rattle.terms.specs.declared.Parameters.{Parameters}
 use Rattle.terms.specs.Terms.{refusalOfLevels}
 use Rattle.probe.specs.Asked.{Askable}
+use Rattle.search.specs.Search.{Found}
 use Rattle.plan.specs.declared.Planned.{Planned}
 use Rattle.plan.specs.declared.Surveyed.{Surveyed}
 use Rattle.plan.specs.Plan.{refusedBy, wiped}
@@ -49,3 +53,10 @@ unfoldable pub settledOf : List Float → List Float → ℕ → Tally → Settl
 settledOf levels runs count y =
     cond (ltb (roomOf runs) (y .count)) (givenUp 13 levels runs)
     (settled (record { refusal = 0; levels = count; rows = y .rows; runs = y .count; cut = y .cut; dropped = y .dropped }) levels runs)
+
+-- The same from what the search found, over a table of runs that it was written to.
+unfoldable pub finishedOf : List Float → List Float → ℕ → Found → Settled
+finishedOf levels runs count f =
+    let rs = joinedOf (keptOf (f .pieces)) in
+    cond (ltb (roomOf runs) (length rs)) (givenUp 13 levels runs)
+    (settled (record { refusal = 0; levels = count; rows = f .rows; runs = length rs; cut = cutOf rs; dropped = droppedBy f0 (f .pieces) }) levels (written (map runFive rs) runs))

@@ -1,11 +1,15 @@
 // The plan: the flat levels of a mesh, and the runs that finish them.
+ghost use mathlib.Core.Bool.{false};
 ghost use mathlib.Core.Path.{_≡_};
 ghost use Prim.Native.Nat.{_*_, _≤_};
-ghost use lib.ListN.{length};
+ghost use lib.ListN.{length, replicate};
 ghost use Rattle.fives.specs.Tables.{zeroed};
 ghost use Rattle.levels.specs.Levels.{levelsOf};
-ghost use Rattle.plan.specs.Plan.{refusalOfInput, outcome, refusedBy, workedOf, planOf};
-ghost use Rattle.plan.specs.Stages.{Ready, Surveys, settled, givenUp, settledOf};
+ghost use Rattle.terms.specs.Terms.{tooFine, anyOf};
+ghost use Rattle.terms.specs.Tested.{levelsIn};
+ghost use Rattle.probe.specs.Asked.{Askable, Marked};
+ghost use Rattle.plan.specs.Plan.{refusalOfInput, foundOn, outcome, refusedBy, workedOf, planOf};
+ghost use Rattle.plan.specs.Stages.{Ready, Surveys, settled, givenUp, settledOf, finishedOf};
 use grid::Header;
 use rows::Axis;
 use runs::Tally;
@@ -107,6 +111,36 @@ fn work(
     if k != 0 {
         return give_up(levels, runs, k);
     }
+    finish(
+        mesh,
+        h,
+        starts,
+        members,
+        marks,
+        levels,
+        runs,
+        p,
+        axis,
+        count,
+    )
+}
+
+// The levels that stand in their table searched, from a table of runs and marks that are zero.
+fn finish(
+    mesh: &[f64],
+    h: Header,
+    starts: &[u32],
+    members: &[u32],
+    marks: &mut [u32],
+    levels: &mut [f64],
+    runs: &mut [f64],
+    p: Parameters,
+    axis: Axis,
+    count: usize,
+) -> Planned
+    requires { ⌜ Askable (now mesh) h (now starts) (now members) × Marked (h .n) 0 (now marks) × (count * 5 ≤ length (now levels)) × (count ≤ 65536) × (anyOf (tooFine p axis (h .r)) (levelsIn (now levels) 0 count) ≡ false) ⌝ }
+    ensures { λ a. ⌜ (settled a (now (levels .exit)) (now (runs .exit)) ≡ finishedOf (now (levels .entry)) (now (runs .entry)) count (foundOn (now (mesh .entry)) h (now (starts .entry)) (now (members .entry)) p axis (levelsIn (now (levels .entry)) 0 count))) × (now (marks .exit) ≡ replicate (h .n) 0) ⌝ }
+{
     let y = lanes::search_levels(
         mesh,
         h,
