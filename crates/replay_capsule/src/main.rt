@@ -5,116 +5,43 @@
 // i determinants near 1e-300, j no length or no radius, k large and far, l any bits.
 // The list was made by compare/lists/make, from camlib's own functions with document 01's max, min and hypot.
 // Written are four numbers: the lines, the heights among the contacts, and how many contacts and distances differ.
-ghost use Prim.Native.Nat.{_<_};
 use libc::STDIN_FILENO;
 use libc::STDOUT_FILENO;
 use plane::Contact;
 use plane::Triangle;
 
-const NAN: u64 = 0x7ff8_0000_0000_0000;
-
-fn digit(b: u8) -> u64 {
-    match b {
-        b'0'..=b'9' => (b - b'0') as u64,
-        b'a'..=b'f' => (b - b'a') as u64 + 10,
-        _ => 0,
-    }
-}
-
-// The number whose 16 hex digits start at `from`.
-fn number(line: &[u8; 293], from: usize) -> u64
-    requires { ⌜ from < 277 ⌝ }
-{
-    let mut n = 0u64;
-    for i in 0..16usize {
-        n = (n << 4) | digit(line[from + i]);
-    }
-    n
-}
-
-fn float(bits: u64) -> f64 {
-    if bits & 0x7fff_ffff_ffff_ffff > 0x7ff0_0000_0000_0000 {
-        return 0.0 / 0.0;
-    }
-    f64::from_bits(bits)
-}
-
-fn bits_of(x: f64) -> u64 {
-    if x != x {
-        return NAN;
-    }
-    f64::to_bits(x)
-}
-
-// Number j of the question.
-fn asked(line: &[u8; 293], j: usize) -> f64
-    requires { ⌜ j < 15 ⌝ }
-{
-    float(number(line, 2 + 17 * j))
-}
-
-fn triangle(line: &[u8; 293]) -> Triangle {
-    Triangle {
-        ax: asked(line, 0),
-        ay: asked(line, 1),
-        az: asked(line, 2),
-        bx: asked(line, 3),
-        by: asked(line, 4),
-        bz: asked(line, 5),
-        cx: asked(line, 6),
-        cy: asked(line, 7),
-        cz: asked(line, 8),
-    }
-}
-
 fn contact(line: &[u8; 293], t: Triangle) -> Contact {
-    let px = asked(line, 9);
-    let py = asked(line, 10);
-    let qx = asked(line, 11);
-    let qy = asked(line, 12);
-    capsule::max_in_capsule(t, px, py, qx, qy, asked(line, 13), asked(line, 14))
+    let px = vectors::asked(line, 9);
+    let py = vectors::asked(line, 10);
+    let qx = vectors::asked(line, 11);
+    let qy = vectors::asked(line, 12);
+    capsule::max_in_capsule(
+        t,
+        px,
+        py,
+        qx,
+        qy,
+        vectors::asked(line, 13),
+        vectors::asked(line, 14),
+    )
 }
 
 fn distance(line: &[u8; 293], t: Triangle) -> f64 {
-    plane::distance_xy(t, asked(line, 9), asked(line, 10))
-}
-
-// 1 where a and b are not the same
-fn unlike(a: u64, b: u64) -> u64 {
-    if a == b { 0 } else { 1 }
-}
-
-// 1 where the contact is a height
-fn height(c: Contact) -> u64 {
-    match c {
-        Contact::Nothing => 0,
-        Contact::Height(_) => 1,
-    }
-}
-
-// 1 where the contact is not the line's
-fn differs(line: &[u8; 293], c: Contact) -> u64 {
-    match c {
-        Contact::Nothing => unlike(digit(line[257]), 0),
-        Contact::Height(z) => {
-            if digit(line[257]) == 1 {
-                unlike(bits_of(z), number(line, 259))
-            } else {
-                1
-            }
-        }
-    }
+    plane::distance_xy(t, vectors::asked(line, 9), vectors::asked(line, 10))
 }
 
 // Counts the line, if it was read whole.
 fn count(table: &mut [u64; 4], line: &[u8; 293], n: usize) {
     if n == 293 {
-        let t = triangle(line);
+        let t = vectors::triangle(line);
         let c = contact(line, t);
-        let far = unlike(bits_of(distance(line, t)), number(line, 276));
+        let far = vectors::unlike(
+            vectors::bits_of(distance(line, t)),
+            vectors::number(line, 276),
+        );
         table[0] = std::num::wrapping_add_u64(table[0], 1);
-        table[1] = std::num::wrapping_add_u64(table[1], height(c));
-        table[2] = std::num::wrapping_add_u64(table[2], differs(line, c));
+        table[1] = std::num::wrapping_add_u64(table[1], vectors::height(c));
+        table[2] = std::num::wrapping_add_u64(table[2], vectors::differs(line, c));
         table[3] = std::num::wrapping_add_u64(table[3], far);
     }
 }

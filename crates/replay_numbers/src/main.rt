@@ -4,11 +4,8 @@
 // document 01's rules in Rust. It has the first and last values of exponents, a subnormal of each length, squares and their neighbours, halves and whole
 // numbers around 2^52 and 2^53, both zeros, both infinities, NaN, and some random bits.
 // For each function a line is written: its letter, how many questions it had and how many answers differ.
-ghost use Prim.Native.Nat.{_<_};
 use libc::STDIN_FILENO;
 use libc::STDOUT_FILENO;
-
-const NAN: u64 = 0x7ff8_0000_0000_0000;
 
 // the letter at place k: root, down, up, abs, clamp, max, min (n), hypot, total order
 fn letter(k: usize) -> u8 {
@@ -25,57 +22,24 @@ fn letter(k: usize) -> u8 {
     }
 }
 
-fn digit(b: u8) -> u64 {
-    match b {
-        b'0'..=b'9' => (b - b'0') as u64,
-        b'a'..=b'f' => (b - b'a') as u64 + 10,
-        _ => 0,
-    }
-}
-
-// The number whose 16 hex digits start at `from`.
-fn number(line: &[u8; 53], from: usize) -> u64
-    requires { ⌜ from < 37 ⌝ }
-{
-    let mut n = 0u64;
-    for i in 0..16usize {
-        n = (n << 4) | digit(line[from + i]);
-    }
-    n
-}
-
-fn float(bits: u64) -> f64 {
-    if bits & 0x7fff_ffff_ffff_ffff > 0x7ff0_0000_0000_0000 {
-        return 0.0 / 0.0;
-    }
-    f64::from_bits(bits)
-}
-
-fn bits_of(x: f64) -> u64 {
-    if x != x {
-        return NAN;
-    }
-    f64::to_bits(x)
-}
-
 fn answer(what: u8, x: f64, y: f64) -> u64 {
     match what {
-        b'r' => bits_of(numbers::root(x)),
-        b'd' => bits_of(numbers::round_down(x)),
-        b'u' => bits_of(numbers::round_up(x)),
-        b'a' => bits_of(numbers::abs(x)),
-        b'c' => bits_of(numbers::clamp_unit(x)),
-        b'm' => bits_of(numbers::max(x, y)),
-        b'n' => bits_of(numbers::min(x, y)),
-        b'h' => bits_of(numbers::hypot(x, y)),
+        b'r' => vectors::bits_of(numbers::root(x)),
+        b'd' => vectors::bits_of(numbers::round_down(x)),
+        b'u' => vectors::bits_of(numbers::round_up(x)),
+        b'a' => vectors::bits_of(numbers::abs(x)),
+        b'c' => vectors::bits_of(numbers::clamp_unit(x)),
+        b'm' => vectors::bits_of(numbers::max(x, y)),
+        b'n' => vectors::bits_of(numbers::min(x, y)),
+        b'h' => vectors::bits_of(numbers::hypot(x, y)),
         _ => if numbers::total_less(x, y) { 1 } else { 0 },
     }
 }
 
 // 1 where the answer to the line's question is not the line's
 fn differs(line: &[u8; 53]) -> u32 {
-    let a = answer(line[0], float(number(line, 2)), float(number(line, 19)));
-    if a == number(line, 36) { 0 } else { 1 }
+    let a = answer(line[0], vectors::asked(line, 0), vectors::asked(line, 1));
+    if a == vectors::number(line, 36) { 0 } else { 1 }
 }
 
 fn place(what: u8) -> usize {

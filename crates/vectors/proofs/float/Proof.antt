@@ -7,8 +7,8 @@ use lib.Dec.{T, ltb}
 use lib.Bits.{bitAnd, and-mask}
 use lib.Ieee.{binary64, nanBits}
 use lib.Ieee.Bits.{nanBits-above}
-use Rattle.replay_cutter.proofs.float.Statement.{statement}
-use Rattle.replay_cutter.proofs.float.Tie as tie
+use Rattle.vectors.proofs.float.Statement.{statement}
+use Rattle.vectors.proofs.float.Tie as tie
 
 no-nan : (b : ℕ) → bitAnd b (2 ^ 63 - 1) ≤ 2047 * 2 ^ 52 → T (not (nanBits binary64 b))
 no-nan b h =
