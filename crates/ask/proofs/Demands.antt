@@ -57,17 +57,25 @@ module _ (numbers tool : Bool) (mesh : List Float) (h : Header) (starts members 
         all = e;
       }
 
-  pub height-looks : (step : Float → ℕ → Float) (a : Answer) (m : List ℕ) → ended a m ≡ heightOver numbers tool step mesh h starts members marks stamp p → a .refusal ≡ 0 → LookedAll mesh h starts members marks stamp p (a .count)
-  unfolding heightOver answerOf walked lookedIn
-  height-looks step a m e z =
-      by-test (eqb refusal 0)
-      (λ t.
-      let w : Walk Float = walked (nextStamp stamp) step (begun marks stamp (h .floor)) (within h starts members p) in
-      let f : ended a m ≡ ended (answeredBy w (nextStamp stamp)) (w .marks) = rw t at e in
-      counted (a .count) (eqb-true _ _ t) (omega (arith, ap (λ (o : Outcome Answer). o .answer .count) f)))
-      (λ t.
-      let f : ended a m ≡ ended (refusedBy refusal stamp) marks = rw t at e in
-      absurd (eqb-false _ _ t (sym (ap (λ (o : Outcome Answer). o .answer .refusal) f) ∙ z)))
+  -- an answer with refusal 0 is that of its walk
+  module _ (step : Float → ℕ → Float) (a : Answer) (m : List ℕ) where
+    abbrev found : Walk Float
+    found = walked (nextStamp stamp) step (begun marks stamp (h .floor)) (within h starts members p)
+
+    pub height-walked : ended a m ≡ heightOver numbers tool step mesh h starts members marks stamp p → a .refusal ≡ 0 → (refusal ≡ 0) × (ended a m ≡ ended (answeredBy found (nextStamp stamp)) (found .marks))
+    unfolding heightOver answerOf
+    height-walked e z =
+        by-test (eqb refusal 0)
+        (λ t. (eqb-true _ _ t, rw t at e))
+        (λ t.
+        let f : ended a m ≡ ended (refusedBy refusal stamp) marks = rw t at e in
+        absurd (eqb-false _ _ t (sym (ap (λ (o : Outcome Answer). o .answer .refusal) f) ∙ z)))
+
+    pub height-looks : ended a m ≡ heightOver numbers tool step mesh h starts members marks stamp p → a .refusal ≡ 0 → LookedAll mesh h starts members marks stamp p (a .count)
+    unfolding walked lookedIn
+    height-looks e z =
+        let w = height-walked e z in
+        counted (a .count) (w .0) (omega (arith, ap (λ (o : Outcome Answer). o .answer .count) (w .1)))
 
   module _ (early : Bool) (blocks : ℕ → Bool) (a : Ruling) (m : List ℕ) where
     -- the walk of a chord that was neither refused nor blocked early

@@ -11,8 +11,6 @@ use Rattle.plane.specs.declared.Contact.the-variants.{Nothing, Height}
 use Rattle.section.specs.declared.Section.{Section}
 use Rattle.grid.specs.declared.Header.{Header}
 use Rattle.grid.specs.Build.{Outcome}
-use Rattle.height.specs.declared.Answer as high
-use Rattle.height.specs.Height as swept
 use Rattle.ask.specs.declared.Answer.{Answer}
 use Rattle.ask.specs.declared.Ruling.{Ruling}
 use Rattle.ask.specs.declared.Finding.{Finding}
@@ -103,20 +101,14 @@ pub record HeightLeft : Type 0 where
 abbrev pub heightLeft : ℕ → List ℕ → List Float → List ℕ → HeightLeft
 heightLeft k ms hs ns = record { refusal = k; marks = ms; height = hs; counts = ns }
 
-unfoldable pub heightLeftBy : swept.Outcome → HeightLeft
+unfoldable pub heightLeftBy : asked.Outcome Answer → HeightLeft
 heightLeftBy o =
     let a = o .answer in
     heightLeft (a .refusal) (o .marks) (a .height ∷ []) (a .count ∷ a .stamp ∷ [])
 
 -- The height's answer that C reads off its arrays.
-abbrev pub answerFrom : ℕ → List Float → List ℕ → high.Answer
+abbrev pub answerFrom : ℕ → List Float → List ℕ → Answer
 answerFrom k fs ns = record { refusal = k; height = num fs 0; count = getD ns 0 0; stamp = getD ns 1 0 }
-
--- The same of a cutter or a tool that rests on the part.
-unfoldable pub tipLeftBy : asked.Outcome Answer → HeightLeft
-tipLeftBy o =
-    let a = o .answer in
-    heightLeft (a .refusal) (o .marks) (a .height ∷ []) (a .count ∷ a .stamp ∷ [])
 
 -- A chord asked: the refusal, the marks; the verdict's number, the count and the stamp afterwards.
 pub record VerdictLeft : Type 0 where

@@ -12,7 +12,7 @@ ghost use Rattle.job.specs.Reader.{readOf, SoundExactly};
 ghost use Rattle.capsule.specs.Candidates.{maxInCapsule};
 ghost use Rattle.bull.specs.Bull.{bullProfile, bullContactAbove};
 ghost use Rattle.section.specs.Section.{sectionContact};
-ghost use Rattle.desk.specs.Doors.{jobLeft, jobLeftBy, contactLeft, contactLeftBy, sectionFrom, builtLeft, builtLeftBy, headerFrom, heightLeft, heightLeftBy, answerFrom, tipLeftBy, verdictLeft, verdictLeftBy, rulingFrom};
+ghost use Rattle.desk.specs.Doors.{jobLeft, jobLeftBy, contactLeft, contactLeftBy, sectionFrom, builtLeft, builtLeftBy, headerFrom, heightLeft, heightLeftBy, answerFrom, verdictLeft, verdictLeftBy, rulingFrom};
 ghost use Rattle.grid.specs.Build.{buildOf};
 ghost use Rattle.grid.specs.Indexed.{Indexed};
 ghost use Rattle.grid.specs.Ladder.{demand};
@@ -352,7 +352,7 @@ pub extern "C" fn mandrikelo_max_bull(
     found: &mut [f64; 1],
     counts: &mut [u32; 2],
 ) -> u32
-    ensures { λ k. ⌜ heightLeft k (now (marks .exit)) (now (found .exit)) (now (counts .exit)) ≡ tipLeftBy (maxBullOf (now (mesh .entry)) (headerFrom (now (measures .entry)) (now (sizes .entry))) (now (starts .entry)) (now (members .entry)) (now (marks .entry)) stamp (record { x = px; y = py; r = r; rc = rc })) ⌝ }
+    ensures { λ k. ⌜ heightLeft k (now (marks .exit)) (now (found .exit)) (now (counts .exit)) ≡ heightLeftBy (maxBullOf (now (mesh .entry)) (headerFrom (now (measures .entry)) (now (sizes .entry))) (now (starts .entry)) (now (members .entry)) (now (marks .entry)) stamp (record { x = px; y = py; r = r; rc = rc })) ⌝ }
     ensures { λ k. ⌜ (IndexOf (now (mesh .entry)) (headerFrom (now (measures .entry)) (now (sizes .entry))) (now (starts .entry)) (now (members .entry)) → k ≡ 0 → LookedAll (now (mesh .entry)) (headerFrom (now (measures .entry)) (now (sizes .entry))) (now (starts .entry)) (now (members .entry)) (now (marks .entry)) stamp (patchOf (headerFrom (now (measures .entry)) (now (sizes .entry))) px py px py r) (getD (now (counts .exit)) 0 0)) ⌝ }
 {
     let a = contact::max_bull(
@@ -392,7 +392,7 @@ pub extern "C" fn mandrikelo_max_sections(
     found: &mut [f64; 1],
     counts: &mut [u32; 2],
 ) -> u32
-    ensures { λ k. ⌜ heightLeft k (now (marks .exit)) (now (found .exit)) (now (counts .exit)) ≡ tipLeftBy (maxSectionsOf (now (mesh .entry)) (headerFrom (now (measures .entry)) (now (sizes .entry))) (now (starts .entry)) (now (members .entry)) (now (marks .entry)) stamp px py (now (sections .entry))) ⌝ }
+    ensures { λ k. ⌜ heightLeft k (now (marks .exit)) (now (found .exit)) (now (counts .exit)) ≡ heightLeftBy (maxSectionsOf (now (mesh .entry)) (headerFrom (now (measures .entry)) (now (sizes .entry))) (now (starts .entry)) (now (members .entry)) (now (marks .entry)) stamp px py (now (sections .entry))) ⌝ }
     ensures { λ k. ⌜ (IndexOf (now (mesh .entry)) (headerFrom (now (measures .entry)) (now (sizes .entry))) (now (starts .entry)) (now (members .entry)) → k ≡ 0 → LookedAll (now (mesh .entry)) (headerFrom (now (measures .entry)) (now (sizes .entry))) (now (starts .entry)) (now (members .entry)) (now (marks .entry)) stamp (patchOf (headerFrom (now (measures .entry)) (now (sizes .entry))) px py px py (widestOf (now (sections .entry)) (sectionsIn (now (sections .entry))))) (getD (now (counts .exit)) 0 0)) ⌝ }
 {
     let a = contact::max_sections(

@@ -1,70 +1,57 @@
--- What a question answers, refusal by refusal, and where it is accepted.
-use mathlib.Core.Bool.{Bool, true, false, not}
+-- What the code of `max_height` knows and owes.
+use mathlib.Core.Bool.{Bool, true}
 use mathlib.Core.List.{List}
 use mathlib.Core.Path.{_≡_, refl, ap, sym, _∙_}
 use Prim.Native.Nat.{ℕ, _*_, _≤_}
 use native.Mathlib.Omega.{arith}
-use borrow.Author.Tests.{eq-eqb, ne-eqb, eqb-true, leb-true, not-true, not-false}
-use lib.Dec.{eqb, leb, lit<}
+use borrow.Author.Tests.{eq-eqb}
 use lib.Ieee.{Float}
 use lib.ListN.{length}
-use Rattle.numbers.proofs.Branches.{taken, left}
+use Rattle.numbers.proofs.Branches.{taken}
 use Rattle.walk.specs.Walk.{Walk, nextStamp}
 use Rattle.grid.specs.declared.Header.{Header}
-use Rattle.grid.proofs.Ladder.{demanded, demand-here, demand-next}
-use Rattle.header.proofs.Ands.{both}
 use Rattle.query.specs.declared.Patch.{Patch}
 use Rattle.query.specs.Asked.{isMarked}
 use Rattle.query.specs.Patch.{patchOf}
 use Rattle.query.specs.Usable.{usable}
+use Rattle.query.specs.Looked.{IndexOf}
+use Rattle.query.proofs.Using.{walkable, usable-head}
 use Rattle.capsule.specs.declared.Capsule.{Capsule}
-use Rattle.height.specs.declared.Answer.{Answer}
-use Rattle.height.specs.Sweep.{sweepOf, sweptIn, sweptOf}
-use Rattle.height.specs.Height.{refusalOfNumbers, refusalOf, Outcome, ended, refusedBy, answeredBy, maxHeightOf}
+use Rattle.ask.specs.declared.Answer.{Answer}
+use Rattle.ask.specs.Ask.{refusalOf, ended, refusedBy, answeredBy, answerOf, heightOver}
+use Rattle.ask.proofs.Answers.{passed, marked-is, height-refused}
+use Rattle.height.specs.Sweep.{raised, sweepOf, sweptIn, Sweepable}
+use Rattle.height.specs.Height.{isSweep, maxHeightOf}
+use Rattle.height.specs.Demand.{Demand3}
+use Rattle.height.proofs.Demanding.{demand-3}
 
--- a mark for each triangle, and not too many
-pub record Marked (mesh : List Float) (marks : List ℕ) : Type 0 where
-  pub few : length marks ≤ 65536
-  pub nine : length mesh ≡ length marks * 9
+-- p, a and n are the cells, the test of the numbers and the refusal that the code found
+module _ (mesh : List Float) (h : Header) (starts members marks : List ℕ) (stamp : ℕ) (p : Patch) (a : Bool) (n : ℕ) (e : n ≡ refusalOf (isMarked mesh marks) a true (usable mesh h starts members marks stamp p)) where
+  -- what the walk of an accepted question may rely on
+  pub may-sweep : n ≡ 0 → p .x1 ≤ h .columns → p .y1 ≤ h .rows → (length mesh ≡ length marks * 9) × (length marks ≤ 65536) × Sweepable starts members (length marks) h p
+  may-sweep z right top =
+      let b = passed _ _ _ _ (sym e ∙ z) in
+      let k = marked-is mesh marks (b .mesh-fits) in
+      let d : length mesh ≡ h .n * 9 = usable-head mesh h starts members marks stamp p (b .index-stands) .nine in
+      let s : length marks ≡ h .n = omega (arith, k .nine) in
+      (k .nine, k .few, rw s (walkable mesh h starts members marks stamp p (b .index-stands) right top))
 
-pub marked-is : (mesh : List Float) (marks : List ℕ) (px py qx qy r : Float) → refusalOfNumbers mesh marks px py qx qy r ≡ 0 → Marked mesh marks
-unfolding refusalOfNumbers isMarked
-marked-is mesh marks px py qx qy r e =
-    let a = demanded (isMarked mesh marks) 1 _ (lit< tt) e in
-    let b = both (leb (length marks) 65536) (eqb (length mesh) (length marks * 9)) (a .0) in
-    record { few = leb-true _ _ (b .0); nine = eqb-true _ _ (b .1) }
+  module _ (px py qx qy r : Float) (f : p ≡ patchOf h px py qx qy r) (g : a ≡ isSweep px py qx qy r) where
+    -- the answer, and demand 3 beside it
+    tells : (x : Answer) (m : List ℕ) → ended x m ≡ heightOver a true (raised mesh (sweepOf h px py qx qy r)) mesh h starts members marks stamp p → (ended x m ≡ maxHeightOf mesh h starts members marks stamp px py qx qy r) × (IndexOf mesh h starts members → x .refusal ≡ 0 → Demand3 mesh h starts members marks stamp px py qx qy r x)
+    tells x m i =
+        let k : ended x m ≡ maxHeightOf mesh h starts members marks stamp px py qx qy r = unfold maxHeightOf in (i ∙ (rw (f, g))) in
+        (k, demand-3 mesh h starts members marks stamp px py qx qy r x m k)
 
-module _ (mesh : List Float) (h : Header) (starts members marks : List ℕ) (stamp : ℕ) (px py qx qy r : Float) where
-  abbrev answer : Outcome
-  answer = maxHeightOf mesh h starts members marks stamp px py qx qy r
+    pub refused : (n ≡ 0 → ⊥) → (ended (refusedBy n stamp) marks ≡ maxHeightOf mesh h starts members marks stamp px py qx qy r) × (IndexOf mesh h starts members → n ≡ 0 → Demand3 mesh h starts members marks stamp px py qx qy r (refusedBy n stamp))
+    refused z = tells (refusedBy n stamp) marks (height-refused a true mesh h starts members marks stamp p n e _ z)
 
-  refusal-is : (k : ℕ) → k ≡ refusalOf mesh h starts members marks stamp px py qx qy r → (k ≡ 0 → ⊥) → ended (refusedBy k stamp) marks ≡ answer
-  unfolding maxHeightOf
-  refusal-is k e n = left _ _ _ _ (ne-eqb _ 0 (λ z. n (e ∙ z))) (ap (λ (j : ℕ). ended (refusedBy j stamp) marks) e)
+    walk-told : n ≡ 0 → (w : Walk Float) → w ≡ sweptIn mesh h starts members marks stamp (sweepOf h px py qx qy r) p → ended (answeredBy w (nextStamp stamp)) (w .marks) ≡ heightOver a true (raised mesh (sweepOf h px py qx qy r)) mesh h starts members marks stamp p
+    unfolding heightOver answerOf sweptIn
+    walk-told z w v =
+        taken _ _ _ _ (eq-eqb _ 0 (sym e ∙ z)) (ap (λ (u : Walk Float). ended (answeredBy u (nextStamp stamp)) (u .marks)) v)
 
-  -- 1 or 2
-  pub numbers-refused : (k : ℕ) (a : Answer) → k ≡ refusalOfNumbers mesh marks px py qx qy r → (k ≡ 0 → ⊥) → a ≡ refusedBy k stamp → ended a marks ≡ answer
-  unfolding refusalOf
-  numbers-refused k a e n f =
-      ap (λ (b : Answer). ended b marks) f ∙ refusal-is k (left _ _ _ _ (ne-eqb _ 0 (λ z. n (e ∙ z))) e) n
-
-  module _ (k : ℕ) (e : k ≡ refusalOfNumbers mesh marks px py qx qy r) (z : k ≡ 0) (p : Patch) (f : p ≡ patchOf h px py qx qy r) (u : Bool) (g : u ≡ usable mesh h starts members marks stamp p) where
-    used : u ≡ usable mesh h starts members marks stamp (patchOf h px py qx qy r)
-    used = g ∙ ap (usable mesh h starts members marks stamp) f
-
-    -- 7
-    pub cells-refused : (a : Answer) → not u ≡ true → a ≡ refusedBy 7 stamp → ended a marks ≡ answer
-    unfolding refusalOf
-    cells-refused a n b =
-        ap (λ (c : Answer). ended c marks) b
-        ∙ refusal-is 7 (taken _ _ _ _ (eq-eqb _ 0 (sym e ∙ z)) (demand-here _ 7 0 7 (sym used ∙ not-true u n) refl)) (λ d. omega arith)
-
-    pub usable-is : not u ≡ false → usable mesh h starts members marks stamp p ≡ true
-    usable-is n = sym g ∙ not-false u n
-
-    -- accepted
-    pub answered : (q : Capsule) (w : Walk Float) (next : ℕ) → not u ≡ false → q ≡ sweepOf h px py qx qy r → w ≡ sweptIn mesh h starts members marks stamp q p → next ≡ nextStamp stamp → answeredBy w next ≡ answer
-    unfolding maxHeightOf refusalOf sweptOf
-    answered q w next n a b d =
-        taken _ _ _ _ (eq-eqb _ 0 (sym (taken _ _ _ _ (eq-eqb _ 0 (sym e ∙ z)) (demand-next _ 7 0 0 (sym used ∙ not-false u n) refl))))
-        (ap (λ (v : Walk Float). answeredBy v next) (b ∙ (rw (a, f))) ∙ ap (answeredBy _) d)
+    pub answered : n ≡ 0 → (q : Capsule) (w : Walk Float) (next : ℕ) → q ≡ sweepOf h px py qx qy r → w ≡ sweptIn mesh h starts members marks stamp q p → next ≡ nextStamp stamp → (ended (answeredBy w next) (w .marks) ≡ maxHeightOf mesh h starts members marks stamp px py qx qy r) × (IndexOf mesh h starts members → _≡_ {A = ℕ} 0 0 → Demand3 mesh h starts members marks stamp px py qx qy r (answeredBy w next))
+    answered z q w next b c d =
+        tells (answeredBy w next) (w .marks)
+        (ap (λ (k : ℕ). ended (answeredBy w k) (w .marks)) d ∙ walk-told z w (c ∙ ap (λ (k : Capsule). sweptIn mesh h starts members marks stamp k p) b))

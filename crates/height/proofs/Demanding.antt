@@ -1,81 +1,49 @@
 -- Demand 3 follows from what `max_height` answers.
-use mathlib.Core.Bool.{Bool, true, false}
+use mathlib.Core.Bool.{true}
 use mathlib.Core.List.{List}
 use mathlib.Core.Logic.{inl, inr, ⊎-elim}
-use mathlib.Core.Path.{_≡_, ap, sym, _∙_}
-use Prim.Native.Nat.{ℕ, _<_}
+use mathlib.Core.Path.{_≡_, ap}
+use Prim.Native.Nat.{ℕ}
 use native.Mathlib.Omega.{arith}
-use borrow.Author.Tests.{eqb-true, eqb-false}
-use lib.Dec.{eqb, lit<}
 use lib.Ieee.{Float}
-use Rattle.numbers.proofs.Branches.{either}
-use Rattle.walk.specs.Walk.{walked, nextStamp}
+use Rattle.walk.specs.Walk.{walked}
 use Rattle.grid.specs.declared.Header.{Header}
-use Rattle.grid.proofs.Ladder.{demanded}
 use Rattle.query.specs.Patch.{patchOf}
-use Rattle.query.specs.Usable.{usable}
 use Rattle.query.specs.Looked.{IndexOf, lookedIn}
 use Rattle.query.proofs.Patches.{patch-inside}
 use Rattle.query.proofs.Using.{usable-head}
-use Rattle.query.proofs.Looks.{looks-once, looks-one, index-of}
-use Rattle.height.specs.declared.Answer.{Answer}
-use Rattle.height.specs.Sweep.{sweepOf, sweptIn, sweptOf}
-use Rattle.height.specs.Height.{refusalOfNumbers, refusalOf, ended, refusedBy, answeredBy, maxHeightOf, Outcome}
+use Rattle.query.proofs.Looks.{looks-one, index-of}
+use Rattle.ask.specs.declared.Answer.{Answer}
+use Rattle.ask.specs.Ask.{Outcome, ended}
+use Rattle.ask.proofs.Answers.{passed, marked-is}
+use Rattle.ask.proofs.Demands.{height-walked, height-looks}
+use Rattle.height.specs.Sweep.{raised, sweepOf}
+use Rattle.height.specs.Height.{maxHeightOf}
 use Rattle.height.specs.Demand.{Demand3}
-use Rattle.height.proofs.Answering.{Marked, marked-is}
 use Rattle.height.proofs.Heights.{coordinate-real, fold-is, fold-none}
 
-by-test : {A : Type 0} (b : Bool) → (b ≡ true → A) → (b ≡ false → A) → A
-by-test {A} b p q = either (λ (_ : Bool). A) b true false p q
-
 module _ (mesh : List Float) (h : Header) (starts members marks : List ℕ) (stamp : ℕ) (px py qx qy r : Float) where
-  -- what an accepted question may rely on
-  record Accepted : Type 0 where
-    marked : Marked mesh marks
-    used : usable mesh h starts members marks stamp (patchOf h px py qx qy r) ≡ true
-
-  accepted : refusalOf mesh h starts members marks stamp px py qx qy r ≡ 0 → Accepted
-  unfolding refusalOf
-  accepted e =
-      by-test (eqb (refusalOfNumbers mesh marks px py qx qy r) 0)
-      (λ t. record { marked = marked-is mesh marks px py qx qy r (eqb-true _ _ t); used = demanded _ 7 0 (lit< tt) (rw t at e) .0 })
-      (λ t. absurd (eqb-false _ _ t (rw t at e)))
-
-  -- an answer with refusal 0 is that of the walk
-  record Walked (a : Answer) : Type 0 where
-    accept : refusalOf mesh h starts members marks stamp px py qx qy r ≡ 0
-    height : a .height ≡ sweptOf mesh h starts members marks stamp px py qx qy r .value
-    count : a .count ≡ sweptOf mesh h starts members marks stamp px py qx qy r .count
-
-  walked-is : (a : Answer) (m : List ℕ) → ended a m ≡ maxHeightOf mesh h starts members marks stamp px py qx qy r → a .refusal ≡ 0 → Walked a
-  unfolding maxHeightOf
-  walked-is a m e z =
-      by-test (eqb (refusalOf mesh h starts members marks stamp px py qx qy r) 0)
-      (λ t.
-      let f : ended a m ≡ answeredBy (sweptOf mesh h starts members marks stamp px py qx qy r) (nextStamp stamp) = rw t at e in
-      record { accept = eqb-true _ _ t; height = ap (λ (o : Outcome). o .answer .height) f; count = ap (λ (o : Outcome). o .answer .count) f })
-      (λ t.
-      let f : ended a m ≡ ended (refusedBy (refusalOf mesh h starts members marks stamp px py qx qy r) stamp) marks = rw t at e in
-      absurd (eqb-false _ _ t (sym (ap (λ (o : Outcome). o .answer .refusal) f) ∙ z)))
-
   pub demand-3 : (a : Answer) (m : List ℕ) → ended a m ≡ maxHeightOf mesh h starts members marks stamp px py qx qy r → IndexOf mesh h starts members → a .refusal ≡ 0 → Demand3 mesh h starts members marks stamp px py qx qy r a
-  unfolding sweptOf sweptIn walked lookedIn
+  unfolding maxHeightOf walked lookedIn
   demand-3 a m e x z =
-      let w = walked-is a m e z in
-      let c = accepted (w .accept) in
       let p = patchOf h px py qx qy r in
       let i = patch-inside h px py qx qy r in
-      let d = index-of mesh h starts members x in
-      let n = c .marked .nine in
-      let real = coordinate-real (h .floor) (usable-head mesh h starts members marks stamp p (c .used) .ranged .floor) in
       let q = sweepOf h px py qx qy r in
       let is = lookedIn h starts members marks stamp p in
+      let w = height-walked _ true mesh h starts members marks stamp p (i .0) (i .1) x (raised mesh q) a m e z in
+      let l = height-looks _ true mesh h starts members marks stamp p (i .0) (i .1) x (raised mesh q) a m e z in
+      let c = passed _ _ _ _ (w .0) in
+      let n = marked-is mesh marks (c .mesh-fits) .nine in
+      let u = c .index-stands in
+      let d = index-of mesh h starts members x in
+      let real = coordinate-real (h .floor) (usable-head mesh h starts members marks stamp p u .ranged .floor) in
+      let v = ap (λ (o : Outcome Answer). o .answer .height) (w .1) in
       record {
-        looks = looks-once mesh h starts members marks stamp p d (c .used) n (i .0) (i .1);
-        count = omega (arith, w .count);
-        height = rw (w .height)
+        looks = l .looks;
+        count = l .all;
+        height = rw v
             (⊎-elim inl
-            (λ o. inr (record { above = o .above; one = o .one; looked = looks-one mesh h starts members marks stamp p d (c .used) n (i .0) (i .1) (o .one) (o .looked); computed = o .computed }))
+            (λ o. inr (record { above = o .above; one = o .one; looked = looks-one mesh h starts members marks stamp p d u n (i .0) (i .1) (o .one) (o .looked); computed = o .computed }))
             (fold-is mesh q is (h .floor) real));
-        none = λ k t v g above higher. fold-none mesh q is (h .floor) real k (omega arith) v g (rw (w .height) at above) (rw (w .height) at higher);
+        none = λ k t y g above higher. fold-none mesh q is (h .floor) real k (omega arith) y g (rw v at above) (rw v at higher);
       }

@@ -17,7 +17,8 @@ use Rattle.plane.specs.declared.Contact.the-variants.{Nothing, Height}
 use Rattle.plane.specs.Mesh.{triangleOf, topOf}
 use Rattle.walk.specs.Walk.{fold}
 use Rattle.capsule.specs.declared.Capsule.{Capsule}
-use Rattle.height.specs.Sweep.{heightOf, raisedBy, raised}
+use Rattle.ask.specs.Ask.{raisedBy}
+use Rattle.height.specs.Sweep.{heightOf, raised}
 use Rattle.height.proofs.Orders.{no, lt-goes-on, lt-never-same, le-not-lt}
 
 by-test : {A : Type 0} (b : Bool) → (b ≡ true → A) → (b ≡ false → A) → A

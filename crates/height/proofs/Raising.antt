@@ -4,17 +4,14 @@ use mathlib.Core.List.{List}
 use mathlib.Core.Path.{_≡_, refl, ap, sym, _∙_}
 use Prim.Native.Nat.{ℕ}
 use lib.Ieee.{Float, le}
-use lib.ListN.{length}
 use Rattle.numbers.proofs.Branches.{taken, left}
 use Rattle.plane.specs.declared.Triangle.{Triangle}
 use Rattle.plane.specs.declared.Contact.{Contact}
 use Rattle.plane.specs.Mesh.{triangleOf, topOf}
 use Rattle.capsule.specs.Candidates.{highestIn}
-use Rattle.walk.specs.Walk.{Walk, fold}
-use Rattle.walk.specs.Steps.{look, Below}
-use Rattle.walk.proofs.Rings.{Kept, look-keeps, fold-keeps}
 use Rattle.capsule.specs.declared.Capsule.{Capsule}
-use Rattle.height.specs.Sweep.{heightOf, raisedBy, raised}
+use Rattle.ask.specs.Ask.{raisedBy}
+use Rattle.height.specs.Sweep.{heightOf, raised}
 
 module _ (mesh : List Float) (q : Capsule) (best : Float) (i : ℕ) (t : Triangle) (top : Float) (a : t ≡ triangleOf mesh i) (b : top ≡ topOf t) where
   top-is : topOf (triangleOf mesh i) ≡ top
@@ -29,7 +26,3 @@ module _ (mesh : List Float) (q : Capsule) (best : Float) (i : ℕ) (t : Triangl
   raise-takes e k v c d =
       left _ _ _ _ (ap (λ (z : Float). le z best) top-is ∙ e)
       (d ∙ ap (λ (u : Contact). raisedBy u best) (c ∙ ap (highestIn q) a))
-
--- what the step over one cell keeps
-pub cell-keeps : (stamp : ℕ) (step : Float → ℕ → Float) (ms : List ℕ) {w w′ : Walk Float} → w′ ≡ fold (look stamp step) w ms → Below (length (w .marks)) ms → Kept stamp w w′
-cell-keeps stamp step ms {w} e b = rw e (fold-keeps stamp (look stamp step) (look-keeps stamp step) ms w b)

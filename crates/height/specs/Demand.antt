@@ -13,7 +13,7 @@ use Rattle.capsule.specs.declared.Capsule.{Capsule}
 use Rattle.grid.specs.declared.Header.{Header}
 use Rattle.query.specs.Patch.{patchOf}
 use Rattle.query.specs.Looked.{LooksOnce, lookedIn}
-use Rattle.height.specs.declared.Answer.{Answer}
+use Rattle.ask.specs.declared.Answer.{Answer}
 use Rattle.height.specs.Sweep.{heightOf, sweepOf}
 
 -- "it lies above the floor and is the computed height of one of them": of a triangle of the list.

@@ -3,9 +3,7 @@ use mathlib.Core.Bool.{cond}
 use mathlib.Core.List.{List}
 use Prim.Native.Nat.{ℕ}
 use lib.Ieee.{Float, le}
-use Rattle.numbers.specs.Reals.{maxOf}
 use Rattle.plane.specs.declared.Contact.{Contact}
-use Rattle.plane.specs.declared.Contact.the-variants.{Nothing, Height}
 use Rattle.plane.specs.Mesh.{triangleOf, topOf}
 use Rattle.capsule.specs.declared.Capsule.{Capsule}
 use Rattle.capsule.specs.Region.{capsuleOf}
@@ -15,16 +13,12 @@ use Rattle.walk.specs.Steps.{Walkable}
 use Rattle.grid.specs.declared.Header.{Header}
 use Rattle.query.specs.declared.Patch.{Patch}
 use Rattle.query.specs.Patch.{patchOf}
+use Rattle.ask.specs.Ask.{raisedBy}
 use Rattle.height.specs.declared.Swept.{Swept}
 
 -- The computed height of triangle i in the capsule that the disk sweeps: none, or a height.
 unfoldable pub heightOf : List Float → Capsule → ℕ → Contact
 heightOf mesh q i = highestIn q (triangleOf mesh i)
-
--- the best so far, with one contact more
-unfoldable pub raisedBy : Contact → Float → Float
-raisedBy Nothing best = best
-raisedBy (Height z) best = maxOf best z
 
 -- One triangle of the walk: it counts only where its top is above the best so far.
 unfoldable pub raised : List Float → Capsule → Float → ℕ → Float

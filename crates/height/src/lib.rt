@@ -6,22 +6,15 @@ ghost use Rattle.walk.specs.Walk.{block, fold, nextStamp};
 ghost use Rattle.walk.specs.Steps.{seen, look, Below, Room, Walkable};
 ghost use Rattle.query.specs.Patch.{patchOf};
 ghost use Rattle.query.specs.Looked.{IndexOf};
+ghost use Rattle.ask.specs.Ask.{ended};
 ghost use Rattle.height.specs.Demand.{Demand3};
-ghost use Rattle.height.specs.Sweep.{raisedBy, raised, swept, sweptIn, sweptOf, Sweepable};
-ghost use Rattle.height.specs.Height.{arePoints, isSweep, refusalOfNumbers, refusedBy, ended, maxHeightOf};
+ghost use Rattle.height.specs.Sweep.{raised, swept, sweptIn, sweptOf, Sweepable};
+ghost use Rattle.height.specs.Height.{arePoints, isSweep, maxHeightOf};
+use ask::Answer;
 use capsule::Capsule;
 use grid::Header;
-use plane::Contact;
 use query::Patch;
 use walk::Seen;
-
-// A question's answer: its refusal or 0, the height, how many triangles were looked at, and the stamp.
-pub struct Answer {
-    pub refusal: u32,
-    pub height: f64,
-    pub count: u32,
-    pub stamp: u32,
-}
 
 // What the walk of a sweep found, how many triangles it looked at, and its stamp.
 pub struct Swept {
@@ -47,13 +40,16 @@ pub fn max_height(
     ensures { λ a. ⌜ ended a (now (marks .exit)) ≡ maxHeightOf (now (mesh .entry)) h (now (starts .entry)) (now (members .entry)) (now (marks .entry)) stamp px py qx qy r ⌝ }
     ensures { λ a. ⌜ (IndexOf (now (mesh .entry)) h (now (starts .entry)) (now (members .entry)) → a .refusal ≡ 0 → Demand3 (now (mesh .entry)) h (now (starts .entry)) (now (members .entry)) (now (marks .entry)) stamp px py qx qy r a) ⌝ }
 {
-    let k = refusal(mesh, marks, px, py, qx, qy, r);
-    if k != 0 {
-        return refused(k, stamp);
-    }
     let p = query::patch_of(h, px, py, qx, qy, r);
-    if !query::usable(mesh, h, starts, members, marks, stamp, p) {
-        return refused(7, stamp);
+    let asked = is_sweep(px, py, qx, qy, r);
+    let n = ask::refusal(mesh, h, starts, members, marks, stamp, p, asked, true);
+    if n != 0 {
+        return Answer {
+            refusal: n,
+            height: 0.0,
+            count: 0,
+            stamp,
+        };
     }
     let s = sweep_in(
         mesh,
@@ -103,18 +99,6 @@ pub fn swept_height(
     )
 }
 
-// A refusal: its number, zero height and count, and the stamp as handed.
-fn refused(k: u32, stamp: u32) -> Answer
-    ensures { λ a. ⌜ a ≡ refusedBy k stamp ⌝ }
-{
-    Answer {
-        refusal: k,
-        height: 0.0,
-        count: 0,
-        stamp,
-    }
-}
-
 // Whether the numbers of a sweep are in their ranges.
 fn is_sweep(px: f64, py: f64, qx: f64, qy: f64, r: f64) -> bool
     ensures { λ a. ⌜ a ≡ isSweep px py qx qy r ⌝ }
@@ -145,19 +129,6 @@ fn are_points(px: f64, py: f64, qx: f64, qy: f64) -> bool
     }
 }
 
-// Refusals 1 and 2, or 0.
-fn refusal(mesh: &[f64], marks: &[u32], px: f64, py: f64, qx: f64, qy: f64, r: f64) -> u32
-    ensures { λ k. ⌜ k ≡ refusalOfNumbers (now (mesh .entry)) (now (marks .entry)) px py qx qy r ⌝ }
-{
-    if !query::is_marked(mesh, marks) {
-        return 1;
-    }
-    if !is_sweep(px, py, qx, qy, r) {
-        return 2;
-    }
-    0
-}
-
 // The walk of a sweep over the cells p: it begins at the floor, with the next stamp.
 fn sweep_in(
     mesh: &[f64],
@@ -186,16 +157,6 @@ fn sweep_in(
     }
 }
 
-// The best so far with one contact more.
-fn raise_by(c: Contact, best: f64) -> f64
-    ensures { λ r. ⌜ r ≡ raisedBy c best ⌝ }
-{
-    match c {
-        Contact::Nothing => best,
-        Contact::Height(z) => numbers::max(best, z),
-    }
-}
-
 // The best so far with triangle i.
 fn raise(mesh: &[f64], q: Capsule, best: f64, i: usize) -> f64
     requires { ⌜ 9 * i + 9 ≤ length (now mesh) ⌝ }
@@ -205,7 +166,7 @@ fn raise(mesh: &[f64], q: Capsule, best: f64, i: usize) -> f64
     if plane::top(t) <= best {
         return best;
     }
-    raise_by(capsule::highest_in(q, t), best)
+    ask::raise_by(capsule::highest_in(q, t), best)
 }
 
 // Looks at triangle i, unless its mark is the stamp.

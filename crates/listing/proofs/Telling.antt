@@ -15,8 +15,8 @@ use Rattle.job.proofs.Long.{read-cut}
 use Rattle.grid.specs.declared.Built.{Built}
 use Rattle.grid.specs.Build.{outcome, buildOf}
 use Rattle.grid.specs.declared.Header.{Header}
-use Rattle.height.specs.declared.Answer.{Answer}
-use Rattle.height.specs.Height.{ended}
+use Rattle.ask.specs.declared.Answer.{Answer}
+use Rattle.ask.specs.Ask.{ended}
 use Rattle.lines.specs.Lines.{headLine, answerLine, refusedLine}
 use Rattle.lines.specs.Wrote.{Wrote}
 use Rattle.lines.proofs.Texts.{nothing, _then_, as-well}

@@ -10,7 +10,9 @@ use Rattle.numbers.specs.Reals.{f0, num}
 use Rattle.job.specs.Reader.{readOf}
 use Rattle.grid.specs.declared.Header.{Header}
 use Rattle.grid.specs.Build.{buildOf}
-use Rattle.height.specs.Height.{Outcome, maxHeightOf}
+use Rattle.ask.specs.declared.Answer.{Answer}
+use Rattle.ask.specs.Ask.{Outcome}
+use Rattle.height.specs.Height.{maxHeightOf}
 use Rattle.lines.specs.Lines.{headLine, answerLine, refusedLine}
 
 -- ---- the rooms: 256 triangles, 256 questions, 513 starts, 16,384 members
@@ -34,7 +36,7 @@ inputRoom = 28703
 -- ---- the questions
 
 -- question i, five numbers of the table qs: px, py, qx, qy, r
-unfoldable pub askedOf : List Float → Header → List ℕ → List ℕ → List ℕ → ℕ → List Float → ℕ → Outcome
+unfoldable pub askedOf : List Float → Header → List ℕ → List ℕ → List ℕ → ℕ → List Float → ℕ → Outcome Answer
 askedOf mesh h starts members marks stamp qs i =
     maxHeightOf mesh h starts members marks stamp (num qs (5 * i)) (num qs (5 * i + 1)) (num qs (5 * i + 2)) (num qs (5 * i + 3)) (num qs (5 * i + 4))
 

@@ -3,11 +3,11 @@ ghost use mathlib.Core.Path.{_≡_};
 ghost use mathlib.Core.List.{_++_};
 ghost use Prim.Native.Nat.{_+_, _*_, _≤_, _<_};
 ghost use lib.ListN.{length, take, replicate};
-ghost use Rattle.height.specs.Height.{ended};
+ghost use Rattle.ask.specs.Ask.{ended};
 ghost use Rattle.lines.specs.Wrote.{Wrote};
 ghost use Rattle.listing.specs.Listing.{askedOf, answersOf, listedOf, listingOf, Enough};
+use ask::Answer;
 use grid::Header;
-use height::Answer;
 
 // Room for the longest listing of 256 questions.
 pub const TEXT: usize = 20570;

@@ -5,17 +5,17 @@ use Rattle.query.specs.Patch.{patchOf}
 use Rattle.query.specs.Looked.{IndexOf}
 use Rattle.ask.specs.Demand.{LookedAll}
 use Rattle.contact.specs.Contact.{maxBullOf}
-use Rattle.desk.specs.Doors.{tipLeftBy}
+use Rattle.desk.specs.Doors.{heightLeftBy}
 use Rattle.desk.proofs.mandrikelo_max_bull.Statement.{statement}
 use Rattle.desk.proofs.mandrikelo_max_bull.Tie as tie
 
 returns : tie.Need-returns
-unfolding tipLeftBy
+unfolding heightLeftBy
 returns c =
     let b = c .before .before .before .before .before .before in
     let a = b .before .before .before .before .before .args in
     let q = c .before .before .before .before .max-bull in (
-      ap tipLeftBy
+      ap heightLeftBy
           (q .ensures .0
           ∙ ap (λ h. maxBullOf (a .mesh .now) h (a .starts .now) (a .members .now) (a .marks .now) (a .stamp) (record { x = a .px; y = a .py; r = a .r; rc = a .rc })) (b .header-from .ensures)),
       subst (λ (h : Header). IndexOf (a .mesh .now) h (a .starts .now) (a .members .now) → q .result .refusal ≡ 0 → LookedAll (a .mesh .now) h (a .starts .now) (a .members .now) (a .marks .now) (a .stamp) (patchOf h (a .px) (a .py) (a .px) (a .py) (a .r)) (q .result .count))

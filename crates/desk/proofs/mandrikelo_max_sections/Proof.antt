@@ -6,17 +6,17 @@ use Rattle.query.specs.Looked.{IndexOf}
 use Rattle.ask.specs.Demand.{LookedAll}
 use Rattle.tool.specs.Tool.{widestOf, sectionsIn}
 use Rattle.contact.specs.Contact.{maxSectionsOf}
-use Rattle.desk.specs.Doors.{tipLeftBy}
+use Rattle.desk.specs.Doors.{heightLeftBy}
 use Rattle.desk.proofs.mandrikelo_max_sections.Statement.{statement}
 use Rattle.desk.proofs.mandrikelo_max_sections.Tie as tie
 
 returns : tie.Need-returns
-unfolding tipLeftBy
+unfolding heightLeftBy
 returns c =
     let b = c .before .before .before .before .before .before in
     let a = b .before .before .before .before .before .before .args in
     let q = c .before .before .before .before .max-sections in (
-      ap tipLeftBy
+      ap heightLeftBy
           (q .ensures .0
           ∙ ap (λ h. maxSectionsOf (a .mesh .now) h (a .starts .now) (a .members .now) (a .marks .now) (a .stamp) (a .px) (a .py) (a .sections .now)) (b .header-from .ensures)),
       subst (λ (h : Header). IndexOf (a .mesh .now) h (a .starts .now) (a .members .now) → q .result .refusal ≡ 0 → LookedAll (a .mesh .now) h (a .starts .now) (a .members .now) (a .marks .now) (a .stamp) (patchOf h (a .px) (a .py) (a .px) (a .py) (widestOf (a .sections .now) (sectionsIn (a .sections .now)))) (q .result .count))

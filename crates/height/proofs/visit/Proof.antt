@@ -8,7 +8,7 @@ use Rattle.walk.specs.Walk.{over, cell, row, block, fold}
 use Rattle.walk.specs.Steps.{seen, look}
 use Rattle.walk.proofs.Rings.{Going, going-starts, ring-turns, ring-ends, kept-trans, kept-room}
 use Rattle.height.specs.Sweep.{raised}
-use Rattle.height.proofs.Raising.{cell-keeps}
+use Rattle.ask.proofs.Answers.{cell-keeps}
 use Rattle.height.proofs.visit.Statement.{statement}
 use Rattle.height.proofs.visit.Tie as tie
 
