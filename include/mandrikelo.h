@@ -92,7 +92,7 @@ uint32_t mandrikelo_sections_chord_clear(const double *mesh, size_t mesh_len, co
 /* The flat runs, with the radius of the index. `levels` (z, low x, low y, high x, high y) and `runs` (ax, ay, bx, by, z) hold five
  * numbers each, and zeros where they are not used. `marks` is one entry a triangle, whatever it holds, and all zero afterwards.
  * Refusals in their order: 1, 9, 7 (every cell and every triangle, no mark), 11, 10, 12, 13. A count over 4,294,967,295 is told as
- * 4,294,967,295; only the rows of 65,536 levels of 65,536 rows each, or runs in a table of 160 GB, could come to it. */
+ * 4,294,967,295; only the rows of 65,536 levels of 65,536 rows each, or runs in a table of 172 GB, could come to it. */
 uint32_t mandrikelo_plan(const double *mesh, size_t mesh_len, const double measures[6], const uint32_t sizes[3],
     const uint32_t *starts, size_t starts_len, const uint32_t *members, size_t members_len,
     uint32_t *marks, size_t marks_len,
