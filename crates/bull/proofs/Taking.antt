@@ -11,9 +11,11 @@ use Rattle.golden.specs.Search.{goldenMax}
 use Rattle.touch.specs.declared.Edge.{Edge}
 use Rattle.touch.specs.declared.Stretch.{Stretch}
 use Rattle.touch.specs.declared.Stretch.the-variants.{Nowhere, Between}
-use Rattle.touch.specs.Touch.{offerOf, reachedOf}
+use Rattle.touch.specs.Touch.{offerOf, distanceAt, reachedOf}
 use Rattle.bull.specs.declared.Bull.{Bull}
+use Rattle.bull.specs.declared.Way.{Way}
 use Rattle.bull.specs.Bull.{bullAt, bullStretch, tooLow, bullEdge}
+use Rattle.bull.specs.Way.{wayOf, wayAt}
 
 module _ (k : Bull) (e : Edge) (c : Contact) (s : Stretch) where
   pub nowhere-on : s ≡ Nowhere → c ≡ offerOf c (bullStretch k e s)
@@ -37,3 +39,8 @@ module _ (c : Contact) (v z : Float) where
 pub edge-on : (k : Bull) (floor : Float) (c : Contact) (e : Edge) (s : Stretch) (r : Contact) → tooLow floor c e ≡ false → s ≡ reachedOf e (k .x) (k .y) (k .r) → r ≡ offerOf c (bullStretch k e s) → r ≡ bullEdge k floor c e
 unfolding bullEdge
 edge-on k floor c e s r h p q = left _ _ _ _ h (rw p at q)
+
+-- a search along an edge's way is one along the edge
+pub along-way : (k : Bull) (e : Edge) (w : Way) (lo hi r : Float) → w ≡ wayOf e → r ≡ goldenMax (wayAt k w) lo hi 40 → r ≡ goldenMax (bullAt k e) lo hi 40
+unfolding wayAt bullAt distanceAt
+along-way k e w lo hi r p q = rw p at q

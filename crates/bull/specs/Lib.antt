@@ -1,2 +1,3 @@
 pub mod Bull
 pub mod Cap
+pub mod Way

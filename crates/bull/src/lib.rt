@@ -4,6 +4,7 @@ ghost use Rattle.numbers.specs.Reals.{maxOf};
 ghost use Rattle.plane.specs.Contacts.{takeOf};
 ghost use Rattle.touch.specs.Touch.{offerOf};
 ghost use Rattle.golden.specs.Search.{rises, goldenStart, goldenStep, goldenMax};
+ghost use Rattle.bull.specs.Way.{wayOf, wayAt};
 ghost use Rattle.bull.specs.Bull.{bullProfile, bullOver, bullVertex, bullVertices, bullAt, bullStretch, bestSoFar, tooLow, bullEdge, bullEdges, bullSloped, bullRest, bullFacet, bullContactAbove, bullContact};
 use golden::Golden;
 use plane::Contact;
@@ -150,40 +151,71 @@ fn higher(k: Bull, e: Edge, b: f64, lo: f64, hi: f64) -> f64
 fn search(k: Bull, e: Edge, lo: f64, hi: f64) -> f64
     ensures { λ r. ⌜ r ≡ goldenMax (bullAt k e) lo hi 40 ⌝ }
 {
-    let mut g = start(k, e, lo, hi);
-    for n in 0..40usize {
-        g = step(k, e, g);
+    search_on(k, way_of(e), lo, hi)
+}
+
+// An edge as the search reads it: where it starts and how far its end lies from there, the numbers of the plan side by side.
+pub struct Way {
+    pub ax: f64,
+    pub ay: f64,
+    pub ex: f64,
+    pub ey: f64,
+    pub az: f64,
+    pub ez: f64,
+}
+
+// The way along an edge.
+fn way_of(e: Edge) -> Way
+    ensures { λ w. ⌜ w ≡ wayOf e ⌝ }
+{
+    Way {
+        ax: e.ax,
+        ay: e.ay,
+        ex: e.bx - e.ax,
+        ey: e.by - e.ay,
+        az: e.az,
+        ez: e.bz - e.az,
     }
-    golden::best(at(k, e, lo), at(k, e, hi), g.f1, g.f2)
+}
+
+// The largest tip's height between two places of a way.
+fn search_on(k: Bull, w: Way, lo: f64, hi: f64) -> f64
+    ensures { λ r. ⌜ r ≡ goldenMax (wayAt k w) lo hi 40 ⌝ }
+{
+    let mut g = start(k, w, lo, hi);
+    for n in 0..40usize {
+        g = step(k, w, g);
+    }
+    golden::best(at(k, w, lo), at(k, w, hi), g.f1, g.f2)
 }
 
 // The search's first bracket.
-fn start(k: Bull, e: Edge, lo: f64, hi: f64) -> Golden
-    ensures { λ g. ⌜ g ≡ goldenStart (bullAt k e) lo hi ⌝ }
+fn start(k: Bull, w: Way, lo: f64, hi: f64) -> Golden
+    ensures { λ g. ⌜ g ≡ goldenStart (wayAt k w) lo hi ⌝ }
 {
     let u = golden::lower_point(lo, hi);
     let v = golden::upper_point(lo, hi);
-    golden::start(lo, hi, at(k, e, u), at(k, e, v))
+    golden::start(lo, hi, at(k, w, u), at(k, w, v))
 }
 
 // A step of the search.
-fn step(k: Bull, e: Edge, g: Golden) -> Golden
-    ensures { λ r. ⌜ r ≡ goldenStep rises (bullAt k e) g ⌝ }
+fn step(k: Bull, w: Way, g: Golden) -> Golden
+    ensures { λ r. ⌜ r ≡ goldenStep rises (wayAt k w) g ⌝ }
 {
     let left = golden::drops_low(g);
     let p = golden::probe(left, g);
-    golden::narrowed(left, g, p, at(k, e, p))
+    golden::narrowed(left, g, p, at(k, w, p))
 }
 
-// The tip's height over the edge's point at t.
-fn at(k: Bull, e: Edge, t: f64) -> f64
-    ensures { λ z. ⌜ z ≡ bullAt k e t ⌝ }
+// The tip's height over the way's point at t.
+fn at(k: Bull, w: Way, t: f64) -> f64
+    ensures { λ z. ⌜ z ≡ wayAt k w t ⌝ }
 {
-    let z = e.az + t * (e.bz - e.az);
+    let z = w.az + t * w.ez;
     let r = k.r;
     let rc = k.rc;
-    let d = numbers::min(touch::distance_at(e, k.x, k.y, t), r);
-    z - bull_profile(d, r, rc)
+    let d = numbers::hypot(w.ax + t * w.ex - k.x, w.ay + t * w.ey - k.y);
+    z - bull_profile(numbers::min(d, r), r, rc)
 }
 
 // The candidate of the facet.
