@@ -4,3 +4,4 @@ pub mod Unit
 pub mod Held
 pub mod Along
 pub mod Small
+pub mod Near

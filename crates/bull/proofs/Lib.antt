@@ -1,3 +1,4 @@
 pub mod Profile
 pub mod Capping
 pub mod Taking
+pub mod Flats

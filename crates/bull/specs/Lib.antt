@@ -1,3 +1,4 @@
 pub mod Bull
 pub mod Cap
 pub mod Way
+pub mod Flat

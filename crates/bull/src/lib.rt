@@ -5,6 +5,7 @@ ghost use Rattle.plane.specs.Contacts.{takeOf};
 ghost use Rattle.touch.specs.Touch.{offerOf};
 ghost use Rattle.golden.specs.Search.{rises, goldenStart, goldenStep, goldenMax};
 ghost use Rattle.bull.specs.Way.{wayOf, wayAt};
+ghost use Rattle.bull.specs.Flat.{FlatTo};
 ghost use Rattle.bull.specs.Bull.{bullProfile, bullOver, bullVertex, bullVertices, bullAt, bullStretch, bestSoFar, tooLow, bullEdge, bullEdges, bullSloped, bullRest, bullFacet, bullContactAbove, bullContact};
 use golden::Golden;
 use plane::Contact;
@@ -151,7 +152,27 @@ fn higher(k: Bull, e: Edge, b: f64, lo: f64, hi: f64) -> f64
 fn search(k: Bull, e: Edge, lo: f64, hi: f64) -> f64
     ensures { λ r. ⌜ r ≡ goldenMax (bullAt k e) lo hi 40 ⌝ }
 {
-    search_on(k, way_of(e), lo, hi)
+    search_on(k, way_of(e), flat_of(k), lo, hi)
+}
+
+// A number up to which the square of a distance shows that the distance is within the flat part, so that no root is taken there: the square of that part's radius, or a
+// number below every square.
+fn flat_of(k: Bull) -> f64
+    ensures { λ f. ⌜ FlatTo k f ⌝ }
+{
+    let r = k.r;
+    let part = r - k.rc;
+    let square = part * part;
+    if !spans::is_radius(r) {
+        return MINUS_ONE;
+    }
+    if !spans::is_radius(part) {
+        return MINUS_ONE;
+    }
+    if numbers::root(square) <= part {
+        return square;
+    }
+    MINUS_ONE
 }
 
 // An edge as the search reads it: where it starts and how far its end lies from there, the numbers of the plan side by side.
@@ -179,43 +200,52 @@ fn way_of(e: Edge) -> Way
 }
 
 // The largest tip's height between two places of a way.
-fn search_on(k: Bull, w: Way, lo: f64, hi: f64) -> f64
+fn search_on(k: Bull, w: Way, flat: f64, lo: f64, hi: f64) -> f64
+    requires { ⌜ FlatTo k flat ⌝ }
     ensures { λ r. ⌜ r ≡ goldenMax (wayAt k w) lo hi 40 ⌝ }
 {
-    let mut g = start(k, w, lo, hi);
+    let mut g = start(k, w, flat, lo, hi);
     for n in 0..40usize {
-        g = step(k, w, g);
+        g = step(k, w, flat, g);
     }
-    golden::best(at(k, w, lo), at(k, w, hi), g.f1, g.f2)
+    golden::best(at(k, w, flat, lo), at(k, w, flat, hi), g.f1, g.f2)
 }
 
 // The search's first bracket.
-fn start(k: Bull, w: Way, lo: f64, hi: f64) -> Golden
+fn start(k: Bull, w: Way, flat: f64, lo: f64, hi: f64) -> Golden
+    requires { ⌜ FlatTo k flat ⌝ }
     ensures { λ g. ⌜ g ≡ goldenStart (wayAt k w) lo hi ⌝ }
 {
     let u = golden::lower_point(lo, hi);
     let v = golden::upper_point(lo, hi);
-    golden::start(lo, hi, at(k, w, u), at(k, w, v))
+    golden::start(lo, hi, at(k, w, flat, u), at(k, w, flat, v))
 }
 
 // A step of the search.
-fn step(k: Bull, w: Way, g: Golden) -> Golden
+fn step(k: Bull, w: Way, flat: f64, g: Golden) -> Golden
+    requires { ⌜ FlatTo k flat ⌝ }
     ensures { λ r. ⌜ r ≡ goldenStep rises (wayAt k w) g ⌝ }
 {
     let left = golden::drops_low(g);
     let p = golden::probe(left, g);
-    golden::narrowed(left, g, p, at(k, w, p))
+    golden::narrowed(left, g, p, at(k, w, flat, p))
 }
 
 // The tip's height over the way's point at t.
-fn at(k: Bull, w: Way, t: f64) -> f64
+fn at(k: Bull, w: Way, flat: f64, t: f64) -> f64
+    requires { ⌜ FlatTo k flat ⌝ }
     ensures { λ z. ⌜ z ≡ wayAt k w t ⌝ }
 {
     let z = w.az + t * w.ez;
     let r = k.r;
     let rc = k.rc;
-    let d = numbers::hypot(w.ax + t * w.ex - k.x, w.ay + t * w.ey - k.y);
-    z - bull_profile(numbers::min(d, r), r, rc)
+    let dx = w.ax + t * w.ex - k.x;
+    let dy = w.ay + t * w.ey - k.y;
+    if dx * dx + dy * dy <= flat {
+        return z - 0.0;
+    }
+    let d = numbers::min(numbers::hypot(dx, dy), r);
+    z - bull_profile(d, r, rc)
 }
 
 // The candidate of the facet.

@@ -1,6 +1,7 @@
 // A section of a tool: its profile, its validity, and its contact with one triangle.
 ghost use mathlib.Core.Path.{_≡_};
 ghost use Rattle.golden.specs.Search.{rises, goldenStart, goldenStep, goldenMax, goldenMaxBound};
+ghost use Rattle.section.specs.Flat.{FlatTo};
 ghost use Rattle.section.specs.Section.{within, positiveReach, validSection, profileOf, heightOver, sectionUnder, sectionVertex, sectionVertices, sectionAt, lipschitzOf, sectionStretch, sectionEdge, sectionEdges, reachOf, sectionSloped, sectionRest, sectionFacet, sectionContact};
 use golden::Golden;
 use plane::Contact;
@@ -10,6 +11,8 @@ use touch::Facing;
 use touch::Gradient;
 use touch::Rest;
 use touch::Stretch;
+
+const MINUS_ONE: f64 = -1.0;
 
 // A part of a tool seen from below: level to r0 at z0 over the tip, then rising to r1.
 pub struct Section {
@@ -168,38 +171,75 @@ fn lipschitz(s: Section, e: Edge) -> f64
 fn search(s: Section, x: f64, y: f64, e: Edge, lo: f64, hi: f64) -> f64
     ensures { λ r. ⌜ r ≡ goldenMax (sectionAt s x y e) lo hi 60 ⌝ }
 {
-    let mut g = start(s, x, y, e, lo, hi);
-    for n in 0..60usize {
-        g = step(s, x, y, e, g);
+    search_on(s, x, y, e, flat_of(s), lo, hi)
+}
+
+// A number up to which the square of a distance shows that the distance is within r0, so that no root is taken there: the square of r0, or a number below every square.
+fn flat_of(s: Section) -> f64
+    ensures { λ r. ⌜ FlatTo s r ⌝ }
+{
+    let r0 = s.r0;
+    let square = r0 * r0;
+    if !spans::is_radius(r0) {
+        return MINUS_ONE;
     }
-    golden::best(at(s, x, y, e, lo), at(s, x, y, e, hi), g.f1, g.f2)
+    if numbers::root(square) <= r0 {
+        return square;
+    }
+    MINUS_ONE
+}
+
+// The same with the number `flat` of the section.
+fn search_on(s: Section, x: f64, y: f64, e: Edge, flat: f64, lo: f64, hi: f64) -> f64
+    requires { ⌜ FlatTo s flat ⌝ }
+    ensures { λ r. ⌜ r ≡ goldenMax (sectionAt s x y e) lo hi 60 ⌝ }
+{
+    let mut g = start(s, x, y, e, flat, lo, hi);
+    for n in 0..60usize {
+        g = step(s, x, y, e, flat, g);
+    }
+    golden::best(
+        at(s, x, y, e, flat, lo),
+        at(s, x, y, e, flat, hi),
+        g.f1,
+        g.f2,
+    )
 }
 
 // The search's first bracket.
-fn start(s: Section, x: f64, y: f64, e: Edge, lo: f64, hi: f64) -> Golden
+fn start(s: Section, x: f64, y: f64, e: Edge, flat: f64, lo: f64, hi: f64) -> Golden
+    requires { ⌜ FlatTo s flat ⌝ }
     ensures { λ g. ⌜ g ≡ goldenStart (sectionAt s x y e) lo hi ⌝ }
 {
     let u = golden::lower_point(lo, hi);
     let v = golden::upper_point(lo, hi);
-    golden::start(lo, hi, at(s, x, y, e, u), at(s, x, y, e, v))
+    golden::start(lo, hi, at(s, x, y, e, flat, u), at(s, x, y, e, flat, v))
 }
 
 // A step of the search.
-fn step(s: Section, x: f64, y: f64, e: Edge, g: Golden) -> Golden
+fn step(s: Section, x: f64, y: f64, e: Edge, flat: f64, g: Golden) -> Golden
+    requires { ⌜ FlatTo s flat ⌝ }
     ensures { λ r. ⌜ r ≡ goldenStep rises (sectionAt s x y e) g ⌝ }
 {
     let left = golden::drops_low(g);
     let p = golden::probe(left, g);
-    golden::narrowed(left, g, p, at(s, x, y, e, p))
+    golden::narrowed(left, g, p, at(s, x, y, e, flat, p))
 }
 
 // The tip's height over the edge's point at t.
-fn at(s: Section, x: f64, y: f64, e: Edge, t: f64) -> f64
+fn at(s: Section, x: f64, y: f64, e: Edge, flat: f64, t: f64) -> f64
+    requires { ⌜ FlatTo s flat ⌝ }
     ensures { λ z. ⌜ z ≡ sectionAt s x y e t ⌝ }
 {
     let z = e.az + t * (e.bz - e.az);
     let r1 = s.r1;
-    let d = numbers::min(touch::distance_at(e, x, y, t), r1);
+    let z0 = s.z0;
+    let dx = e.ax + t * (e.bx - e.ax) - x;
+    let dy = e.ay + t * (e.by - e.ay) - y;
+    if dx * dx + dy * dy <= flat {
+        return z - z0;
+    }
+    let d = numbers::min(numbers::hypot(dx, dy), r1);
     z - height_over(profile(s, d))
 }
 

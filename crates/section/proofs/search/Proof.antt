@@ -1,29 +1,8 @@
-use Prim.Native.Nat.{_≤_, _-_}
-use mathlib.Core.Path.{_≡_}
-use borrow.Author.Needs.{needs}
-use native.Mathlib.Omega.{arith}
-use Rattle.golden.specs.Search.{rises, goldenAt}
-use Rattle.golden.proofs.Turns.{search-laws}
-use Rattle.section.specs.Section.{sectionAt}
 use Rattle.section.proofs.search.Statement.{statement}
 use Rattle.section.proofs.search.Tie as tie
 
-abbrev Inv-loop : tie.InvT-loop
-Inv-loop s x y e lo hi g₀ n₀ g n = (g ≡ goldenAt rises (sectionAt s x y e) lo hi n) × (n ≤ 60)
-
-abbrev μ-loop : tie.MeasureT-loop
-μ-loop s x y e lo hi g₀ n₀ g n = 60 - n
-
-loop-holds : tie.Need-loop-holds Inv-loop μ-loop
-loop-holds c = (search search-laws, search needs)
-
-loop-again : tie.Need-loop-again Inv-loop μ-loop
-loop-again c = (search search-laws, search needs)
-
-returns : tie.Need-returns Inv-loop μ-loop
-returns c = search search-laws
+returns : tie.Need-returns
+returns c = c .search-on .ensures
 
 pub search-spec : {M : Type 1} → statement M
-search-spec =
-    tie.close
-    (tie.spec Inv-loop μ-loop (λ c κs. tt) loop-holds (λ c κs. tt) (λ c. omega arith) (λ c. omega arith) loop-again (λ c κs. tt) (λ c κs. tt) (λ c κs. tt) returns)
+search-spec = tie.close (tie.spec (λ c κs. tt) (λ c κs. c .flat-of .ensures) returns)
