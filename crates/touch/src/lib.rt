@@ -6,13 +6,13 @@ use plane::Spot;
 use plane::Triangle;
 use plane::Weights;
 
-// An edge from a to b.
+// An edge from a to b; the numbers of the plan stand side by side, as a search reads them.
 pub struct Edge {
     pub ax: f64,
     pub ay: f64,
-    pub az: f64,
     pub bx: f64,
     pub by: f64,
+    pub az: f64,
     pub bz: f64,
 }
 
