@@ -3,7 +3,7 @@
 ghost use mathlib.Core.Path.{_≡_};
 ghost use Prim.Native.Nat.{_+_, _*_, _≤_, _<_};
 ghost use lib.ListN.{length};
-ghost use Rattle.vectors.specs.Lines.{digitOf, hexOf};
+ghost use Rattle.vectors.specs.Lines.{digitOf, hexOf, floatOf, bitsOf, askedOf, triangleOf, unlikeOf, heightsIn, differsFrom};
 use plane::Contact;
 use plane::Triangle;
 
@@ -40,7 +40,9 @@ pub fn number(line: &[u8], from: usize) -> u64
 }
 
 // The float of those bits.
-pub fn float(bits: u64) -> f64 {
+pub fn float(bits: u64) -> f64
+    ensures { λ x. ⌜ x ≡ floatOf bits ⌝ }
+{
     if bits & 0x7fff_ffff_ffff_ffff > 0x7ff0_0000_0000_0000 {
         return 0.0 / 0.0;
     }
@@ -48,7 +50,9 @@ pub fn float(bits: u64) -> f64 {
 }
 
 // The bits of a float, as a list writes them.
-pub fn bits_of(x: f64) -> u64 {
+pub fn bits_of(x: f64) -> u64
+    ensures { λ n. ⌜ n ≡ bitsOf x ⌝ }
+{
     if x != x {
         return NAN;
     }
@@ -58,6 +62,7 @@ pub fn bits_of(x: f64) -> u64 {
 // Number j of a line.
 pub fn asked(line: &[u8], j: usize) -> f64
     requires { ⌜ 17 * j + 18 ≤ length (now line) ⌝ }
+    ensures { λ x. ⌜ x ≡ askedOf (now (line .entry)) j ⌝ }
 {
     float(number(line, 2 + 17 * j))
 }
@@ -65,6 +70,7 @@ pub fn asked(line: &[u8], j: usize) -> f64
 // The triangle of a line's first nine numbers.
 pub fn triangle(line: &[u8]) -> Triangle
     requires { ⌜ 154 ≤ length (now line) ⌝ }
+    ensures { λ t. ⌜ t ≡ triangleOf (now (line .entry)) ⌝ }
 {
     Triangle {
         ax: asked(line, 0),
@@ -80,12 +86,16 @@ pub fn triangle(line: &[u8]) -> Triangle
 }
 
 // 1 where a and b are not the same.
-pub fn unlike(a: u64, b: u64) -> u64 {
+pub fn unlike(a: u64, b: u64) -> u64
+    ensures { λ n. ⌜ n ≡ unlikeOf a b ⌝ }
+{
     if a == b { 0 } else { 1 }
 }
 
 // 1 where a contact is a height.
-pub fn height(c: Contact) -> u64 {
+pub fn height(c: Contact) -> u64
+    ensures { λ n. ⌜ n ≡ heightsIn c ⌝ }
+{
     match c {
         Contact::Nothing => 0,
         Contact::Height(_) => 1,
@@ -95,6 +105,7 @@ pub fn height(c: Contact) -> u64 {
 // 1 where a contact is not the one that stands behind a line's 15 numbers: 0, or 1 and the height.
 pub fn differs(line: &[u8], c: Contact) -> u64
     requires { ⌜ 275 ≤ length (now line) ⌝ }
+    ensures { λ n. ⌜ n ≡ differsFrom (now (line .entry)) c ⌝ }
 {
     match c {
         Contact::Nothing => unlike(digit(line[257]), 0),
