@@ -1,27 +1,23 @@
 use borrow.Author.Needs.{needs}
-use mathlib.Core.Path.{_≡_, ap, subst, _∙_}
-use Rattle.grid.specs.declared.Header.{Header}
 use Rattle.query.specs.Patch.{patchOf}
 use Rattle.query.specs.Looked.{IndexOf}
 use Rattle.ask.specs.Demand.{LookedAll}
 use Rattle.tool.specs.Tool.{widestOf, sectionsIn}
 use Rattle.contact.specs.Contact.{maxSectionsOf}
-use Rattle.desk.specs.Doors.{heightLeftBy}
+use Rattle.desk.specs.Doors.{headerFrom}
+use Rattle.desk.proofs.Asked.{height-told}
 use Rattle.desk.proofs.mandrikelo_max_sections.Statement.{statement}
 use Rattle.desk.proofs.mandrikelo_max_sections.Tie as tie
 
 returns : tie.Need-returns
-unfolding heightLeftBy
 returns c =
     let b = c .before .before .before .before .before .before in
     let a = b .before .before .before .before .before .before .args in
-    let q = c .before .before .before .before .max-sections in (
-      ap heightLeftBy
-          (q .ensures .0
-          ∙ ap (λ h. maxSectionsOf (a .mesh .now) h (a .starts .now) (a .members .now) (a .marks .now) (a .stamp) (a .px) (a .py) (a .sections .now)) (b .header-from .ensures)),
-      subst (λ (h : Header). IndexOf (a .mesh .now) h (a .starts .now) (a .members .now) → q .result .refusal ≡ 0 → LookedAll (a .mesh .now) h (a .starts .now) (a .members .now) (a .marks .now) (a .stamp) (patchOf h (a .px) (a .py) (a .px) (a .py) (widestOf (a .sections .now) (sectionsIn (a .sections .now)))) (q .result .count))
-          (b .header-from .ensures) (q .ensures .1),
-    )
+    let q = c .before .before .before .before .max-sections in
+    height-told (λ h. IndexOf (a .mesh .now) h (a .starts .now) (a .members .now)) (b .header-from .result) (headerFrom (a .measures .now) (a .sizes .now)) (b .header-from .ensures)
+    (λ h. maxSectionsOf (a .mesh .now) h (a .starts .now) (a .members .now) (a .marks .now) (a .stamp) (a .px) (a .py) (a .sections .now))
+    (λ h w. LookedAll (a .mesh .now) h (a .starts .now) (a .members .now) (a .marks .now) (a .stamp) (patchOf h (a .px) (a .py) (a .px) (a .py) (widestOf (a .sections .now) (sectionsIn (a .sections .now)))) (w .count))
+    (q .result) _ (q .ensures .0) (q .ensures .1)
 
 pub mandrikelo-max-sections-spec : {M : Type 1} → statement M
 mandrikelo-max-sections-spec = tie.close (tie.spec (λ c κs. tt) (λ c κs. tt) (λ c. search needs) returns)
