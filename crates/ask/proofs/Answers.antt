@@ -20,7 +20,9 @@ use Rattle.grid.specs.declared.Header.{Header}
 use Rattle.grid.proofs.Ladder.{demanded}
 use Rattle.query.specs.declared.Patch.{Patch}
 use Rattle.query.specs.Asked.{isMarked}
+use Rattle.query.specs.Patch.{patchOf}
 use Rattle.query.specs.Usable.{usable}
+use Rattle.query.proofs.Patches.{patch-inside}
 use Rattle.query.proofs.Using.{walkable, usable-head}
 use Rattle.ask.specs.Ask.{refusalOf, begun, within, Outcome, ended, refusedBy, answeredBy, answerOf, heightOver, refusedChord, blockedEarly, ruledBy, rulingOf, chordOver}
 use Rattle.ask.specs.declared.Answer.{Answer}
@@ -56,17 +58,21 @@ unfolding readyMarks
 ready-length marks stamp =
     either (λ (l : List ℕ). length l ≡ length marks) (eqb stamp 4294967295) _ _ (λ e. length-replicate (length marks) 0) (λ e. refl)
 
+-- a question's cells are in the grid
+pub inside : (h : Header) (px py qx qy reach : Float) (p : Patch) → p ≡ patchOf h px py qx qy reach → (p .x1 ≤ h .columns) × (p .y1 ≤ h .rows)
+inside h px py qx qy reach p e = rw e (patch-inside h px py qx qy reach)
+
 -- n is the refusal that the code found
 module _ (numbers tool : Bool) (mesh : List Float) (h : Header) (starts members marks : List ℕ) (stamp : ℕ) (p : Patch) (n : ℕ) (e : n ≡ refusalOf (isMarked mesh marks) numbers tool (usable mesh h starts members marks stamp p)) where
   -- where the walk of an accepted question begins, with the marks m
-  pub ready : {A : Type 0} (next : ℕ) (m : List ℕ) (v : A) → n ≡ 0 → m ≡ readyMarks marks stamp → p .x1 ≤ h .columns → p .y1 ≤ h .rows → (length mesh ≡ length m * 9) × Walkable starts members (length m) (h .columns) (p .x0) (p .x1) (p .y0) (p .y1) × Room next (record { marks = m; count = 0; value = v })
-  ready next m v z f right top =
+  pub ready : {A : Type 0} (next : ℕ) (m : List ℕ) (v : A) → n ≡ 0 → m ≡ readyMarks marks stamp → (p .x1 ≤ h .columns) × (p .y1 ≤ h .rows) → (length mesh ≡ length m * 9) × Walkable starts members (length m) (h .columns) (p .x0) (p .x1) (p .y0) (p .y1) × Room next (record { marks = m; count = 0; value = v })
+  ready next m v z f i =
       let a = passed _ _ _ _ (sym e ∙ z) in
       let k = marked-is mesh marks (a .mesh-fits) in
       let l : length m ≡ length marks = ap length f ∙ ready-length marks stamp in
       let d : length mesh ≡ h .n * 9 = usable-head mesh h starts members marks stamp p (a .index-stands) .nine in
       let s : length m ≡ h .n = omega (arith, k .nine) in
-      (omega (arith, k .nine), rw s (walkable mesh h starts members marks stamp p (a .index-stands) right top), omega (arith, unmarked-length next m, k .few))
+      (omega (arith, k .nine), rw s (walkable mesh h starts members marks stamp p (a .index-stands) (i .0) (i .1)), omega (arith, unmarked-length next m, k .few))
 
   -- ---- a height question
   module _ (step : Float → ℕ → Float) where

@@ -15,7 +15,9 @@ use Rattle.query.specs.declared.Patch.{Patch}
 use Rattle.query.specs.Asked.{isMarked}
 use Rattle.query.specs.Usable.{usable}
 use Rattle.query.specs.Looked.{IndexOf, lookedIn}
+use Rattle.query.specs.Patch.{patchOf}
 use Rattle.query.proofs.Looks.{looks-once, index-of}
+use Rattle.query.proofs.Patches.{patch-inside}
 use Rattle.ask.specs.declared.Answer.{Answer}
 use Rattle.ask.specs.declared.Ruling.{Ruling}
 use Rattle.ask.specs.declared.Finding.{Finding}
@@ -106,3 +108,22 @@ module _ (numbers tool : Bool) (mesh : List Float) (h : Header) (starts members 
         (λ t.
         let f : ended a m ≡ ended (refusedChord refusal stamp) marks = rw t at e in
         absurd (eqb-false _ _ t (sym (ap (λ (o : Outcome Ruling). o .answer .refusal) f) ∙ z)))
+
+-- a question that says which cells it covers, answered over the cells p and by the tests a and b that its code found
+module _ (numbers tool : Bool) (mesh : List Float) (h : Header) (starts members marks : List ℕ) (stamp : ℕ) (px py qx qy reach : Float) (m : List ℕ) where
+  abbrev cells : Patch
+  cells = patchOf h px py qx qy reach
+
+  module _ (step : Float → ℕ → Float) (c : Answer) where
+    pub height-demand : ended c m ≡ heightOver numbers tool step mesh h starts members marks stamp cells → IndexOf mesh h starts members → c .refusal ≡ 0 → LookedAll mesh h starts members marks stamp cells (c .count)
+    height-demand e x = let i = patch-inside h px py qx qy reach in height-looks numbers tool mesh h starts members marks stamp cells (i .0) (i .1) x step c m e
+
+    pub height-told : (p : Patch) (a b : Bool) → p ≡ cells → a ≡ numbers → b ≡ tool → ended c m ≡ heightOver a b step mesh h starts members marks stamp p → (ended c m ≡ heightOver numbers tool step mesh h starts members marks stamp cells) × (IndexOf mesh h starts members → c .refusal ≡ 0 → LookedAll mesh h starts members marks stamp cells (c .count))
+    height-told p a b e f g i = let o = rw (e, f, g) at i in (o, height-demand o)
+
+  module _ (early : Bool) (blocks : ℕ → Bool) (c : Ruling) where
+    pub chord-demand : ended c m ≡ chordOver numbers tool early blocks mesh h starts members marks stamp cells → IndexOf mesh h starts members → c .refusal ≡ 0 → LookedTo mesh h starts members marks stamp cells early blocks c
+    chord-demand e x = let i = patch-inside h px py qx qy reach in chord-looks numbers tool mesh h starts members marks stamp cells (i .0) (i .1) x early blocks c m e
+
+    pub chord-told : (p : Patch) (a b : Bool) → p ≡ cells → a ≡ numbers → b ≡ tool → ended c m ≡ chordOver a b early blocks mesh h starts members marks stamp p → (ended c m ≡ chordOver numbers tool early blocks mesh h starts members marks stamp cells) × (IndexOf mesh h starts members → c .refusal ≡ 0 → LookedTo mesh h starts members marks stamp cells early blocks c)
+    chord-told p a b e f g i = let o = rw (e, f, g) at i in (o, chord-demand o)

@@ -1,8 +1,8 @@
 use borrow.Author.Needs.{needs}
 use mathlib.Core.Bool.{Bool, true}
 use Rattle.numbers.proofs.Branches.{bool-called}
-use Rattle.ask.proofs.Answers.{ready, chord-refused, chord-early, chord-ruled}
-use Rattle.chords.proofs.Asking.{inside, ended-is, tool-answers}
+use Rattle.ask.proofs.Answers.{inside, ready, chord-refused, chord-early, chord-ruled}
+use Rattle.chords.proofs.Asking.{ended-is, tool-answers}
 use Rattle.chords.proofs.sections_chord_clear.Statement.{statement}
 use Rattle.chords.proofs.sections_chord_clear.Tie as tie
 
@@ -26,8 +26,7 @@ returns-2 c =
 
 chase-requires : tie.Need-chase-tool-requires
 chase-requires c κs =
-    let i = inside _ _ _ _ _ _ _ (c .before .before .before .before .before .before .before .before .before .before .before .before .patch-of .ensures) in
-    ready _ _ _ _ _ _ _ _ _ _ (c .before .before .before .before .before .before .before .before .refusal .ensures) {A = Bool} _ _ true (c .before .before .before .before .before .before .before .if1 .left) (c .before .before .before .next-stamp .ensures .1) (i .0) (i .1)
+    ready _ _ _ _ _ _ _ _ _ _ (c .before .before .before .before .before .before .before .before .refusal .ensures) {A = Bool} _ _ true (c .before .before .before .before .before .before .before .if1 .left) (c .before .before .before .next-stamp .ensures .1) (inside _ _ _ _ _ _ _ (c .before .before .before .before .before .before .before .before .before .before .before .before .patch-of .ensures))
 
 returns-3 : tie.Need-returns-3
 returns-3 c =

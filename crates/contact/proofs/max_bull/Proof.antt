@@ -1,8 +1,8 @@
 use borrow.Author.Needs.{needs}
 use lib.Ieee.{Float}
 use Rattle.numbers.specs.Reals.{f0}
-use Rattle.ask.proofs.Answers.{ready, height-refused, height-answered}
-use Rattle.contact.proofs.Asking.{inside, bull-answers}
+use Rattle.ask.proofs.Answers.{inside, ready, height-refused, height-answered}
+use Rattle.contact.proofs.Asking.{bull-answers}
 use Rattle.contact.proofs.max_bull.Statement.{statement}
 use Rattle.contact.proofs.max_bull.Tie as tie
 
@@ -19,8 +19,7 @@ visit-bull-requires : tie.Need-visit-bull-requires
 visit-bull-requires c κs =
     let n = c .before .before .before .next-stamp in
     let e = c .before .before .before .before .before in
-    let i = inside _ _ _ _ _ _ _ (e .before .before .before .before .before .patch-of .ensures) in
-    ready _ _ _ _ _ _ _ _ _ _ (e .before .refusal .ensures) {A = Float} _ _ f0 (e .if1 .left) (n .ensures .1) (i .0) (i .1)
+    ready _ _ _ _ _ _ _ _ _ _ (e .before .refusal .ensures) {A = Float} _ _ f0 (e .if1 .left) (n .ensures .1) (inside _ _ _ _ _ _ _ (e .before .before .before .before .before .patch-of .ensures))
 
 returns-2 : tie.Need-returns-2
 returns-2 c =

@@ -1,8 +1,8 @@
 use borrow.Author.Needs.{needs}
 use lib.Ieee.{Float}
 use Rattle.numbers.specs.Reals.{f0}
-use Rattle.ask.proofs.Answers.{ready, height-refused, height-answered}
-use Rattle.contact.proofs.Asking.{inside, tool-answers}
+use Rattle.ask.proofs.Answers.{inside, ready, height-refused, height-answered}
+use Rattle.contact.proofs.Asking.{tool-answers}
 use Rattle.contact.proofs.max_sections.Statement.{statement}
 use Rattle.contact.proofs.max_sections.Tie as tie
 
@@ -20,8 +20,7 @@ visit-tool-requires : tie.Need-visit-tool-requires
 visit-tool-requires c κs =
     let n = c .before .before .before .next-stamp in
     let e = c .before .before .before .before .before in
-    let i = inside _ _ _ _ _ _ _ (e .before .before .before .before .before .patch-of .ensures) in
-    ready _ _ _ _ _ _ _ _ _ _ (e .before .refusal .ensures) {A = Float} _ _ f0 (e .if1 .left) (n .ensures .1) (i .0) (i .1)
+    ready _ _ _ _ _ _ _ _ _ _ (e .before .refusal .ensures) {A = Float} _ _ f0 (e .if1 .left) (n .ensures .1) (inside _ _ _ _ _ _ _ (e .before .before .before .before .before .patch-of .ensures))
 
 returns-2 : tie.Need-returns-2
 returns-2 c =
