@@ -1,11 +1,11 @@
 -- A chord question with what its code found out, and one triangle of its walk.
-use mathlib.Core.Bool.{Bool, true, false, not}
+use mathlib.Core.Bool.{Bool}
 use mathlib.Core.List.{List}
 use mathlib.Core.Path.{_≡_, refl, ap, sym, _∙_}
 use Prim.Native.Nat.{ℕ, _<_}
 use lib.Ieee.{Float}
 use lib.ListN.{length}
-use Rattle.walk.specs.Walk.{Walk, fold}
+use Rattle.walk.specs.Walk.{Walk}
 use Rattle.walk.specs.Steps.{strike}
 use Rattle.walk.proofs.Rings.{Kept, strike-keeps}
 use Rattle.grid.specs.declared.Header.{Header}
