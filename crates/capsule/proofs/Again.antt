@@ -1,17 +1,23 @@
 -- A point that was offered before changes nothing: what was found stays as high, and of equal heights the first is kept.
 use mathlib.Core.Bool.{true}
 use mathlib.Core.List.{List, [], _∷_, _++_, List·Memᴰ, List·Memᴰ·head, List·Memᴰ·tail}
+use mathlib.Core.Logic.{_⊎_, inl, inr}
 use mathlib.Core.Path.{_≡_, refl, sym, ap, _∙_, subst}
+use Prim.Native.Nat.{ℕ}
 use lib.Ieee.{Float}
+use lib.ListN.{length, take}
 use Rattle.numbers.specs.Reals.{maxOf}
 use Rattle.numbers.proofs.Branches.{either}
 use Rattle.plane.specs.declared.Contact.{Contact}
 use Rattle.plane.specs.declared.Contact.the-variants.{Nothing, Height}
 use Rattle.plane.specs.Contacts.{takeOf}
 use Rattle.capsule.specs.declared.Capsule.{Capsule}
+use Rattle.capsule.specs.declared.Place.{Place}
 use Rattle.capsule.specs.declared.Point.{Point}
 use Rattle.capsule.specs.Region.{inCapsule, offerOf, gathered}
-use Rattle.capsule.proofs.Gathering.{gathered-append}
+use Rattle.capsule.specs.Candidates.{each, ends}
+use Rattle.capsule.proofs.Gathering.{gathered-append, both}
+use Rattle.capsule.proofs.Equal.{place}
 use Rattle.capsule.proofs.Higher.{max-self, max-settles, max-stays}
 
 -- taking z again would change nothing
@@ -78,6 +84,33 @@ module _ (k : Capsule) where
   pub again : (c : Contact) (vs us : List Point) (v : Point) → List·Memᴰ v vs → offerOf k (gathered k (gathered k c vs) us) v ≡ gathered k (gathered k c vs) us
   again c vs us v m = had-same _ v (held-on (gathered k c vs) vs us (held-now c vs) v m)
 
-  -- a list of which each point was offered
-  pub passed : (r c : Contact) (vs us : List Point) → Held c vs → r ≡ gathered k c us → r ≡ gathered k c (vs ++ us)
-  passed r c vs us h p = p ∙ sym (gathered-append k c vs us ∙ ap (λ d. gathered k d us) (held-same c vs h))
+  -- nor does a list that was offered
+  pub offered : (c d : Contact) (vs : List Point) → d ≡ gathered k c vs → gathered k d vs ≡ d
+  offered c d vs e = subst (λ b. gathered k b vs ≡ b) (sym e) (held-same _ vs (held-now c vs))
+
+  -- the points of p and of q, and those of p alone where q is the same
+  module _ {A : Type 0} (f : A → List Point) where
+    two : (p q : A) (r m c : Contact) → m ≡ gathered k c (f p) → r ≡ gathered k m (f q) → r ≡ gathered k c (each f (p ∷ q ∷ []))
+    unfolding each gathered
+    two p q r m c h g = both k r m c (f p) (f q ++ []) h (both k r r m (f q) [] g refl)
+
+    one : (p q : A) (r c : Contact) → p ≡ q → r ≡ gathered k c (f p) → r ≡ gathered k c (each f (p ∷ q ∷ []))
+    one p q r c e h = two p q r r c h (sym (offered c r (f q) (subst (λ s. r ≡ gathered k c (f s)) e h)))
+
+-- the circles that are looked at: both, or one around one point
+abbrev pub Circles : Capsule → ℕ → Type 0
+Circles k n = (n ≡ 2) ⊎ ((n ≡ 1) × (k .px ≡ k .qx) × (k .py ≡ k .qy))
+
+pub ends-taken : (k : Capsule) (n : ℕ) → Circles k n → length (take n (ends k)) ≡ n
+unfolding ends
+ends-taken k n (inl e) = rw e
+ends-taken k n (inr e) = rw (e .0)
+
+pub all-ends : (k : Capsule) (f : Place → List Point) (n : ℕ) (r c : Contact) →
+    Circles k n → r ≡ gathered k c (each f (take n (ends k))) → r ≡ gathered k c (each f (ends k))
+unfolding ends each gathered
+all-ends k f n r c (inl e) q = rw e at q
+all-ends k f n r c (inr e) q = one k f p _ r c (place p (record { x = k .qx; y = k .qy }) (e .1) (e .2)) ((rw (e .0) at q) ∙ gathered-append k c (f p) [])
+  where
+    p : Place
+    p = record { x = k .px; y = k .py }

@@ -1,6 +1,7 @@
 pub mod Picking
 pub mod Gathering
-pub mod Extremes
-pub mod Answers
+pub mod Equal
 pub mod Higher
 pub mod Again
+pub mod Extremes
+pub mod Answers

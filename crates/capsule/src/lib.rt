@@ -1,6 +1,7 @@
 // The height of one triangle under the swept disk: the highest of its candidates, the points where a linear height can peak, that lie in the capsule.
 // What was found so far is a number and a float, which stay in registers; a contact is made of them at the end.
-ghost use mathlib.Core.Bool.{cond};
+ghost use mathlib.Core.Bool.{true, cond};
+ghost use mathlib.Core.Logic.{_⊎_};
 ghost use mathlib.Core.Path.{_≡_};
 ghost use lib.Ieee.{lt};
 ghost use lib.ListN.{getD};
@@ -252,11 +253,43 @@ fn offer_crossings(k: Capsule, best: Best, e: Edge) -> Best
 fn offer_circles(k: Capsule, best: Best, e: Edge) -> Best
     ensures { λ c. ⌜ contactOf c ≡ gathered k (contactOf best) (each (circled k e) (ends k)) ⌝ }
 {
+    let n = circles_of(k);
     let mut b = best;
-    for i in 0..2usize {
+    for i in 0..n {
         b = offer_circle(k, b, e, end_of(k, i));
     }
     b
+}
+
+// How many circles there are: two, and around one point one, as what was offered before changes nothing.
+fn circles_of(k: Capsule) -> usize
+    ensures { λ n. ⌜ (n ≡ 2) ⊎ ((n ≡ 1) × (k .px ≡ k .qx) × (k .py ≡ k .qy)) ⌝ }
+{
+    if same(Place { x: k.px, y: k.py }, Place { x: k.qx, y: k.qy }) {
+        1
+    } else {
+        2
+    }
+}
+
+// Whether two places are the same, and to the bit: a false may be wrong, a true is not.
+fn same(a: Place, b: Place) -> bool
+    ensures { λ r. ⌜ (r ≡ true → a ≡ b) ⌝ }
+{
+    if same_number(a.x, b.x) {
+        return same_number(a.y, b.y);
+    }
+    false
+}
+
+// The same of two numbers: a zero is not one of the other sign.
+fn same_number(x: f64, y: f64) -> bool
+    ensures { λ r. ⌜ (r ≡ true → x ≡ y) ⌝ }
+{
+    if x == y {
+        return f64::to_bits(x) == f64::to_bits(y);
+    }
+    false
 }
 
 // What was found, and where an edge crosses the straight sides.
