@@ -8,8 +8,7 @@ use borrow.Author.Tests.{leb-true, eqb-true, eq-eqb, ne-eqb}
 use lib.Dec.{eqb, leb, lit<}
 use lib.Ieee.{Float}
 use lib.ListN.{length, replicate, length-replicate}
-use Rattle.numbers.proofs.Branches.{either, taken, left}
-use Rattle.header.proofs.Ands.{both}
+use Rattle.numbers.proofs.Branches.{either, taken, left, both-true}
 use Rattle.walk.specs.Walk.{Walk, nextStamp, readyMarks, fold, walked, chased}
 use Rattle.walk.specs.Steps.{Below, Room, Walkable, seen, judged, look, strike}
 use Rattle.walk.specs.declared.Seen.{Seen}
@@ -50,7 +49,7 @@ pub record Marked (mesh : List Float) (marks : List ℕ) : Type 0 where
 pub marked-is : (mesh : List Float) (marks : List ℕ) → isMarked mesh marks ≡ true → Marked mesh marks
 unfolding isMarked
 marked-is mesh marks e =
-    let a = both (leb (length marks) 65536) (eqb (length mesh) (length marks * 9)) e in
+    let a = both-true (leb (length marks) 65536) (eqb (length mesh) (length marks * 9)) e in
     record { few = leb-true _ _ (a .0); nine = eqb-true _ _ (a .1) }
 
 ready-length : (marks : List ℕ) (stamp : ℕ) → length (readyMarks marks stamp) ≡ length marks

@@ -8,7 +8,7 @@ use borrow.Author.Tests.{eqb-true, eqb-false}
 use lib.Dec.{eqb}
 use lib.Ieee.{Float}
 use lib.ListN.{length}
-use Rattle.numbers.proofs.Branches.{either}
+use Rattle.numbers.proofs.Branches.{by-test}
 use Rattle.walk.specs.Walk.{Walk, walked, chased, upTo, clearOf, nextStamp}
 use Rattle.grid.specs.declared.Header.{Header}
 use Rattle.query.specs.declared.Patch.{Patch}
@@ -25,9 +25,6 @@ use Rattle.ask.specs.declared.Finding.the-variants.{Clear, Blocked}
 use Rattle.ask.specs.Ask.{refusalOf, begun, within, Outcome, ended, refusedBy, answeredBy, answerOf, heightOver, refusedChord, blockedEarly, ruledBy, rulingOf, chordOver}
 use Rattle.ask.specs.Demand.{LookedAll, LookedTo}
 use Rattle.ask.proofs.Answers.{passed, marked-is}
-
-by-test : {A : Type 0} (b : Bool) → (b ≡ true → A) → (b ≡ false → A) → A
-by-test {A} b p q = either (λ (_ : Bool). A) b true false p q
 
 -- where none of what was looked at blocks, the walk was not cut short
 clear-whole : (blocks : ℕ → Bool) (is : List ℕ) → clearOf blocks (upTo blocks is) ≡ true → upTo blocks is ≡ is

@@ -10,7 +10,7 @@ use lib.Ieee.Scale.{finite}
 use Rattle.numbers.specs.Reals.{_⊕_, _⊗_, minOf}
 use Rattle.numbers.specs.Root.{rootOf}
 use Rattle.numbers.specs.Hypot.{hypotOf, infinite}
-use Rattle.numbers.proofs.Branches.{either}
+use Rattle.numbers.proofs.Branches.{either, no}
 use Rattle.spans.proofs.Ranges.{finite-between}
 use Rattle.bound.proofs.Order.{O, le-trans}
 use Rattle.bound.proofs.Roots.{root-le, lt-le}
@@ -77,9 +77,6 @@ near x y f r g i k h =
     rw (s .distance) (le-trans (rootOf (x ⊗ x ⊕ y ⊗ y)) (rootOf f) r (root-le (x ⊗ x ⊕ y ⊗ y) f (add-fits binary64 (x ⊗ x) (y ⊗ y)) i (s .fine) g (s .low) h) k)
 
 -- the smaller of such a distance and any number
-no : false ≡ true → ⊥
-no z = let k : _≡_ {A = ℕ} 0 1 = cc in omega arith
-
 never-nan : (h r : Float) → T (le h r) → isNan h ≡ true → ⊥
 unfolding le lt eq isNan
 never-nan nan r k e = absurd k

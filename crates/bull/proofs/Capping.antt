@@ -11,6 +11,7 @@ use lib.Ieee.Scale.{finite}
 use Rattle.numbers.specs.Reals.{_⊕_, _⊖_, _⊗_, f0, f1, minOf, maxOf}
 use Rattle.numbers.specs.Root.{rootOf}
 use Rattle.numbers.specs.Hypot.{hypotOf, infinite}
+use Rattle.numbers.proofs.Branches.{no, both-true}
 use Rattle.golden.specs.Search.{goldenMax}
 use Rattle.touch.specs.declared.Edge.{Edge}
 use Rattle.touch.specs.Touch.{along, distanceAt}
@@ -28,11 +29,7 @@ use Rattle.bound.proofs.Small.{M, Small, small, small-finite, small-radius, sma
 use Rattle.bull.specs.declared.Bull.{Bull}
 use Rattle.bull.specs.Bull.{bullProfile, bullAt}
 use Rattle.bull.specs.Cap.{sideOf, leastOf, capOf, underOf, sideTame, sidesTame, tameOf, beatenOf, isUnit}
-use Rattle.bull.proofs.Profile.{no, profile-finite, profile-finite′, profile-up}
-
-both : (a b : Bool) → (a && b) ≡ true → (a ≡ true) × (b ≡ true)
-both true b e = (refl, e)
-both false b e = absurd (no e)
+use Rattle.bull.proofs.Profile.{profile-finite, profile-finite′, profile-up}
 
 picked : (a b : Bool) → cond a false b ≡ true → (a ≡ false) × (b ≡ true)
 picked true b e = absurd (no e)
@@ -54,7 +51,7 @@ hypot-fine (fin s m e) (fin t n d) p q = refl
 module _ (a b x : Float) (e : sideTame a b x ≡ true) where
   ends : Small (at a b O ⊖ x) × Small (at a b I ⊖ x)
   unfolding sideTame ofBits
-  ends = let t = both _ _ e in (small _ (t .0), small _ (t .1))
+  ends = let t = both-true _ _ e in (small _ (t .0), small _ (t .1))
 
   module _ (t : Float) (u : Unit t) where
     place : Between (at a b O ⊖ x) (at a b I ⊖ x) (at a b t ⊖ x)
@@ -142,10 +139,10 @@ module _ (k : Bull) (e : Edge) (b : Float) (beaten : beatenOf k e b ≡ true) wh
   tame : (isRadius (k .r) ≡ true) × (isRadius (k .rc) ≡ true) × (sideTame (e .ax) (e .bx) (k .x) ≡ true) × (sideTame (e .ay) (e .by) (k .y) ≡ true) × (sideTame (e .az) (e .bz) f0 ≡ true)
   unfolding tameOf sidesTame
   tame =
-      let p = both _ _ (parts .0) in
-      let q = both _ _ (p .1) in
-      let r = both _ _ (q .1) in
-      let s = both _ _ (r .1) in
+      let p = both-true _ _ (parts .0) in
+      let q = both-true _ _ (p .1) in
+      let r = both-true _ _ (q .1) in
+      let s = both-true _ _ (r .1) in
       (p .0, q .0, r .0, s .0, s .1)
 
   abbrev d : Float
@@ -231,11 +228,11 @@ holds b e = rw e tt
 
 unit : (t : Float) → T (fits binary64 t) → isUnit t ≡ true → Unit t
 unfolding isUnit ofBits
-unit t g e = let p = both (le f0 t) (le t f1) e in record { low = holds (le f0 t) (p .0); high = holds (le t f1) (p .1); fit = g }
+unit t g e = let p = both-true (le f0 t) (le t f1) e in record { low = holds (le f0 t) (p .0); high = holds (le t f1) (p .1); fit = g }
 
 pub skipped : (k : Bull) (e : Edge) (b lo hi : Float) (n : ℕ) → T (fits binary64 lo) → T (fits binary64 hi) → (isUnit lo && (isUnit hi && beatenOf k e b)) ≡ true
     → b ≡ maxOf b (goldenMax (bullAt k e) lo hi n)
 skipped k e b lo hi n f g s =
-    let p = both _ _ s in
-    let q = both _ _ (p .1) in
+    let p = both-true _ _ s in
+    let q = both-true _ _ (p .1) in
     sym (beaten-stays k e b (q .1) lo hi n (unit lo f (p .0)) (unit hi g (q .0)))

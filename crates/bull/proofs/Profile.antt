@@ -10,16 +10,13 @@ use lib.Ieee.Fits.{sub-fits, mul-fits}
 use lib.Ieee.Scale.{finite}
 use Rattle.numbers.specs.Reals.{_⊕_, _⊖_, _⊗_, f0, maxOf}
 use Rattle.numbers.specs.Root.{rootOf}
-use Rattle.numbers.proofs.Branches.{left}
+use Rattle.numbers.proofs.Branches.{left, no}
 use Rattle.spans.proofs.Ranges.{finite-between, sub-mono, two, minus-two}
 use Rattle.spans.proofs.Sizes.{by-test, either-of, le-self, not-below, max-least}
 use Rattle.bound.proofs.Order.{O, le-trans, sub-turns, square-up}
 use Rattle.bound.proofs.Roots.{root-finite, root-le, max-up}
 use Rattle.bound.proofs.Small.{M, small-up, small-finite, small-sub, small-range, square-nonneg, square-small, square-limit, square-finite, root-limit}
 use Rattle.bull.specs.Bull.{bullProfile}
-
-pub no : false ≡ true → ⊥
-no z = let k : _≡_ {A = ℕ} 0 1 = cc in omega arith
 
 first-false : (a b : Bool) → (a || b) ≡ false → a ≡ false
 first-false true b e = absurd (no (sym e))

@@ -7,12 +7,9 @@ use native.Mathlib.Omega.{arith}
 use borrow.Author.Tests.{ltb-true, lt-ltb}
 use lib.Ieee.{Float, nan, inf, fin, up, down, lt, isNan, ofBits}
 use Rattle.numbers.specs.Reals.{f0, maxOf}
-use Rattle.numbers.proofs.Branches.{either}
+use Rattle.numbers.proofs.Branches.{either, no}
 use Rattle.golden.specs.declared.Golden.{Golden}
 use Rattle.golden.specs.Search.{rises, goldenAt, bestOf, goldenMax}
-
-no : false ≡ true → ⊥
-no z = let k : _≡_ {A = ℕ} 0 1 = cc in omega arith
 
 factor : (a b B : ℕ) → b < a * B → 0 < a
 factor zero b B h = absurd (omega (arith, zero-mul B))

@@ -8,13 +8,13 @@ use borrow.Author.Tests.{eq-eqb, ne-eqb}
 use lib.Dec.{eqb}
 use lib.Ieee.{lt, le}
 use Rattle.numbers.specs.Reals.{f0, millionth, twoMillion, twoMillionths}
-use Rattle.numbers.proofs.Branches.{taken, left}
+use Rattle.numbers.proofs.Branches.{taken, left, both-true}
 use Rattle.cells.specs.Cover.{isFrom}
 use Rattle.spans.specs.Mesh.{isCoordinate, isRadius}
 use Rattle.grid.specs.declared.Header.{Header}
 use Rattle.grid.specs.Header.{inRanges}
 use Rattle.grid.specs.Build.{Outcome}
-use Rattle.header.proofs.Ands.{both, from-is}
+use Rattle.header.proofs.Ands.{from-is}
 use Rattle.ask.specs.declared.Finding.{Finding}
 use Rattle.ask.specs.declared.Finding.the-variants.{Neither, Clear, Blocked}
 use Rattle.ask.specs.Ask.{findingNumber}
@@ -34,11 +34,11 @@ narrow h e =
     let i : Bool = isFrom 1 1048576 (h .rows * h .columns) && ((lt f0 (h .eps) && le (h .eps) twoMillionths) && isRadius (h .r)) in
     let g : Bool = isFrom 1 65536 (h .rows) && i in
     let f : Bool = (le millionth (h .cell) && le (h .cell) twoMillion) && (isFrom 1 65536 (h .columns) && g) in
-    let a = both (isFrom 1 65536 (h .n)) (isCoordinate (h .«origin_x») && (isCoordinate (h .«origin_y») && (isCoordinate (h .floor) && f))) e in
-    let b = both (isCoordinate (h .«origin_x»)) (isCoordinate (h .«origin_y») && (isCoordinate (h .floor) && f)) (a .1) in
-    let c = both (isCoordinate (h .floor)) f (both (isCoordinate (h .«origin_y»)) (isCoordinate (h .floor) && f) (b .1) .1) in
-    let d = both (isFrom 1 65536 (h .columns)) g (both (le millionth (h .cell) && le (h .cell) twoMillion) (isFrom 1 65536 (h .columns) && g) (c .1) .1) in
-    let k = both (isFrom 1 65536 (h .rows)) i (d .1) in
+    let a = both-true (isFrom 1 65536 (h .n)) (isCoordinate (h .«origin_x») && (isCoordinate (h .«origin_y») && (isCoordinate (h .floor) && f))) e in
+    let b = both-true (isCoordinate (h .«origin_x»)) (isCoordinate (h .«origin_y») && (isCoordinate (h .floor) && f)) (a .1) in
+    let c = both-true (isCoordinate (h .floor)) f (both-true (isCoordinate (h .«origin_y»)) (isCoordinate (h .floor) && f) (b .1) .1) in
+    let d = both-true (isFrom 1 65536 (h .columns)) g (both-true (le millionth (h .cell) && le (h .cell) twoMillion) (isFrom 1 65536 (h .columns) && g) (c .1) .1) in
+    let k = both-true (isFrom 1 65536 (h .rows)) i (d .1) in
     record { n = fits (h .n) (a .0); columns = fits (h .columns) (d .0); rows = fits (h .rows) (k .0) }
 
 pub refused-left : (o : Outcome) → (o .built .refusal ≡ 0 → ⊥) → builtLeft (o .built .refusal) (o .starts) (o .members) (f0 ∷ f0 ∷ f0 ∷ f0 ∷ f0 ∷ f0 ∷ []) (0 ∷ 0 ∷ 0 ∷ []) ≡ builtLeftBy o

@@ -5,6 +5,7 @@ use Prim.Native.Nat.{ℕ, _≤_}
 use native.Mathlib.Omega.{arith}
 use borrow.Author.Tests.{leb-true}
 use lib.Dec.{leb}
+use Rattle.numbers.proofs.Branches.{both-true}
 use Rattle.cells.specs.Cover.{isFrom}
 
 pub three : (a b c d : Bool) → ((a && (b && c)) && d) ≡ (a && (b && (c && d)))
@@ -12,10 +13,6 @@ three true true c d = refl
 three true false c d = refl
 three false b c d = refl
 
-pub both : (a b : Bool) → (a && b) ≡ true → (a ≡ true) × (b ≡ true)
-both true b e = (refl, e)
-both false b e = let z : _≡_ {A = ℕ} 0 1 = cc in absurd (omega arith)
-
 pub from-is : (a e k : ℕ) → isFrom a e k ≡ true → (a ≤ k) × (k ≤ e)
 unfolding isFrom
-from-is a e k h = let p = both (leb a k) (leb k e) h in (leb-true a k (p .0), leb-true k e (p .1))
+from-is a e k h = let p = both-true (leb a k) (leb k e) h in (leb-true a k (p .0), leb-true k e (p .1))

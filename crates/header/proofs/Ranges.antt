@@ -9,12 +9,13 @@ use lib.Dec.{eqb, leb}
 use lib.Ieee.{Float, lt, le}
 use lib.ListN.{length}
 use Rattle.numbers.specs.Reals.{f0, millionth, twoMillion, twoMillionths}
+use Rattle.numbers.proofs.Branches.{both-true}
 use Rattle.cells.specs.Cover.{isFrom}
 use Rattle.spans.specs.Mesh.{isCoordinate, isRadius}
 use Rattle.grid.specs.declared.Header.{Header}
 use Rattle.grid.specs.Header.{inRanges}
 use Rattle.header.specs.Head.{headUsable, sizesInRanges}
-use Rattle.header.proofs.Ands.{three, both, from-is}
+use Rattle.header.proofs.Ands.{three, from-is}
 
 pub sizes-are : (cell : Float) (columns rows : ℕ) (eps r : Float) (a : Bool) → a ≡ ((le millionth cell && le cell twoMillion) && ((isFrom 1 65536 columns && (isFrom 1 65536 rows && isFrom 1 1048576 (rows * columns))) && ((lt f0 eps && le eps twoMillionths) && isRadius r))) → a ≡ sizesInRanges cell columns rows eps r
 unfolding sizesInRanges
@@ -40,11 +41,11 @@ in-ranges-is h e =
     let i : Bool = (lt f0 (h .eps) && le (h .eps) twoMillionths) && isRadius (h .r) in
     let g : Bool = isFrom 1 65536 (h .rows) && (isFrom 1 1048576 (h .rows * h .columns) && i) in
     let f : Bool = (le millionth (h .cell) && le (h .cell) twoMillion) && (isFrom 1 65536 (h .columns) && g) in
-    let a = both (isFrom 1 65536 (h .n)) (isCoordinate (h .«origin_x») && (isCoordinate (h .«origin_y») && (isCoordinate (h .floor) && f))) e in
-    let b = both (isCoordinate (h .«origin_x»)) (isCoordinate (h .«origin_y») && (isCoordinate (h .floor) && f)) (a .1) in
-    let c = both (isCoordinate (h .floor)) f (both (isCoordinate (h .«origin_y»)) (isCoordinate (h .floor) && f) (b .1) .1) in
-    let d = both (isFrom 1 65536 (h .columns)) g (both (le millionth (h .cell) && le (h .cell) twoMillion) (isFrom 1 65536 (h .columns) && g) (c .1) .1) in
-    let k = both (isFrom 1 1048576 (h .rows * h .columns)) i (both (isFrom 1 65536 (h .rows)) (isFrom 1 1048576 (h .rows * h .columns) && i) (d .1) .1) in
+    let a = both-true (isFrom 1 65536 (h .n)) (isCoordinate (h .«origin_x») && (isCoordinate (h .«origin_y») && (isCoordinate (h .floor) && f))) e in
+    let b = both-true (isCoordinate (h .«origin_x»)) (isCoordinate (h .«origin_y») && (isCoordinate (h .floor) && f)) (a .1) in
+    let c = both-true (isCoordinate (h .floor)) f (both-true (isCoordinate (h .«origin_y»)) (isCoordinate (h .floor) && f) (b .1) .1) in
+    let d = both-true (isFrom 1 65536 (h .columns)) g (both-true (le millionth (h .cell) && le (h .cell) twoMillion) (isFrom 1 65536 (h .columns) && g) (c .1) .1) in
+    let k = both-true (isFrom 1 1048576 (h .rows * h .columns)) i (both-true (isFrom 1 65536 (h .rows)) (isFrom 1 1048576 (h .rows * h .columns) && i) (d .1) .1) in
     record { few = from-is 1 65536 (h .n) (a .0) .1; floor = c .0; cells = from-is 1 1048576 (h .rows * h .columns) (k .0) .1 }
 
 -- and one whose n is the mesh's, with room in starts
@@ -57,6 +58,6 @@ pub headed-is : (mesh : List Float) (h : Header) (starts : List ℕ) → headUsa
 unfolding headUsable
 headed-is mesh h starts e =
     let room : Bool = leb (h .rows * h .columns + 1) (length starts) in
-    let a = both (inRanges h) (eqb (length mesh) (h .n * 9) && room) e in
-    let b = both (eqb (length mesh) (h .n * 9)) room (a .1) in
+    let a = both-true (inRanges h) (eqb (length mesh) (h .n * 9) && room) e in
+    let b = both-true (eqb (length mesh) (h .n * 9)) room (a .1) in
     record { ranged = in-ranges-is h (a .0); nine = eqb-true _ _ (b .0); room = leb-true _ _ (b .1) }

@@ -9,7 +9,8 @@ use borrow.Author.Tests.{eq-eqb, eqb-true}
 use lib.Dec.{eqb}
 use lib.Ieee.{Float, nan, inf, fin, lt, le, eq, isNan}
 use Rattle.numbers.specs.Reals.{maxOf, absOf}
-use Rattle.numbers.proofs.Branches.{either}
+use Rattle.numbers.proofs.Branches.{by-test, no}
+use Rattle.numbers.proofs.Strict.{lt-goes-on, lt-never-same, lt-number, le-not-lt}
 use Rattle.spans.specs.Mesh.{isCoordinate}
 use Rattle.cells.specs.Cover.{times}
 use Rattle.plane.specs.declared.Contact.{Contact}
@@ -19,23 +20,9 @@ use Rattle.walk.specs.Walk.{fold}
 use Rattle.capsule.specs.declared.Capsule.{Capsule}
 use Rattle.ask.specs.Ask.{raisedBy}
 use Rattle.height.specs.Sweep.{heightOf, raised}
-use Rattle.height.proofs.Orders.{no, lt-goes-on, lt-never-same, le-not-lt}
-
-by-test : {A : Type 0} (b : Bool) → (b ≡ true → A) → (b ≡ false → A) → A
-by-test {A} b p q = either (λ (_ : Bool). A) b true false p q
 
 abbrev pub Real : Float → Type 0
 Real x = isNan x ≡ false
-
-above-real : (x y : Float) → lt x y ≡ true → Real y
-unfolding lt isNan
-above-real nan y e = absurd (no e)
-above-real (inf s) nan e = absurd (no e)
-above-real (inf s) (inf t) e = refl
-above-real (inf s) (fin t n d) e = refl
-above-real (fin s m e) nan p = absurd (no p)
-above-real (fin s m e) (inf t) p = refl
-above-real (fin s m e) (fin t n d) p = refl
 
 pub coordinate-real : (x : Float) → isCoordinate x ≡ true → Real x
 unfolding isCoordinate absOf le lt eq isNan
@@ -103,7 +90,7 @@ module _ (mesh : List Float) (q : Capsule) where
 
   step-rises : (b : Float) (i : ℕ) → Real b → Rises b (raised mesh q b i) × Real (raised mesh q b i)
   step-rises b i n =
-      ⊎-elim (λ s. (inl (s .same), rw (s .same) n)) (λ r. (inr (r .above), above-real b _ (r .above))) (step-is b i n)
+      ⊎-elim (λ s. (inl (s .same), rw (s .same) n)) (λ r. (inr (r .above), lt-number b _ (r .above))) (step-is b i n)
 
   fold-rises : (is : List ℕ) (b : Float) → Real b → Rises b (fold (raised mesh q) b is)
   unfolding fold

@@ -9,6 +9,7 @@ use lib.Dec.{eqb, ltb}
 use lib.Ieee.{Float}
 use lib.ListN.{length, take, drop}
 use lib.Seq.{take-take, take-all, length-take-le}
+use Rattle.numbers.proofs.Branches.{by-test}
 use Rattle.job.specs.Layout.{Field, value, mark, version, zeroByte, triangles, questions, bytesOf, wide}
 use Rattle.job.specs.Reader.{refuse, tooMany, refusalOfCounts, refusalOf, readOf}
 use Rattle.job.proofs.Ladder.{room-for, refuse-here, differs, sound}
@@ -65,10 +66,6 @@ module _ (nroom mroom : ℕ) where
 
   never-sound : (xs : List ℕ) → bytesOf wide nroom mroom < length xs → refusalOf xs nroom mroom ≡ 0 → ⊥
   never-sound xs h e = let s = sound xs nroom mroom e in omega (arith, s .whole, s .few .1, s .few-questions .1)
-
-by-test : {A : Type 0} (b : Bool) → (b ≡ true → A) → (b ≡ false → A) → A
-by-test true f g = f refl
-by-test false f g = g refl
 
 pub read-cut : (xs : List ℕ) (mesh qs : List Float) (k : ℕ) → bytesOf wide (length mesh / 9) (length qs / 5) < k → readOf (take k xs) mesh qs ≡ readOf xs mesh qs
 read-cut xs mesh qs k h =

@@ -19,3 +19,4 @@ pub mod Computed
 pub mod Signs
 pub mod Largest
 pub mod LeastNormal
+pub mod Strict

@@ -10,13 +10,12 @@ use lib.Dec.{eqb, leb, ltb, lit<}
 use lib.Ieee.{Float}
 use lib.ListN.{length, getD, replicate, length-replicate}
 use Rattle.numbers.specs.Reals.{f0}
-use Rattle.numbers.proofs.Branches.{taken, left}
+use Rattle.numbers.proofs.Branches.{taken, left, both-true}
 use Rattle.sort.proofs.Counts.{on-or-off}
 use Rattle.fives.specs.Tables.{roomOf, written, zeroed}
 use Rattle.fives.proofs.Writing.{written-length}
 use Rattle.grid.specs.declared.Header.{Header}
 use Rattle.grid.proofs.Ladder.{demanded, refuse-here, refuse-next}
-use Rattle.header.proofs.Ands.{both}
 use Rattle.query.specs.Asked.{isMarked}
 use Rattle.query.specs.Usable.{usableWhole}
 use Rattle.whole.proofs.Wholly.{whole-head, whole-walkable}
@@ -50,7 +49,7 @@ module _ (mesh : List Float) (h : Header) (starts members marks : List ℕ) (p :
       let a = demanded (isMarked mesh marks) 1 _ (lit< tt) z in
       let b = demanded (areTerms p (h .r) (h .floor)) 9 _ (lit< tt) (a .1) in
       let u = demanded (usableWhole mesh h starts members) 7 0 (lit< tt) (b .1) .0 in
-      let m = both (leb (length marks) 65536) (eqb (length mesh) (length marks * 9)) (a .0) in
+      let m = both-true (leb (length marks) 65536) (eqb (length mesh) (length marks * 9)) (a .0) in
       let w = whole-head mesh h starts members u in
       let e : length mesh ≡ length marks * 9 = eqb-true _ _ (m .1) in
       record {

@@ -11,7 +11,7 @@ use lib.Dec.{eqb}
 use lib.Ieee.{Float}
 use lib.ListN.{length, getD, set, length-set, length-replicate, getD-replicate}
 use lib.Seq.{getD-set-same, getD-set-other}
-use Rattle.numbers.proofs.Branches.{either}
+use Rattle.numbers.proofs.Branches.{either, by-test}
 use Rattle.cells.specs.Cover.{times, weight}
 use Rattle.cells.proofs.Reading.{once}
 use Rattle.walk.specs.Walk.{over, cell, row, block, looked, nextStamp, readyMarks}
@@ -25,9 +25,6 @@ use Rattle.query.specs.Usable.{usable}
 use Rattle.query.specs.Looked.{IndexOf, lookedIn, Shares, LooksOnce}
 use Rattle.query.proofs.Testing.{in-rows}
 use Rattle.query.proofs.Using.{usable-member}
-
-by-test : {A : Type 0} (b : Bool) → (b ≡ true → A) → (b ≡ false → A) → A
-by-test {A} b p q = either (λ (_ : Bool). A) b true false p q
 
 -- ---- a list taken apart
 pub times-append : (i : ℕ) (xs ys : List ℕ) → times i (xs ++ ys) ≡ times i xs + times i ys

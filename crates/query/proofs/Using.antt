@@ -11,10 +11,10 @@ use lib.Dec.{ltb, leb}
 use lib.Ieee.{Float}
 use lib.ListN.{length, getD}
 use Rattle.numbers.specs.Reals.{num}
+use Rattle.numbers.proofs.Branches.{both-true}
 use Rattle.spans.specs.Mesh.{isCoordinate}
 use Rattle.grid.specs.declared.Header.{Header}
 use Rattle.header.specs.Head.{headUsable}
-use Rattle.header.proofs.Ands.{both}
 use Rattle.header.proofs.Ranges.{Headed, headed-is}
 use Rattle.walk.specs.Walk.{cell}
 use Rattle.walk.specs.Steps.{Walkable}
@@ -26,7 +26,7 @@ pub every-at : (test : ℕ → Bool) (a n k : ℕ) → every test a n ≡ true �
 unfolding every
 every-at test a zero k e h l = absurd (omega arith)
 every-at test a (suc n) k e h l =
-    let p = both (test a) (every test (a + 1) n) e in
+    let p = both-true (test a) (every test (a + 1) n) e in
     ⊎-elim (λ q. sub q (p .0)) (λ q. every-at test (a + 1) n k (p .1) (omega arith) (omega arith)) (eq-or-lt-of-le h)
   where
     sub : a ≡ k → test a ≡ true → test k ≡ true
@@ -35,8 +35,8 @@ every-at test a (suc n) k e h l =
 pub each-at : (test : ℕ → Bool) (ms : List ℕ) (k : ℕ) → each test ms ≡ true → k < length ms → test (getD ms k 0) ≡ true
 unfolding each
 each-at test [] k e h = absurd (omega arith)
-each-at test (m ∷ ms) zero e h = both (test m) (each test ms) e .0
-each-at test (m ∷ ms) (suc k) e h = each-at test ms k (both (test m) (each test ms) e .1) (omega arith)
+each-at test (m ∷ ms) zero e h = both-true (test m) (each test ms) e .0
+each-at test (m ∷ ms) (suc k) e h = each-at test ms k (both-true (test m) (each test ms) e .1) (omega arith)
 
 -- room in starts for the rows of a grid
 pub rows-room : (mesh : List Float) (h : Header) (starts : List ℕ) (y : ℕ) → Headed mesh h starts → y ≤ h .rows → y * h .columns < length starts
@@ -51,8 +51,8 @@ pub record Member (mesh : List Float) (n : ℕ) (marks : List ℕ) (stamp i : �
 member-is : (mesh : List Float) (n : ℕ) (marks : List ℕ) (stamp i : ℕ) → memberUsable mesh n marks stamp i ≡ true → Member mesh n marks stamp i
 unfolding memberUsable triangleUsable
 member-is mesh n marks stamp i e =
-    let a = both (ltb i n) (triangleUsable mesh i && leb (getD marks i 0) stamp) e in
-    let b = both (triangleUsable mesh i) (leb (getD marks i 0) stamp) (a .1) in
+    let a = both-true (ltb i n) (triangleUsable mesh i && leb (getD marks i 0) stamp) e in
+    let b = both-true (triangleUsable mesh i) (leb (getD marks i 0) stamp) (a .1) in
     record { below = ltb-true i n (a .0); numbers = λ k. every-at (λ m. isCoordinate (num mesh m)) (9 * i) 9 k (b .0); mark = leb-true (getD marks i 0) stamp (b .1) }
 
 module _ (mesh : List Float) (h : Header) (starts members marks : List ℕ) (stamp : ℕ) (p : Patch) (e : usable mesh h starts members marks stamp p ≡ true) where
@@ -61,7 +61,7 @@ module _ (mesh : List Float) (h : Header) (starts members marks : List ℕ) (sta
 
   parts : (headUsable mesh h starts ≡ true) × (cellsUsable test starts members (h .columns) p ≡ true)
   unfolding usable
-  parts = both (headUsable mesh h starts) (cellsUsable test starts members (h .columns) p) e
+  parts = both-true (headUsable mesh h starts) (cellsUsable test starts members (h .columns) p) e
 
   pub usable-head : Headed mesh h starts
   usable-head = headed-is mesh h starts (parts .0)
@@ -77,8 +77,8 @@ module _ (mesh : List Float) (h : Header) (starts members marks : List ℕ) (sta
   unfolding cellUsable
   usable-member x y k a b c d l =
       let i : ℕ = y * h .columns + x in
-      let u = both (leb (getD starts i 0) (getD starts (i + 1) 0)) (leb (getD starts (i + 1) 0) (length members) && each test (cell starts members i)) (usable-cell x y a b c d) in
-      let v = both (leb (getD starts (i + 1) 0) (length members)) (each test (cell starts members i)) (u .1) in
+      let u = both-true (leb (getD starts i 0) (getD starts (i + 1) 0)) (leb (getD starts (i + 1) 0) (length members) && each test (cell starts members i)) (usable-cell x y a b c d) in
+      let v = both-true (leb (getD starts (i + 1) 0) (length members)) (each test (cell starts members i)) (u .1) in
       member-is mesh (h .n) marks stamp _ (each-at test (cell starts members i) k (v .1) l)
 
   pub walkable : p .x1 ≤ h .columns → p .y1 ≤ h .rows → Walkable starts members (h .n) (h .columns) (p .x0) (p .x1) (p .y0) (p .y1)
@@ -87,8 +87,8 @@ module _ (mesh : List Float) (h : Header) (starts members marks : List ℕ) (sta
       record {
         stretch = λ x y a b c d.
             let i : ℕ = y * h .columns + x in
-            let u = both (leb (getD starts i 0) (getD starts (i + 1) 0)) (leb (getD starts (i + 1) 0) (length members) && each test (cell starts members i)) (usable-cell x y a b c d) in
-            let v = both (leb (getD starts (i + 1) 0) (length members)) (each test (cell starts members i)) (u .1) in
+            let u = both-true (leb (getD starts i 0) (getD starts (i + 1) 0)) (leb (getD starts (i + 1) 0) (length members) && each test (cell starts members i)) (usable-cell x y a b c d) in
+            let v = both-true (leb (getD starts (i + 1) 0) (length members)) (each test (cell starts members i)) (u .1) in
             record {
               inside = omega (arith, in-rows (h .columns) (p .x1) y (p .y1) right d, rows-room mesh h starts (p .y1) usable-head top);
               rises = leb-true _ _ (u .0);

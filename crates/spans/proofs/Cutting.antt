@@ -10,6 +10,7 @@ use lib.IntN.{ℤ, pos}
 use lib.Ieee.{Float, nan, inf, fin, binary64, ofBits, up, down, lt, le, eq, toUnsigned}
 use lib.Ieee.Fits.{down-pos}
 use Rattle.numbers.specs.Reals.{f1}
+use Rattle.numbers.proofs.Branches.{no}
 
 -- 2 ^ 64
 abbrev pub past64 : Float
@@ -26,16 +27,13 @@ past64-is = refl
 pub holds : (b : Bool) → b ≡ true → T b
 holds b e = rw e tt
 
-no : true ≡ false → ⊥
-no z = let k : _≡_ {A = ℕ} 0 1 = cc in omega arith
-
 -- what a failed `le` of two numbers says
 above : (a b : ℕ) → (ltb a b || (eqb a b && true)) ≡ false → b < a
 above a b e = by-lt (ltb a b) (eqb a b) (ltb-false a b) (eqb-false a b) e
   where
     by-lt : (t u : Bool) → (t ≡ false → b ≤ a) → (u ≡ false → a ≡ b → ⊥) → (t || (u && true)) ≡ false → b < a
-    by-lt true u p q e = absurd (no e)
-    by-lt false true p q e = absurd (no e)
+    by-lt true u p q e = absurd (no (sym e))
+    by-lt false true p q e = absurd (no (sym e))
     by-lt false false p q e = let h = p refl in let k = q refl in omega arith
 
 min-low : (a b : ℕ) → a ≡ 0 → min a b ≡ 0
@@ -47,7 +45,7 @@ min-high a b h = omega arith
 -- a positive number is not level with a negative one
 not-level : (a : ℕ) (t : Bool) → 0 < a → (t && eqb a 0) ≡ true → ⊥
 not-level a true h e = let z = eqb-true a 0 e in omega arith
-not-level a false h e = no (sym e)
+not-level a false h e = no e
 
 one-pos : (k : ℤ) → 0 < 1 * down k
 one-pos k = omega (arith, one-mul (down k), down-pos k)
@@ -57,7 +55,7 @@ pub cut-low : (x : Float) → le (fin false 1 (pos 0)) x ≡ false → toUnsigne
 unfolding toUnsigned le
 cut-low nan e = refl
 cut-low (inf true) e = refl
-cut-low (inf false) e = absurd (no e)
+cut-low (inf false) e = absurd (no (sym e))
 cut-low (fin true m k) e = refl
 cut-low (fin false m k) e =
     let h = above (1 * down k) (m * up k * 1) e in
@@ -66,8 +64,8 @@ cut-low (fin false m k) e =
 -- from 2 ^ 64 on
 pub cut-high : (x : Float) → le (fin false 1 (pos 0)) x ≡ true → lt x (fin false 1 (pos 64)) ≡ false → toUnsigned 64 x ≡ 2 ^ 64 - 1
 unfolding toUnsigned le lt eq
-cut-high nan e f = absurd (no (sym e))
-cut-high (inf true) e f = absurd (no (sym e))
+cut-high nan e f = absurd (no e)
+cut-high (inf true) e f = absurd (no e)
 cut-high (inf false) e f = refl
 cut-high (fin true m k) e f = absurd (not-level (1 * down k) (eqb (1 * down k) (m * up k * 1)) (one-pos k) e)
 cut-high (fin false m k) e f =
@@ -78,8 +76,8 @@ cut-high (fin false m k) e f =
 -- in between the cast's own condition holds
 pub cut-asks : (x : Float) → le (fin false 1 (pos 0)) x ≡ true → T (lt (fin true 1 (pos 0)) x)
 unfolding le lt eq
-cut-asks nan e = absurd (no (sym e))
-cut-asks (inf true) e = absurd (no (sym e))
+cut-asks nan e = absurd (no e)
+cut-asks (inf true) e = absurd (no e)
 cut-asks (inf false) e = tt
 cut-asks (fin true m k) e = absurd (not-level (1 * down k) (eqb (1 * down k) (m * up k * 1)) (one-pos k) e)
 cut-asks (fin false m k) e = lt→ltb 0 (1 * down k + m * up k * 1) (omega (arith, one-pos k))

@@ -10,6 +10,7 @@ use lib.IntN.{ℤ, pos}
 use lib.ListN.{length}
 use lib.Ieee.{Float, nan, inf, fin, binary64, ofBits, up, down, neg, lt, le, isNan}
 use Rattle.numbers.specs.Reals.{f0, million, maxOf, minOf, absOf}
+use Rattle.numbers.proofs.Branches.{no}
 use Rattle.plane.specs.Mesh.{triangleOf}
 use Rattle.spans.specs.Mesh.{isCoordinate, widened, extentOf, farther}
 use Rattle.spans.specs.Good.{Good, AllGood, Corners, Ends, upright}
@@ -18,9 +19,6 @@ use Rattle.spans.proofs.Ranges.{million-is}
 use Rattle.spans.proofs.Sizes.{by-test, either-of}
 use Rattle.spans.proofs.Extremes.{min-either, box-x, box-y}
 use Rattle.spans.proofs.Scales.{true-of}
-
-no : true ≡ false → ⊥
-no z = let k : _≡_ {A = ℕ} 0 1 = cc in omega arith
 
 -- ---- a coordinate lies from -1e6 to 1e6
 abbrev pub minusMillion : Float
@@ -83,7 +81,7 @@ not-under nan n k e = refl
 not-under (inf false) n k e = refl
 not-under (inf true) n k e = sym e
 not-under (fin false a b) n k e = refl
-not-under (fin true a b) n k e = absurd (no (sym e))
+not-under (fin true a b) n k e = absurd (no e)
 
 max-stays : (v w : Float) → isNan v ≡ false → lt v w ≡ false → maxOf v w ≡ v
 unfolding maxOf
@@ -91,11 +89,11 @@ max-stays v w p q = rw (p, q)
 
 bad-nan : Good nan → ⊥
 unfolding isCoordinate absOf le
-bad-nan g = no (sym g)
+bad-nan g = no g
 
 over : le (inf false) (fin false 15625 (pos 6)) ≡ true → ⊥
 unfolding le
-over e = no (sym e)
+over e = no e
 
 bad-inf : (s : Bool) → Good (inf s) → ⊥
 unfolding isCoordinate absOf

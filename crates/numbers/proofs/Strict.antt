@@ -7,11 +7,9 @@ use native.Mathlib.Nat.{mul-right-comm, mul-pos, mul-lt-mul-of-pos-right, lt-of-
 use native.Mathlib.Omega.{arith}
 use borrow.Author.Tests.{ltb-true, lt-ltb, eqb-true}
 use lib.Dec.{eqb}
-use lib.Ieee.{Float, nan, inf, fin, up, down, lt, le, eq}
+use lib.Ieee.{Float, nan, inf, fin, up, down, lt, le, eq, isNan}
 use lib.Ieee.Fits.{down-pos}
-
-pub no : false ≡ true → ⊥
-no z = let k : _≡_ {A = ℕ} 0 1 = cc in omega arith
+use Rattle.numbers.proofs.Branches.{no, both-true}
 
 -- a / A < b / B < c / C
 cross : (a b c A B C : ℕ) → 0 < A → 0 < B → 0 < C → a * B < b * A → b * C < c * B → a * C < c * A
@@ -69,9 +67,16 @@ lt-never-same (inf false) p = no p
 lt-never-same (fin false m e) p = lt-irrefl (m * up e * down e) (ltb-true _ _ p)
 lt-never-same (fin true m e) p = lt-irrefl (m * up e * down e) (ltb-true _ _ p)
 
-both-true : (a b : Bool) → (a && b) ≡ true → (a ≡ true) × (b ≡ true)
-both-true true b e = (refl, e)
-both-true false b e = absurd (no e)
+-- what is above another is a number
+pub lt-number : (x y : Float) → lt x y ≡ true → isNan y ≡ false
+unfolding lt isNan
+lt-number nan y e = absurd (no e)
+lt-number (inf s) nan e = absurd (no e)
+lt-number (inf s) (inf t) e = refl
+lt-number (inf s) (fin t n d) e = refl
+lt-number (fin s m e) nan p = absurd (no p)
+lt-number (fin s m e) (inf t) p = refl
+lt-number (fin s m e) (fin t n d) p = refl
 
 either-true : (a b : Bool) → (a || b) ≡ true → (a ≡ true) ⊎ (b ≡ true)
 either-true true b e = inl e
