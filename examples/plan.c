@@ -2,7 +2,7 @@
  *
  *     plan JOB x|y TOLERANCE LEVEL_TOLERANCE STEPOVER STOCK_TO_LEAVE STOCK_BOTTOM STOCK_TOP CUTTING_LENGTH
  *
- * To build it: rt staticlib desk && cc -Iinclude examples/plan.c target/staticlib/libdesk.a -o target/plan
+ * To build it: ./archive && cc -Iinclude examples/plan.c target/staticlib/libmandrikelo.a -o target/plan
  *
  * A line an entry: axis, floor, radius, parameters, then each triangle, level and run, the number of rows, the cut length and the
  * dropped length. Every number is printed with 17 digits, so that it can be read back to the bit. The job's questions are not used.

@@ -1,4 +1,4 @@
-/* Mandrikelo: the flat-area planner, for C, C++ and Rust. Link target/staticlib/libdesk.a (`rt staticlib desk`).
+/* Mandrikelo: the flat-area planner, for C, C++ and Rust. Link target/staticlib/libmandrikelo.a (`./archive` writes it).
  *
  * Every call on every input ends, stays inside its buffers and keeps nothing: there is no state, no heap, no error number. All
  * functions may be called from several threads at once, as long as no lent buffer is shared. What a function answers is proved;

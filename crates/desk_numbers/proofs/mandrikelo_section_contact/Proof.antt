@@ -1,9 +1,9 @@
 use borrow.Author.Needs.{needs}
 use mathlib.Core.Path.{ap, _∙_}
 use Rattle.section.specs.Section.{sectionContact}
-use Rattle.desk.specs.Doors.{contactLeftBy, sectionFrom}
-use Rattle.desk.proofs.mandrikelo_section_contact.Statement.{statement}
-use Rattle.desk.proofs.mandrikelo_section_contact.Tie as tie
+use Rattle.desk_numbers.specs.Contacts.{contactLeftBy, sectionFrom}
+use Rattle.desk_numbers.proofs.mandrikelo_section_contact.Statement.{statement}
+use Rattle.desk_numbers.proofs.mandrikelo_section_contact.Tie as tie
 
 returns : tie.Need-returns
 unfolding sectionFrom

@@ -1,8 +1,8 @@
 use borrow.Author.Needs.{needs}
 use mathlib.Core.Path.{_≡_, ap, _∙_}
 use Rattle.plane.specs.Distance.{distanceXy}
-use Rattle.desk.proofs.mandrikelo_distance_xy.Statement.{statement}
-use Rattle.desk.proofs.mandrikelo_distance_xy.Tie as tie
+use Rattle.desk_numbers.proofs.mandrikelo_distance_xy.Statement.{statement}
+use Rattle.desk_numbers.proofs.mandrikelo_distance_xy.Tie as tie
 
 returns : tie.Need-returns
 returns c =

@@ -1,8 +1,8 @@
 use borrow.Author.Needs.{needs}
 use mathlib.Core.Path.{sym, ap}
-use Rattle.desk.specs.Doors.{contactLeftBy}
-use Rattle.desk.proofs.lay.Statement.{statement}
-use Rattle.desk.proofs.lay.Tie as tie
+use Rattle.desk_numbers.specs.Contacts.{contactLeftBy}
+use Rattle.desk_numbers.proofs.lay.Statement.{statement}
+use Rattle.desk_numbers.proofs.lay.Tie as tie
 
 returns : tie.Need-returns
 unfolding contactLeftBy

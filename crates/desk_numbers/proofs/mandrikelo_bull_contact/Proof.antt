@@ -2,9 +2,9 @@ use borrow.Author.Needs.{needs}
 use mathlib.Core.Path.{ap, _∙_}
 use Rattle.bull.specs.Bull.{bullContactAbove}
 use Rattle.bull.specs.declared.Bull.{Bull}
-use Rattle.desk.specs.Doors.{contactLeftBy}
-use Rattle.desk.proofs.mandrikelo_bull_contact.Statement.{statement}
-use Rattle.desk.proofs.mandrikelo_bull_contact.Tie as tie
+use Rattle.desk_numbers.specs.Contacts.{contactLeftBy}
+use Rattle.desk_numbers.proofs.mandrikelo_bull_contact.Statement.{statement}
+use Rattle.desk_numbers.proofs.mandrikelo_bull_contact.Tie as tie
 
 returns : tie.Need-returns
 returns c =

@@ -1,8 +1,8 @@
 use borrow.Author.Needs.{needs}
 use mathlib.Core.Path.{ap}
-use Rattle.desk.specs.Doors.{jobLeftBy}
-use Rattle.desk.proofs.mandrikelo_read_job.Statement.{statement}
-use Rattle.desk.proofs.mandrikelo_read_job.Tie as tie
+use Rattle.desk_files.specs.Jobs.{jobLeftBy}
+use Rattle.desk_files.proofs.mandrikelo_read_job.Statement.{statement}
+use Rattle.desk_files.proofs.mandrikelo_read_job.Tie as tie
 
 returns : tie.Need-returns
 unfolding jobLeftBy

@@ -1,9 +1,9 @@
 use borrow.Author.Needs.{needs}
 use mathlib.Core.Path.{ap, _∙_}
 use Rattle.capsule.specs.Candidates.{maxInCapsule}
-use Rattle.desk.specs.Doors.{contactLeftBy}
-use Rattle.desk.proofs.mandrikelo_max_in_capsule.Statement.{statement}
-use Rattle.desk.proofs.mandrikelo_max_in_capsule.Tie as tie
+use Rattle.desk_numbers.specs.Contacts.{contactLeftBy}
+use Rattle.desk_numbers.proofs.mandrikelo_max_in_capsule.Statement.{statement}
+use Rattle.desk_numbers.proofs.mandrikelo_max_in_capsule.Tie as tie
 
 returns : tie.Need-returns
 returns c =
