@@ -1,59 +1,21 @@
--- Laws of a ladder of refusals: which rung answers, and that a job gets 0 exactly where it is sound.
-use mathlib.Core.Bool.{Bool, true, false, not, cond}
+-- A job gets no refusal exactly where it is sound.
 use mathlib.Core.List.{List}
 use mathlib.Core.Path.{_≡_, refl}
-use Prim.Native.Nat.{ℕ, zero, suc, _≤_, _<_}
+use Prim.Native.Nat.{ℕ, zero, suc, _≤_}
 use native.Mathlib.Nat.{zero-add}
 use native.Mathlib.Omega.{arith}
-use borrow.Author.Tests.{ltb-false, eqb-true, eqb-false, lt-ltb, le-ltb, eq-eqb, ne-eqb, not-false}
-use lib.Dec.{eqb, ltb, lit<}
+use borrow.Author.Tests.{eqb-true, eqb-false, le-ltb, ne-eqb, not-false}
+use lib.Dec.{lit<}
 use lib.ListN.{length}
-use Rattle.numbers.proofs.Branches.{taken, left, bool-called}
-use Rattle.job.specs.Layout.{value, triangles}
-use Rattle.job.specs.Reader.{refuse, tooMany, refusalOfNumbers, refusalOfCounts, refusalOf, Sound}
-use Rattle.job.proofs.Rows.{passed, passes}
-
-module _ (b : Bool) (k next : ℕ) where
-  pub refuse-here : (r : ℕ) → b ≡ true → r ≡ k → r ≡ refuse b k next
-  unfolding refuse
-  refuse-here r e p = taken _ _ _ _ e p
-
-  pub refuse-next : (r : ℕ) → b ≡ false → r ≡ next → r ≡ refuse b k next
-  unfolding refuse
-  refuse-next r e p = left _ _ _ _ e p
+use Rattle.fields.specs.Little.{value}
+use Rattle.fields.proofs.Ladder.{refuse-next, refused-not, agrees, room-for, room-enough}
+use Rattle.fields.proofs.Rows.{passed, passes}
+use Rattle.job.specs.Layout.{triangles}
+use Rattle.job.specs.Reader.{numberOf, refusalOfNumbers, refusalOfCounts, refusalOf, Sound}
 
 positive : (n : ℕ) → (n ≡ 0 → ⊥) → 1 ≤ n
 positive zero h = absurd (h refl)
 positive (suc n) h = omega arith
-
--- a rung that gave 0 was passed
-refused-not : (b : Bool) (k next : ℕ) → 0 < k → refuse b k next ≡ 0 → (b ≡ false) × (next ≡ 0)
-unfolding refuse
-refused-not true k next p e = absurd (omega arith)
-refused-not false k next p e = (refl, e)
-
--- a test of what a call gave, from what the call ensures
-module _ (x v y : ℕ) (p : x ≡ v) where
-  pub differs : (x ≡ y → ⊥) → not (eqb v y) ≡ true
-  differs h = rw (← p, ne-eqb x y h)
-
-  pub agrees : x ≡ y → not (eqb v y) ≡ false
-  agrees h = rw (← p, eq-eqb x y h)
-
-pub ruleset ladder = (refuse-here, refuse-next, differs, agrees, bool-called, eq-eqb, ne-eqb, lt-ltb, le-ltb)
-
-no-either : (a b : Bool) → cond a true b ≡ false → (a ≡ false) × (b ≡ false)
-no-either false b e = (refl, e)
-no-either true b e = let z : _≡_ {A = ℕ} 0 1 = cc in absurd (omega arith)
-
-module _ (n room : ℕ) where
-  pub room-for : tooMany n room ≡ false → (n ≤ 65536) × (n ≤ room)
-  unfolding tooMany
-  room-for e = let p = no-either (ltb 65536 n) (ltb room n) e in (ltb-false 65536 n (p .0), ltb-false room n (p .1))
-
-  room-enough : n ≤ 65536 → n ≤ room → tooMany n room ≡ false
-  unfolding tooMany
-  room-enough h l = rw (le-ltb 65536 n h) (le-ltb room n l)
 
 module _ (bytes : List ℕ) (nroom mroom : ℕ) where
   -- a job that passes every rung is sound
@@ -78,7 +40,7 @@ module _ (bytes : List ℕ) (nroom mroom : ℕ) where
         few = room-for _ _ (g .0);
         few-questions = room-for _ _ (h .0);
         whole = eqb-true _ _ (not-false _ (i .0));
-        finite-all = λ k l. rw (← zero-add k) (passed bytes 0 _ (j .0) k l);
+        finite-all = λ k l. rw (← zero-add k) (passed (numberOf bytes) 0 _ (j .0) k l);
       }
 
   -- and a sound one passes every rung
@@ -93,4 +55,4 @@ module _ (bytes : List ℕ) (nroom mroom : ℕ) where
       (refuse-next _ 18 _ 0 (room-enough _ _ (s .few .0) (s .few .1))
       (refuse-next _ 18 _ 0 (room-enough _ _ (s .few-questions .0) (s .few-questions .1))
       (refuse-next _ 19 _ 0 (agrees _ _ _ refl (s .whole))
-      (refuse-next _ 20 _ 0 (passes bytes 0 _ (λ k l. rw zero-add (s .finite-all k l))) refl))))))))
+      (refuse-next _ 20 _ 0 (passes (numberOf bytes) 0 _ (λ k l. rw zero-add (s .finite-all k l))) refl))))))))

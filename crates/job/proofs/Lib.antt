@@ -1,6 +1,3 @@
-pub mod Bytes
-pub mod Finite
-pub mod Rows
 pub mod Ladder
 pub mod Reading
 pub mod Long

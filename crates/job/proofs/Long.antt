@@ -1,40 +1,25 @@
 -- A file that is longer than any job with room for its numbers may be cut behind that length: what is left is refused as the whole is.
-use mathlib.Core.Bool.{Bool, true, false}
-use mathlib.Core.List.{List, [], _∷_}
+use mathlib.Core.List.{List}
 use mathlib.Core.Path.{_≡_, refl, ap, sym, _∙_}
-use Prim.Native.Nat.{ℕ, zero, suc, _+_, _/_, _≤_, _<_}
+use Prim.Native.Nat.{ℕ, _/_, _≤_, _<_}
 use native.Mathlib.Omega.{arith}
 use borrow.Author.Tests.{le-ltb, ltb-true, ltb-false}
 use lib.Dec.{eqb, ltb}
 use lib.Ieee.{Float}
-use lib.ListN.{length, take, drop}
-use lib.Seq.{take-take, take-all, length-take-le}
+use lib.ListN.{length, take}
+use lib.Seq.{take-all, length-take-le}
 use Rattle.numbers.proofs.Branches.{by-test}
-use Rattle.job.specs.Layout.{Field, value, mark, version, zeroByte, triangles, questions, bytesOf, wide}
-use Rattle.job.specs.Reader.{refuse, tooMany, refusalOfCounts, refusalOf, readOf}
-use Rattle.job.proofs.Ladder.{room-for, refuse-here, differs, sound}
+use Rattle.fields.specs.Ladder.{refuse, tooMany}
+use Rattle.fields.proofs.Bytes.{value-cut}
+use Rattle.fields.proofs.Ladder.{room-for, refuse-here, refuse-same, differs}
+use Rattle.job.specs.Layout.{mark, version, zeroByte, triangles, questions, bytesOf, wide}
+use Rattle.job.specs.Reader.{refusalOfCounts, refusalOf, readOf}
+use Rattle.job.proofs.Ladder.{sound}
 use Rattle.job.proofs.Reading.{refused-is}
-
-cut-part : (xs : List ℕ) (a s k : ℕ) → a + s ≤ k → take s (drop a (take k xs)) ≡ take s (drop a xs)
-cut-part xs zero s k h = take-take s k xs (omega arith)
-cut-part [] (suc a) s zero h = refl
-cut-part [] (suc a) s (suc k) h = refl
-cut-part (x ∷ xs) (suc a) s zero h = absurd (omega arith)
-cut-part (x ∷ xs) (suc a) s (suc k) h = cut-part xs a s k (omega arith)
-
--- a field before the cut
-value-cut : (f : Field) (xs : List ℕ) (k : ℕ) → f .at + f .size ≤ k → value f (take k xs) ≡ value f xs
-unfolding value
-value-cut f xs k h = rw (cut-part xs (f .at) (f .size) k h)
 
 -- the refusal of a file that is too long for any job
 tooLong : ℕ → ℕ → ℕ → ℕ → ℕ
 tooLong n m nroom mroom = refuse (eqb n 0) 18 (refuse (tooMany n nroom) 18 (refuse (tooMany m mroom) 18 19))
-
-refuse-same : (b : Bool) (k x y : ℕ) → (b ≡ false → x ≡ y) → refuse b k x ≡ refuse b k y
-unfolding refuse
-refuse-same true k x y e = refl
-refuse-same false k x y e = e refl
 
 module _ (nroom mroom : ℕ) where
   too-long : (xs : List ℕ) (n m : ℕ) → bytesOf wide nroom mroom < length xs → refusalOfCounts xs n m nroom mroom ≡ tooLong n m nroom mroom

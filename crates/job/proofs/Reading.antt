@@ -9,12 +9,14 @@ use lib.Dec.{eqb}
 use lib.Ieee.{Float}
 use lib.ListN.{length, drop}
 use Rattle.numbers.proofs.Branches.{taken, left, either}
-use Rattle.job.specs.Layout.{value, triangles, questions, numbers, meshFrom, questionsFrom, bytesOf, wide}
-use Rattle.job.specs.Reader.{numberOf, numbersOf, finite, refusalOf, Outcome, ended, refusedBy, acceptedOf, readOf, SoundExactly}
+use Rattle.fields.specs.Little.{value}
+use Rattle.fields.specs.Rows.{finite, row}
+use Rattle.job.specs.Layout.{triangles, questions, numbers, meshFrom, questionsFrom, bytesOf, wide}
+use Rattle.job.specs.Reader.{numberOf, refusalOf, Outcome, ended, refusedBy, acceptedOf, readOf, SoundExactly}
 use Rattle.job.proofs.Ladder.{sound, accepted}
 
 module _ (bytes : List ℕ) (mesh qs : List Float) where
-  pub decoded-is : (n m : ℕ) (f r : Float) (mesh′ qs′ : List Float) → f ≡ numberOf bytes 0 → r ≡ numberOf bytes 1 → mesh′ ≡ numbersOf bytes meshFrom (9 * n) ++ drop (9 * n) mesh → qs′ ≡ numbersOf bytes (questionsFrom n) (5 * m) ++ drop (5 * m) qs → ended (record { refusal = 0; n = n; m = m; floor = f; radius = r }) mesh′ qs′ ≡ acceptedOf bytes n m mesh qs
+  pub decoded-is : (n m : ℕ) (f r : Float) (mesh′ qs′ : List Float) → f ≡ numberOf bytes 0 → r ≡ numberOf bytes 1 → mesh′ ≡ row (numberOf bytes) meshFrom (9 * n) ++ drop (9 * n) mesh → qs′ ≡ row (numberOf bytes) (questionsFrom n) (5 * m) ++ drop (5 * m) qs → ended (record { refusal = 0; n = n; m = m; floor = f; radius = r }) mesh′ qs′ ≡ acceptedOf bytes n m mesh qs
   unfolding acceptedOf
   decoded-is n m f r mesh′ qs′ p q e₁ e₂ = rw (p, q, e₁, e₂)
 

@@ -1,26 +1,8 @@
 -- Document 01, "The job file": the fields of a job, where each begins and how many bytes it has. What reads a job, what says how long it is and what
 -- writes one all go by this table.
 use mathlib.Core.Path.{_≡_, refl}
-use mathlib.Core.List.{List, [], _∷_}
 use Prim.Native.Nat.{ℕ, _+_, _*_}
-use lib.ListN.{take, drop}
-
--- What bytes stand for, little endian: the first is worth least.
-unfoldable pub little : List ℕ → ℕ
-little [] = 0
-little (b ∷ bs) = b + 256 * little bs
-
--- A field: the place of its first byte, and how many bytes it has.
-pub record Field : Type 0 where
-  pub at : ℕ
-  pub size : ℕ
-
-abbrev pub field : ℕ → ℕ → Field
-field a n = record { at = a; size = n }
-
--- What a field of a job holds.
-unfoldable pub value : Field → List ℕ → ℕ
-value f bytes = little (take (f .size) (drop (f .at) bytes))
+use Rattle.fields.specs.Little.{Field, field}
 
 -- ---- the table: the first five fields are the same in every version, and after them stand numbers of w bytes each, to the end
 

@@ -1,53 +1,25 @@
 -- Document 01, "The job file": which jobs are refused, and what reading one answers and leaves in the lent tables.
-use mathlib.Core.Bool.{Bool, true, false, not, cond}
+use mathlib.Core.Bool.{true, not, cond}
 use mathlib.Core.Path.{_≡_}
-use mathlib.Core.List.{List, [], _∷_, _++_}
-use Prim.Native.Nat.{ℕ, zero, suc, _+_, _*_, _/_, _≤_, _<_}
+use mathlib.Core.List.{List, _++_}
+use Prim.Native.Nat.{ℕ, _*_, _/_, _≤_, _<_}
 use lib.Dec.{eqb, ltb}
-use lib.Ieee.{Float, nan, inf, fin, binary64, ofBits}
+use lib.Ieee.{Float, binary64, ofBits}
 use lib.ListN.{length, drop}
 use Rattle.numbers.specs.Reals.{f0}
-use Rattle.job.specs.Layout.{value, mark, version, zeroByte, triangles, questions, number, numbers, meshFrom, questionsFrom, bytesOf, headBytes, letters, wide}
+use Rattle.fields.specs.Little.{value}
+use Rattle.fields.specs.Rows.{finite, row, firstBad, somewhere}
+use Rattle.fields.specs.Ladder.{refuse, tooMany}
+use Rattle.job.specs.Layout.{mark, version, zeroByte, triangles, questions, number, numbers, meshFrom, questionsFrom, bytesOf, headBytes, letters, wide}
 use Rattle.job.specs.declared.Read.{Read}
-use Rattle.job.specs.declared.Place.{Place}
-use Rattle.job.specs.declared.Place.the-variants.{Nowhere, At}
 
 -- number k of a job, from its bits
 unfoldable pub numberOf : List ℕ → ℕ → Float
 numberOf bytes k = ofBits binary64 (value (number wide k) bytes)
 
--- c numbers of a job from number k on
-unfoldable pub numbersOf : List ℕ → ℕ → ℕ → List Float
-numbersOf bytes k zero = []
-numbersOf bytes k (suc c) = numberOf bytes k ∷ numbersOf bytes (k + 1) c
-
--- neither an infinity nor a NaN
-unfoldable pub finite : Float → Bool
-finite nan = false
-finite (inf s) = false
-finite (fin s m e) = true
-
--- the first of c numbers from number k on that is not finite
-unfoldable pub firstBad : List ℕ → ℕ → ℕ → Place
-firstBad bytes k zero = Nowhere
-firstBad bytes k (suc c) = cond (finite (numberOf bytes k)) (firstBad bytes (k + 1) c) (At k)
-
-unfoldable pub somewhere : Place → Bool
-somewhere Nowhere = false
-somewhere (At k) = true
-
--- ---- refusals: k where the test holds, else the next
-
-unfoldable pub refuse : Bool → ℕ → ℕ → ℕ
-refuse b k next = cond b k next
-
--- over 65,536 or over the lent room
-unfoldable pub tooMany : ℕ → ℕ → Bool
-tooMany n room = cond (ltb 65536 n) true (ltb room n)
-
 -- 20 a number not finite
 unfoldable pub refusalOfNumbers : List ℕ → ℕ → ℕ
-refusalOfNumbers bytes count = refuse (somewhere (firstBad bytes 0 count)) 20 0
+refusalOfNumbers bytes count = refuse (somewhere (firstBad (numberOf bytes) 0 count)) 20 0
 
 -- 18 n of 0, or n or m over 65,536 or over the lent room; 19 length not 30 + 72n + 40m
 unfoldable pub refusalOfCounts : List ℕ → ℕ → ℕ → ℕ → ℕ → ℕ
@@ -87,8 +59,8 @@ unfoldable pub acceptedOf : List ℕ → ℕ → ℕ → List Float → List Flo
 acceptedOf bytes n m mesh qs =
     ended
     (record { refusal = 0; n = n; m = m; floor = numberOf bytes 0; radius = numberOf bytes 1 })
-    (numbersOf bytes meshFrom (9 * n) ++ drop (9 * n) mesh)
-    (numbersOf bytes (questionsFrom n) (5 * m) ++ drop (5 * m) qs)
+    (row (numberOf bytes) meshFrom (9 * n) ++ drop (9 * n) mesh)
+    (row (numberOf bytes) (questionsFrom n) (5 * m) ++ drop (5 * m) qs)
 
 -- room is a table's length over nine or five, rounded down
 unfoldable pub readOf : List ℕ → List Float → List Float → Outcome

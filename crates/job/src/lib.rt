@@ -5,10 +5,12 @@ ghost use mathlib.Core.Path.{_≡_};
 ghost use mathlib.Core.Bool.{true};
 ghost use mathlib.Core.List.{_++_};
 ghost use Prim.Native.Nat.{ℕ, _+_, _*_, _/_, _≤_, _<_};
-ghost use lib.Ieee.{binary64, ofBits};
 ghost use lib.ListN.{length, drop};
-ghost use Rattle.job.specs.Layout.{field, value, mark, number, numbers, questionsFrom, bytesOf, wide};
-ghost use Rattle.job.specs.Reader.{numberOf, numbersOf, finite, firstBad, tooMany, refusalOfNumbers, refusalOfCounts, refusalOf, ended, acceptedOf, readOf, SoundExactly};
+ghost use Rattle.fields.specs.Little.{value};
+ghost use Rattle.fields.specs.Rows.{finite, row, firstBad};
+ghost use Rattle.job.specs.Layout.{mark, number, numbers, bytesOf, wide};
+ghost use Rattle.job.specs.Reader.{numberOf, refusalOfNumbers, refusalOfCounts, refusalOf, ended, acceptedOf, readOf, SoundExactly};
+use fields::Place;
 
 // What reading a job answers. A refused job has zeros beside its number.
 pub struct Read {
@@ -17,12 +19,6 @@ pub struct Read {
     pub m: u32,
     pub floor: f64,
     pub radius: f64,
-}
-
-// Where a search found something.
-pub enum Place {
-    Nowhere,
-    At(usize),
 }
 
 // The bytes of the head, the place of the first number and the bytes of a number.
@@ -34,8 +30,6 @@ const WIDE: usize = 8;
 
 // The letters F, T and M, the first worth least.
 const MARK: u32 = 5067846;
-
-const MOST: u32 = 65536;
 
 // Reads a job into the lent tables: nine numbers a triangle, five a question; entries beyond those read stay unchanged.
 pub fn read_job(bytes: &[u8], mesh: &mut [f64], questions: &mut [f64]) -> Read
@@ -52,7 +46,13 @@ pub fn read_job(bytes: &[u8], mesh: &mut [f64], questions: &mut [f64]) -> Read
             radius: 0.0,
         };
     }
-    decoded(bytes, u32_at(bytes, 6), u32_at(bytes, 10), mesh, questions)
+    decoded(
+        bytes,
+        fields::u32_at(bytes, 6),
+        fields::u32_at(bytes, 10),
+        mesh,
+        questions,
+    )
 }
 
 // 14 to 17, which the first six bytes decide, else what the counts decide.
@@ -65,13 +65,19 @@ fn refusal(bytes: &[u8], nroom: usize, mroom: usize) -> u32
     if mark_of(bytes) != MARK {
         return 15;
     }
-    if u16_at(bytes, 3) != 1 {
+    if fields::u16_at(bytes, 3) != 1 {
         return 16;
     }
     if bytes[5] != 0 {
         return 17;
     }
-    refusal_of_counts(bytes, u32_at(bytes, 6), u32_at(bytes, 10), nroom, mroom)
+    refusal_of_counts(
+        bytes,
+        fields::u32_at(bytes, 6),
+        fields::u32_at(bytes, 10),
+        nroom,
+        mroom,
+    )
 }
 
 // 18 and 19, else what the numbers decide.
@@ -81,10 +87,10 @@ fn refusal_of_counts(bytes: &[u8], n: u32, m: u32, nroom: usize, mroom: usize) -
     if n == 0 {
         return 18;
     }
-    if too_many(n, nroom) {
+    if fields::too_many(n, nroom) {
         return 18;
     }
-    if too_many(m, mroom) {
+    if fields::too_many(m, mroom) {
         return 18;
     }
     let count = 2 + 9 * n as usize + 5 * m as usize;
@@ -105,34 +111,17 @@ fn refusal_of_numbers(bytes: &[u8], count: usize) -> u32
     }
 }
 
-// A count over 65,536 or over the lent room.
-fn too_many(count: u32, room: usize) -> bool
-    ensures { λ b. ⌜ b ≡ tooMany count room ⌝ }
-{
-    if count > MOST {
-        return true;
-    }
-    count as usize > room
-}
-
 // The first of the job's numbers that is not finite.
 fn first_bad(bytes: &[u8], count: usize) -> Place
     requires { ⌜ 14 + 8 * count ≤ length (now bytes) ⌝ }
-    ensures { λ p. ⌜ p ≡ firstBad (now (bytes .entry)) 0 count ⌝ }
+    ensures { λ p. ⌜ p ≡ firstBad (numberOf (now (bytes .entry))) 0 count ⌝ }
 {
     for k in 0..count {
-        if !is_finite(bits_of(bytes, k)) {
+        if !fields::is_finite(bits_of(bytes, k)) {
             return Place::At(k);
         }
     }
     Place::Nowhere
-}
-
-// Whether the exponent's field is not all ones.
-fn is_finite(bits: u64) -> bool
-    ensures { λ b. ⌜ b ≡ finite (ofBits binary64 bits) ⌝ }
-{
-    bits / 0x10_0000_0000_0000 % 2048 != 2047
 }
 
 // Puts an accepted job's numbers into the tables.
@@ -157,7 +146,7 @@ fn decoded(bytes: &[u8], n: u32, m: u32, mesh: &mut [f64], questions: &mut [f64]
 fn fill(bytes: &[u8], k: usize, count: usize, out: &mut [f64])
     requires { ⌜ (14 + 8 * (k + count) ≤ length (now bytes)) × (count ≤ length (now out)) ⌝ }
     requires { ⌜ ((i : ℕ) → i < k + count → finite (numberOf (now bytes) i) ≡ true) ⌝ }
-    ensures { λ _. ⌜ now (out .exit) ≡ numbersOf (now (bytes .entry)) k count ++ drop count (now (out .entry)) ⌝ }
+    ensures { λ _. ⌜ now (out .exit) ≡ row (numberOf (now (bytes .entry))) k count ++ drop count (now (out .entry)) ⌝ }
 {
     for i in 0..count {
         out[i] = number_at(bytes, k + i);
@@ -178,33 +167,12 @@ fn bits_of(bytes: &[u8], k: usize) -> u64
     requires { ⌜ 14 + 8 * k + 8 ≤ length (now bytes) ⌝ }
     ensures { λ x. ⌜ x ≡ value (number wide k) (now (bytes .entry)) ⌝ }
 {
-    u64_at(bytes, NUMBERS + WIDE * k)
+    fields::u64_at(bytes, NUMBERS + WIDE * k)
 }
 
 fn mark_of(bytes: &[u8]) -> u32
     requires { ⌜ 3 ≤ length (now bytes) ⌝ }
     ensures { λ x. ⌜ x ≡ value mark (now (bytes .entry)) ⌝ }
 {
-    u16_at(bytes, 0) as u32 + bytes[2] as u32 * 0x1_0000
-}
-
-fn u16_at(bytes: &[u8], at: usize) -> u16
-    requires { ⌜ at + 2 ≤ length (now bytes) ⌝ }
-    ensures { λ x. ⌜ x ≡ value (field at 2) (now (bytes .entry)) ⌝ }
-{
-    bytes[at] as u16 + bytes[at + 1] as u16 * 0x100
-}
-
-fn u32_at(bytes: &[u8], at: usize) -> u32
-    requires { ⌜ at + 4 ≤ length (now bytes) ⌝ }
-    ensures { λ x. ⌜ x ≡ value (field at 4) (now (bytes .entry)) ⌝ }
-{
-    u16_at(bytes, at) as u32 + u16_at(bytes, at + 2) as u32 * 0x1_0000
-}
-
-fn u64_at(bytes: &[u8], at: usize) -> u64
-    requires { ⌜ at + 8 ≤ length (now bytes) ⌝ }
-    ensures { λ x. ⌜ x ≡ value (field at 8) (now (bytes .entry)) ⌝ }
-{
-    u32_at(bytes, at) as u64 + u32_at(bytes, at + 4) as u64 * 0x1_0000_0000
+    fields::u16_at(bytes, 0) as u32 + bytes[2] as u32 * 0x1_0000
 }

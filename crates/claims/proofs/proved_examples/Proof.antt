@@ -12,8 +12,10 @@ use Rattle.grid.specs.Ladder.{refuse as refuseHere, demand}
 use Rattle.grid.specs.Grid.{gridOf, cellsOf, totalOf}
 use Rattle.grid.specs.Build.{isNowhere, refusalOfNumbers as refusalOfCoordinates, refusalOfMesh, refusalOfGrid, refusalOfMembers, refusedBy, acceptedWith, unless, filledOf, gridded, buildOf}
 use Rattle.walk.specs.Walk.{nextStamp, readyMarks}
-use Rattle.job.specs.Layout.{value, little}
-use Rattle.job.specs.Reader.{readOf, acceptedOf, refusalOf, refusalOfCounts, refusalOfNumbers, refuse, tooMany, somewhere, firstBad, finite, numberOf}
+use Rattle.fields.specs.Little.{value, little}
+use Rattle.fields.specs.Rows.{finite, firstBad, somewhere}
+use Rattle.fields.specs.Ladder.{refuse, tooMany}
+use Rattle.job.specs.Reader.{readOf, acceptedOf, refusalOf, refusalOfCounts, refusalOfNumbers, numberOf}
 use Rattle.claims.specs.Examples.{worked, bytesIn, numbersIn}
 use Rattle.claims.proofs.proved_examples.Statement.{statement}
 use Rattle.claims.proofs.proved_examples.Tie as tie

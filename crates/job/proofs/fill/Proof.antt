@@ -5,19 +5,20 @@ use mathlib.Core.List.{_++_}
 use native.Mathlib.Omega.{arith}
 use borrow.Author.Needs.{needs}
 use lib.ListN.{length, drop, length-set}
-use Rattle.job.specs.Reader.{numbersOf}
-use Rattle.job.proofs.Rows.{filled-more}
+use Rattle.fields.specs.Rows.{row}
+use Rattle.job.specs.Reader.{numberOf}
+use Rattle.fields.proofs.Rows.{filled-more}
 use Rattle.job.proofs.fill.Statement.{statement}
 use Rattle.job.proofs.fill.Tie as tie
 
 abbrev Inv-loop : tie.InvT-loop
-Inv-loop bytes k count out₀ i₀ out i = (out ≡ numbersOf bytes k i ++ drop i out₀) × (length out ≡ length out₀) × (i ≤ count)
+Inv-loop bytes k count out₀ i₀ out i = (out ≡ row (numberOf bytes) k i ++ drop i out₀) × (length out ≡ length out₀) × (i ≤ count)
 
 abbrev μ-loop : tie.MeasureT-loop
 μ-loop bytes k count out₀ i₀ out i = count - i
 
 loop-holds : tie.Need-loop-holds Inv-loop μ-loop
-unfolding numbersOf
+unfolding row
 loop-holds c = (refl, refl, search needs)
 
 number-at-requires : tie.Need-number-at-requires Inv-loop μ-loop

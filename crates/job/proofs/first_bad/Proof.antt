@@ -7,15 +7,17 @@ use native.Mathlib.Nat.{sub-zero}
 use native.Mathlib.Omega.{arith}
 use borrow.Author.Needs.{needs}
 use lib.Ieee.{binary64, ofBits}
-use Rattle.job.specs.Layout.{value, number, wide}
+use Rattle.fields.specs.Little.{value}
+use Rattle.fields.specs.Rows.{finite, firstBad}
+use Rattle.job.specs.Layout.{number, wide}
 use borrow.Author.Tests.{not-true, not-false}
-use Rattle.job.specs.Reader.{numberOf, finite, firstBad}
-use Rattle.job.proofs.Rows.{bad-stops, bad-goes, bad-ends}
+use Rattle.job.specs.Reader.{numberOf}
+use Rattle.fields.proofs.Rows.{bad-stops, bad-goes, bad-ends}
 use Rattle.job.proofs.first_bad.Statement.{statement}
 use Rattle.job.proofs.first_bad.Tie as tie
 
 abbrev Inv-loop : tie.InvT-loop
-Inv-loop bytes count k₀ k = (firstBad bytes k (count - k) ≡ firstBad bytes 0 count) × (k ≤ count)
+Inv-loop bytes count k₀ k = (firstBad (numberOf bytes) k (count - k) ≡ firstBad (numberOf bytes) 0 count) × (k ≤ count)
 
 abbrev μ-loop : tie.MeasureT-loop
 μ-loop bytes count k₀ k = count - k

@@ -1,7 +1,7 @@
 use native.Mathlib.Omega.{arith}
 use borrow.Author.Needs.{needs}
 use mathlib.Core.Path.{sym}
-use Rattle.job.proofs.Bytes.{joined, value-byte}
+use Rattle.fields.proofs.Bytes.{joined, value-byte}
 use Rattle.job.proofs.mark_of.Statement.{statement}
 use Rattle.job.proofs.mark_of.Tie as tie
 

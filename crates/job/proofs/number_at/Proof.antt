@@ -1,12 +1,12 @@
 use borrow.Author.Needs.{needs}
 use Rattle.job.specs.Reader.{numberOf}
-use Rattle.job.proofs.Finite.{finite-bits}
+use Rattle.fields.proofs.Finite.{finite-bits}
 use Rattle.job.proofs.number_at.Statement.{statement}
 use Rattle.job.proofs.number_at.Tie as tie
 
 float-from-bits-result : tie.Need-float-from-bits-result
 unfolding numberOf
-float-from-bits-result c = finite-bits _ (rw (c .bits-of .ensures) (c .before .before .pre .1))
+float-from-bits-result c = finite-bits _ _ (rw (c .bits-of .ensures) (c .before .before .pre .1))
 
 returns : tie.Need-returns
 unfolding numberOf

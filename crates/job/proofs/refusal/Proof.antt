@@ -4,8 +4,8 @@ use native.Mathlib.Omega.{arith}
 use borrow.Author.Tests.{le-ltb}
 use denote.Ref.{now}
 use Rattle.job.specs.Reader.{refusalOf}
-use Rattle.job.proofs.Bytes.{value-byte}
-use Rattle.job.proofs.Ladder.{ladder, refuse-next, differs, agrees}
+use Rattle.fields.proofs.Bytes.{value-byte}
+use Rattle.fields.proofs.Ladder.{ladder, refuse-next, differs, agrees}
 use Rattle.job.proofs.refusal.Statement.{statement}
 use Rattle.job.proofs.refusal.Tie as tie
 

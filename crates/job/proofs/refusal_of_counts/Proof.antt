@@ -1,7 +1,7 @@
 use mathlib.Core.Path.{refl}
 use borrow.Author.Needs.{needs}
 use Rattle.job.specs.Reader.{refusalOfCounts}
-use Rattle.job.proofs.Ladder.{ladder, differs}
+use Rattle.fields.proofs.Ladder.{ladder, differs}
 use Rattle.job.proofs.refusal_of_counts.Statement.{statement}
 use Rattle.job.proofs.refusal_of_counts.Tie as tie
 

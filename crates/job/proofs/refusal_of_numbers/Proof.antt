@@ -1,7 +1,9 @@
 use mathlib.Core.Path.{sym, ap, _∙_}
 use borrow.Author.Needs.{needs}
-use Rattle.job.specs.declared.Place.{Place}
-use Rattle.job.specs.Reader.{refusalOfNumbers, somewhere, refuse}
+use Rattle.fields.specs.declared.Place.{Place}
+use Rattle.fields.specs.Rows.{somewhere}
+use Rattle.fields.specs.Ladder.{refuse}
+use Rattle.job.specs.Reader.{refusalOfNumbers}
 use Rattle.job.proofs.refusal_of_numbers.Statement.{statement}
 use Rattle.job.proofs.refusal_of_numbers.Tie as tie
 

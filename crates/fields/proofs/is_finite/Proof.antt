@@ -1,7 +1,7 @@
 use mathlib.Core.Path.{sym}
-use Rattle.job.proofs.Finite.{bits-finite}
-use Rattle.job.proofs.is_finite.Statement.{statement}
-use Rattle.job.proofs.is_finite.Tie as tie
+use Rattle.fields.proofs.Finite.{bits-finite}
+use Rattle.fields.proofs.is_finite.Statement.{statement}
+use Rattle.fields.proofs.is_finite.Tie as tie
 
 returns : tie.Need-returns
 returns c = sym (bits-finite (c .args .bits))

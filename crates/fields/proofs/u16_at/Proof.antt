@@ -2,10 +2,10 @@ use Prim.Native.Nat.{_+_}
 use native.Mathlib.Omega.{arith}
 use borrow.Author.Needs.{needs}
 use denote.Ref.{now}
-use Rattle.job.proofs.Bytes.{joined, value-byte}
+use Rattle.fields.proofs.Bytes.{joined, value-byte}
 use mathlib.Core.Path.{sym}
-use Rattle.job.proofs.u16_at.Statement.{statement}
-use Rattle.job.proofs.u16_at.Tie as tie
+use Rattle.fields.proofs.u16_at.Statement.{statement}
+use Rattle.fields.proofs.u16_at.Tie as tie
 
 cast-result : tie.Need-cast-result
 cast-result c = omega (arith, c .shared-slice-known .given (c .before .args .at))

@@ -1,7 +1,7 @@
 use Rattle.numbers.proofs.Branches.{branches}
-use Rattle.job.specs.Reader.{tooMany}
-use Rattle.job.proofs.too_many.Statement.{statement}
-use Rattle.job.proofs.too_many.Tie as tie
+use Rattle.fields.specs.Ladder.{tooMany}
+use Rattle.fields.proofs.too_many.Statement.{statement}
+use Rattle.fields.proofs.too_many.Tie as tie
 
 returns : tie.Need-returns
 unfolding tooMany

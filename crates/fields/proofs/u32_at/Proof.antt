@@ -1,8 +1,8 @@
 use native.Mathlib.Omega.{arith}
 use borrow.Author.Needs.{needs}
-use Rattle.job.proofs.Bytes.{joined}
-use Rattle.job.proofs.u32_at.Statement.{statement}
-use Rattle.job.proofs.u32_at.Tie as tie
+use Rattle.fields.proofs.Bytes.{joined}
+use Rattle.fields.proofs.u32_at.Statement.{statement}
+use Rattle.fields.proofs.u32_at.Tie as tie
 
 returns : tie.Need-returns
 returns c = joined _ _ 2 2 _ _ (omega arith) (c .before .u16-at .ensures) (c .u16-at2 .ensures)

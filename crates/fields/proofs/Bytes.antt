@@ -1,12 +1,12 @@
 -- What bytes stand for, taken apart: a law over the width, from which the reader of each width follows.
 use mathlib.Core.List.{List, [], _∷_, _++_}
-use mathlib.Core.Path.{_≡_, sym}
-use Prim.Native.Nat.{ℕ, suc, _+_, _*_, _^_, _≤_, _<_}
+use mathlib.Core.Path.{_≡_, refl, sym}
+use Prim.Native.Nat.{ℕ, zero, suc, _+_, _*_, _^_, _≤_, _<_}
 use native.Mathlib.Nat.{pow-succ', one-mul, mul-assoc, mul-comm}
 use native.Mathlib.Omega.{arith}
 use lib.ListN.{length, getD, take, drop, length-drop}
-use lib.Seq.{drop-cons, drop-drop, take-add, length-take-le}
-use Rattle.job.specs.Layout.{little, field, value}
+use lib.Seq.{drop-cons, drop-drop, take-add, take-take, length-take-le}
+use Rattle.fields.specs.Little.{little, Field, field, value}
 
 little-append : (xs ys : List ℕ) → little (xs ++ ys) ≡ little xs + 256 ^ length xs * little ys
 unfolding little
@@ -30,3 +30,17 @@ module _ (bytes : List ℕ) (at : ℕ) where
   -- so two readings side by side give the reading of both
   pub joined : (a b x y : ℕ) → at + a ≤ length bytes → x ≡ value (field at a) bytes → y ≡ value (field (at + a) b) bytes → x + y * 256 ^ a ≡ value (field at (a + b)) bytes
   joined a b x y h p q = rw (p, q, mul-comm) (sym (value-halves a b h))
+
+-- ---- a file cut after k bytes
+
+cut-part : (xs : List ℕ) (a s k : ℕ) → a + s ≤ k → take s (drop a (take k xs)) ≡ take s (drop a xs)
+cut-part xs zero s k h = take-take s k xs (omega arith)
+cut-part [] (suc a) s zero h = refl
+cut-part [] (suc a) s (suc k) h = refl
+cut-part (x ∷ xs) (suc a) s zero h = absurd (omega arith)
+cut-part (x ∷ xs) (suc a) s (suc k) h = cut-part xs a s k (omega arith)
+
+-- a field before the cut
+pub value-cut : (f : Field) (xs : List ℕ) (k : ℕ) → f .at + f .size ≤ k → value f (take k xs) ≡ value f xs
+unfolding value
+value-cut f xs k h = rw (cut-part xs (f .at) (f .size) k h)

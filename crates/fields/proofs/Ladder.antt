@@ -1,0 +1,54 @@
+-- Laws of a ladder of refusals: which rung answers, and what a rung that was passed says.
+use mathlib.Core.Bool.{Bool, true, false, not, cond}
+use mathlib.Core.Path.{_≡_, refl}
+use Prim.Native.Nat.{ℕ, _≤_, _<_}
+use native.Mathlib.Omega.{arith}
+use borrow.Author.Tests.{ltb-false, lt-ltb, le-ltb, eq-eqb, ne-eqb}
+use lib.Dec.{eqb, ltb}
+use Rattle.numbers.proofs.Branches.{taken, left, bool-called}
+use Rattle.fields.specs.Ladder.{refuse, tooMany}
+
+module _ (b : Bool) (k next : ℕ) where
+  pub refuse-here : (r : ℕ) → b ≡ true → r ≡ k → r ≡ refuse b k next
+  unfolding refuse
+  refuse-here r e p = taken _ _ _ _ e p
+
+  pub refuse-next : (r : ℕ) → b ≡ false → r ≡ next → r ≡ refuse b k next
+  unfolding refuse
+  refuse-next r e p = left _ _ _ _ e p
+
+-- a rung that gave 0 was passed
+pub refused-not : (b : Bool) (k next : ℕ) → 0 < k → refuse b k next ≡ 0 → (b ≡ false) × (next ≡ 0)
+unfolding refuse
+refused-not true k next p e = absurd (omega arith)
+refused-not false k next p e = (refl, e)
+
+-- what stands below a rung matters only where it is passed
+pub refuse-same : (b : Bool) (k x y : ℕ) → (b ≡ false → x ≡ y) → refuse b k x ≡ refuse b k y
+unfolding refuse
+refuse-same true k x y e = refl
+refuse-same false k x y e = e refl
+
+-- a test of what a call gave, from what the call ensures
+module _ (x v y : ℕ) (p : x ≡ v) where
+  pub differs : (x ≡ y → ⊥) → not (eqb v y) ≡ true
+  differs h = rw (← p, ne-eqb x y h)
+
+  pub agrees : x ≡ y → not (eqb v y) ≡ false
+  agrees h = rw (← p, eq-eqb x y h)
+
+pub ruleset ladder = (refuse-here, refuse-next, differs, agrees, bool-called, eq-eqb, ne-eqb, lt-ltb, le-ltb)
+
+no-either : (a b : Bool) → cond a true b ≡ false → (a ≡ false) × (b ≡ false)
+no-either false b e = (refl, e)
+no-either true b e = let z : _≡_ {A = ℕ} 0 1 = cc in absurd (omega arith)
+
+-- a count that is not too many
+module _ (n room : ℕ) where
+  pub room-for : tooMany n room ≡ false → (n ≤ 65536) × (n ≤ room)
+  unfolding tooMany
+  room-for e = let p = no-either (ltb 65536 n) (ltb room n) e in (ltb-false 65536 n (p .0), ltb-false room n (p .1))
+
+  pub room-enough : n ≤ 65536 → n ≤ room → tooMany n room ≡ false
+  unfolding tooMany
+  room-enough h l = rw (le-ltb 65536 n h) (le-ltb room n l)

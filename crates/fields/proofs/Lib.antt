@@ -1,0 +1,5 @@
+pub mod Bytes
+pub mod Finite
+pub mod Rows
+pub mod Ladder
+pub mod Lengths

@@ -1,0 +1,4 @@
+pub mod Little
+pub mod Rows
+pub mod Ladder
+pub mod Length
