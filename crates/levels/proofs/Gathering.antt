@@ -10,13 +10,13 @@ use borrow.Author.Tests.{lt-ltb, ltb-true, ltb-false}
 use lib.Dec.{ltb}
 use lib.Ieee.{Float}
 use lib.ListN.{length, getD, set, take, drop, length-append, length-drop, List·getD-append}
-use lib.Seq.{take-at, drop-cons, set-at, getD-append-add}
+use lib.Seq.{take-at, drop-at, drop-cons, set-at, getD-append-add}
 use Rattle.plane.specs.Mesh.{triangleOf}
 use Rattle.numbers.specs.Reals.{_⊕_}
 use Rattle.sort.specs.Heap.{Within}
 use Rattle.sort.specs.Ranks.{before, sortedBy}
 use Rattle.sort.proofs.Orders.{sorted-length}
-use Rattle.levels.specs.Levels.{sortedFlats}
+use Rattle.levels.specs.Levels.{sortedFlats, listLeft}
 use Rattle.levels.specs.Flats.{isFlat, flatsOf}
 use Rattle.levels.specs.Steps.{Listed, listed, gatheredOne}
 
@@ -114,3 +114,14 @@ sorted-front mesh n tolerance levelTolerance floor l₀ l₁ l₂ k e p q =
     let t : take k l₁ ≡ fs = ap (take k) p ∙ take-at fs (drop k l₀) k (sym e) in
     let r : l₂ ≡ sortedBy (before mesh) fs ++ drop k l₁ = q ∙ ap (λ (x : List ℕ). sortedBy (before mesh) x ++ drop k l₁) t in
     ap (take k) r ∙ take-at (sortedBy (before mesh) fs) (drop k l₁) k (sorted-length (before mesh) fs ∙ sym e)
+
+-- and the whole list then
+pub sorted-whole : (mesh : List Float) (n : ℕ) (tolerance levelTolerance floor : Float) (l₀ l₁ l₂ : List ℕ) (k : ℕ) →
+    let fs = flatsOf mesh tolerance (floor ⊕ levelTolerance) n in
+    k ≡ length fs → l₁ ≡ fs ++ drop k l₀ → l₂ ≡ sortedBy (before mesh) (take k l₁) ++ drop k l₁ → l₂ ≡ listLeft mesh n tolerance levelTolerance floor l₀
+unfolding sortedFlats listLeft
+sorted-whole mesh n tolerance levelTolerance floor l₀ l₁ l₂ k e p q =
+    let fs = flatsOf mesh tolerance (floor ⊕ levelTolerance) n in
+    let t : take k l₁ ≡ fs = ap (take k) p ∙ take-at fs (drop k l₀) k (sym e) in
+    let d : drop k l₁ ≡ drop (length fs) l₀ = ap (drop k) p ∙ drop-at fs (drop k l₀) k (sym e) ∙ ap (λ (j : ℕ). drop j l₀) e in
+    q ∙ ap (λ (x : List ℕ). sortedBy (before mesh) x ++ drop k l₁) t ∙ ap (λ (x : List ℕ). sortedBy (before mesh) fs ++ x) d

@@ -1,8 +1,9 @@
 -- Document 01, "Levels and runs": levels. A level is five numbers (z, low x, low y, high x, high y).
 use mathlib.Core.Bool.{Bool}
-use mathlib.Core.List.{List, [], _∷_, map}
+use mathlib.Core.List.{List, [], _∷_, _++_, map}
 use Prim.Native.Nat.{ℕ}
 use lib.Ieee.{Float, le}
+use lib.ListN.{length, drop}
 use Rattle.numbers.specs.Reals.{num, _⊕_, _⊖_, minOf, maxOf}
 use Rattle.plane.specs.Mesh.{triangleOf, boundsOf}
 use Rattle.plane.specs.declared.Triangle.{Triangle}
@@ -39,6 +40,11 @@ levelsFrom mesh levelTolerance is =
 -- The flat triangles of a mesh of n, sorted by z falling, equal ones in mesh order.
 unfoldable pub sortedFlats : List Float → ℕ → Float → Float → Float → List ℕ
 sortedFlats mesh n tolerance levelTolerance floor = sortedBy (before mesh) (flatsOf mesh tolerance (floor ⊕ levelTolerance) n)
+
+-- What the search for levels leaves of a lent list: these numbers in front, and the rest as it was.
+unfoldable pub listLeft : List Float → ℕ → Float → Float → Float → List ℕ → List ℕ
+listLeft mesh n tolerance levelTolerance floor list =
+    sortedFlats mesh n tolerance levelTolerance floor ++ drop (length (flatsOf mesh tolerance (floor ⊕ levelTolerance) n)) list
 
 -- The levels of a mesh of n triangles.
 unfoldable pub levelsOf : List Float → ℕ → Float → Float → Float → List Level

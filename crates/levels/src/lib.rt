@@ -9,7 +9,7 @@ ghost use Rattle.plane.specs.Distance.{baryOf};
 ghost use Rattle.fives.specs.Tables.{putAt, written};
 ghost use Rattle.sort.specs.Heap.{Within};
 ghost use Rattle.levels.specs.Flats.{nearTo, evenOf, answers, isFlat, flatsOf};
-ghost use Rattle.levels.specs.Levels.{openedBy, widenedBy, levelsFrom, sortedFlats, levelsOf, fiveOf};
+ghost use Rattle.levels.specs.Levels.{openedBy, widenedBy, levelsFrom, sortedFlats, listLeft, levelsOf, fiveOf};
 ghost use Rattle.levels.specs.Steps.{listed, gatheredOne, grown, grownBy, levelIn};
 use plane::Spot;
 use plane::Triangle;
@@ -40,7 +40,9 @@ pub fn find_levels(
     levels: &mut [f64],
 ) -> usize
     requires { ⌜ (length (now mesh) ≡ length (now list) * 9) × (length (now list) ≤ 65536) ⌝ }
-    ensures { λ r. ⌜ (now (levels .exit) ≡ written (map fiveOf (levelsOf (now (mesh .entry)) (length (now (list .entry))) tolerance «level_tolerance» floor)) (now (levels .entry))) × (r ≡ length (levelsOf (now (mesh .entry)) (length (now (list .entry))) tolerance «level_tolerance» floor)) ⌝ }
+    ensures { λ r. ⌜ (now (levels .exit) ≡ written (map fiveOf (levelsOf (now (mesh .entry)) (length (now (list .entry))) tolerance «level_tolerance» floor)) (now (levels .entry)))
+        × (r ≡ length (levelsOf (now (mesh .entry)) (length (now (list .entry))) tolerance «level_tolerance» floor))
+        × (now (list .exit) ≡ listLeft (now (mesh .entry)) (length (now (list .entry))) tolerance «level_tolerance» floor (now (list .entry))) ⌝ }
 {
     let n = list.len();
     let k = gather(mesh, n, list, tolerance, floor + level_tolerance);

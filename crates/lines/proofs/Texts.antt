@@ -1,26 +1,30 @@
 -- Laws of a text that grows at its end.
 use mathlib.Core.Bool.{Bool, true, false, _&&_}
 use mathlib.Core.List.{List, [], _∷_, _++_, append-assoc, append-nil}
-use mathlib.Core.Path.{_≡_, refl, sym, subst, _∙_}
+use mathlib.Core.Path.{_≡_, refl, sym, ap, subst, _∙_}
 use Prim.Native.Nat.{ℕ, zero, suc, _+_, _-_, _/_, _%_, _≤_, _<_}
 use native.Mathlib.Nat.{add-zero, le-antisymm}
 use native.Mathlib.Numerals.{add-one}
 use native.Mathlib.Omega.{arith}
 use lib.Dec.{eqb}
-use lib.ListN.{length, getD, take, set, length-append}
-use lib.Seq.{take-suc-set, take-suc, take-all}
+use lib.ListN.{length, getD, take, drop, set, length-append}
+use lib.Seq.{take-suc-set, take-suc, take-all, drop-drop, drop-set-lt}
 use Rattle.numbers.proofs.Branches.{either}
 use Rattle.lines.specs.Lines.{glyphOf, spelled}
 use Rattle.lines.specs.Wrote.{Wrote}
 
 pub nothing : (out : List ℕ) (at : ℕ) → Wrote out out at at []
-nothing out at = record { text = sym (append-nil (take at out)); ends = sym (add-zero at) }
+nothing out at = record { text = sym (append-nil (take at out)); ends = sym (add-zero at); rest = refl }
 
 pub one : (out : List ℕ) (at b : ℕ) → at < length out → Wrote out (set out at b) at (at + 1) (b ∷ [])
-one out at b h = record { text = rw add-one (take-suc-set out at b h); ends = refl }
+one out at b h = record { text = rw add-one (take-suc-set out at b h); ends = refl; rest = drop-set-lt (at + 1) out at b (omega arith) }
 
 pub as-well : {o p : List ℕ} {a b : ℕ} {s t : List ℕ} → s ≡ t → Wrote o p a b s → Wrote o p a b t
 as-well e w = rw e at w
+
+-- what stays behind b stays behind what is farther
+behind : (p o : List ℕ) (b c n : ℕ) → c ≡ b + n → drop b p ≡ drop b o → drop c p ≡ drop c o
+behind p o b c n e h = rw (e, ← drop-drop n b p, ← drop-drop n b o) (ap (drop n) h)
 
 -- one text after the other
 infixr 20 _then_
@@ -29,6 +33,7 @@ _then_ {o} {p} {q} {a} {b} {c} {s} {t} w v =
     record {
       text = v .text ∙ rw (w .text) (append-assoc (take a o) s t);
       ends = simp length-append (omega (arith, v .ends, w .ends));
+      rest = v .rest ∙ behind p o b c (length t) (v .ends) (w .rest);
     }
 
 spelled-length : (b least k n : ℕ) → length (spelled b least k n) ≤ k

@@ -1,6 +1,6 @@
 // The lines of a listing, written one after the other into a lent buffer.
 //
-// Each function is told where the text ends and answers where it ends then. The bytes before stay.
+// Each function is told where the text ends and answers where it ends then. The bytes before and behind stay.
 ghost use mathlib.Core.Path.{_≡_};
 ghost use mathlib.Core.Bool.{_&&_};
 ghost use mathlib.Core.List.{[], _∷_, _++_};

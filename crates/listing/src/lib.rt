@@ -2,7 +2,7 @@
 ghost use mathlib.Core.Path.{_≡_};
 ghost use mathlib.Core.List.{_++_};
 ghost use Prim.Native.Nat.{_+_, _*_, _≤_, _<_};
-ghost use lib.ListN.{length, take, replicate};
+ghost use lib.ListN.{length, take, drop, replicate};
 ghost use Rattle.ask.specs.Ask.{ended};
 ghost use Rattle.lines.specs.Wrote.{Wrote};
 ghost use Rattle.listing.specs.Listing.{askedOf, answersOf, listedOf, listingOf, Enough};
@@ -15,9 +15,10 @@ pub const TEXT: usize = 20570;
 // Room for the longest job that is accepted, and one byte more: of a longer input that is enough.
 pub const INPUT: usize = 28703;
 
-// Puts the listing of a job at the start of out, and answers how long it is.
+// Puts the listing of a job at the start of out, and answers how long it is; the bytes behind it stay.
 pub fn listing(bytes: &[u8], out: &mut [u8; TEXT]) -> usize
-    ensures { λ n. ⌜ (take n (now (out .exit)) ≡ listingOf (now (bytes .entry))) × (n ≤ length (now (out .exit))) × Enough (now (bytes .entry)) ⌝ }
+    ensures { λ n. ⌜ (take n (now (out .exit)) ≡ listingOf (now (bytes .entry))) × (n ≤ length (now (out .exit))) × Enough (now (bytes .entry))
+        × (drop n (now (out .exit)) ≡ drop n (now (out .entry))) ⌝ }
 {
     let mut mesh = [0.0; 2304];
     let mut questions = [0.0; 1280];

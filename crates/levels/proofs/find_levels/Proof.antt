@@ -8,7 +8,7 @@ use lib.ListN.{length}
 use Rattle.numbers.specs.Reals.{_⊕_}
 use Rattle.fives.specs.Tables.{written}
 use Rattle.levels.specs.Levels.{levelsFrom, levelsOf, fiveOf}
-use Rattle.levels.proofs.Gathering.{gathered-within, flats-few, sorted-front}
+use Rattle.levels.proofs.Gathering.{gathered-within, flats-few, sorted-front, sorted-whole}
 use Rattle.levels.proofs.find_levels.Statement.{statement}
 use Rattle.levels.proofs.find_levels.Tie as tie
 use Rattle.levels.proofs.find_levels.Reads as reads
@@ -42,6 +42,7 @@ returns c =
     let e = c .before .before .collect .ensures in (
       e .0 ∙ ap (λ (is : List ℕ). written (map fiveOf (levelsFrom (s .args .mesh .now) (s .args .level-tolerance) is)) (s .args .levels .now)) t,
       e .1 ∙ ap (λ (is : List ℕ). length (levelsFrom (s .args .mesh .now) (s .args .level-tolerance) is)) t,
+      sorted-whole (s .args .mesh .now) _ (s .args .tolerance) (s .args .level-tolerance) (s .args .floor) _ _ _ _ (g .0) (g .1) (c .before .before .before .before .before .before .before .sort .ensures .0),
     )
 
 pub find-levels-spec : {M : Type 1} → statement M

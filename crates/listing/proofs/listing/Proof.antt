@@ -19,7 +19,7 @@ room c =
 returns : tie.Need-returns
 returns c =
     let w = c .refused-line .ensures in
-    (w .0 .text ∙ read-not _ _ _ _ (c .before .before .before .before .before .before .read-job .ensures .0) (c .before .before .if1 .taken), omega (arith, w .1, c .refused-line .kept .0), enough _)
+    (w .0 .text ∙ read-not _ _ _ _ (c .before .before .before .before .before .before .read-job .ensures .0) (c .before .before .if1 .taken), omega (arith, w .1, c .refused-line .kept .0), enough _, w .0 .rest)
 
 array-share-prefix-mesh : tie.Need-array-share-prefix-mesh
 array-share-prefix-mesh c = room (c .before .before) .0
@@ -42,7 +42,7 @@ listed-requires c κs =
 returns-2 : tie.Need-returns-2
 returns-2 c =
     let w = c .listed .ensures in
-    (w .0 .text ∙ read-is _ _ _ _ (c .before .before .before .before .before .before .before .before .before .before .read-job .ensures .0) (c .before .before .before .before .before .before .if1 .left), omega (arith, w .1, c .listed .kept .1 .1 .1 .1 .1 .1 .0), enough _)
+    (w .0 .text ∙ read-is _ _ _ _ (c .before .before .before .before .before .before .before .before .before .before .read-job .ensures .0) (c .before .before .before .before .before .before .if1 .left), omega (arith, w .1, c .listed .kept .1 .1 .1 .1 .1 .1 .0), enough _, w .0 .rest)
 
 pub listing-spec : {M : Type 1} → statement M
 listing-spec = tie.close (tie.spec (λ c. search needs) (λ c. search needs) (λ c κs. tt) (λ c κs. search needs) returns (λ c. search needs) (λ c. search needs) (λ c. search needs) array-share-prefix-mesh slice-aggregate-listed (λ c. search needs) array-share-prefix-questions slice-aggregate-listed-2 listed-requires returns-2)
