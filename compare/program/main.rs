@@ -1,8 +1,9 @@
-//! The Rust beside the planner: `run` compares, `fuzz` compares damaged calls only, `bench` times.
+//! The Rust beside the planner: `run` compares, `fuzz` compares damaged calls only, `bench` times, `shipped` counts where camlib as shipped differs.
 //!
 //!     compare run  [--cases N] [--seed S] [--part NAME] [--case 'LINE']
 //!     compare fuzz [--cases N] [--seed S] [--part NAME]
 //!     compare bench [WORD..]
+//!     compare shipped [--cases N] [--seed S]
 
 mod bench;
 mod case;
@@ -11,6 +12,7 @@ mod inputs;
 mod model;
 mod parts;
 mod rng;
+mod shipped;
 include!(concat!(env!("OUT"), "/missing.rs"));
 
 use case::Case;
@@ -32,8 +34,11 @@ fn main() {
     if what == "bench" {
         return bench::run();
     }
+    if what == "shipped" {
+        return shipped::run();
+    }
     if what != "run" && what != "fuzz" {
-        eprintln!("compare run|fuzz|bench [--cases N] [--seed S] [--part NAME] [--case 'LINE']");
+        eprintln!("compare run|fuzz|bench|shipped [--cases N] [--seed S] [--part NAME] [--case 'LINE']");
         std::process::exit(2);
     }
     let mut wanted = Wanted { cases: 10_000, seed: 1, part: None, case: None, damage: what == "fuzz" };
