@@ -1,0 +1,5 @@
+pub mod Finite
+pub mod Whenever
+pub mod Tables
+pub mod Taking
+pub mod Answering
