@@ -13,8 +13,10 @@
  * The functions that answer uint32_t answer 0, or a refusal number. A refusal leaves lent tables untouched (exceptions: 10 to 13)
  * and sets fixed results to zero, the stamp to the one handed:
  *
- *    1  the mesh's length is no multiple of 9 or over 65,536 triangles; in questions and plan: marks_len is not the mesh's n
- *    2  a question's number, r or floor outside its range (points 3e6, radii 0 to 1e6, lift and floor 1e6 in magnitude)
+ *    1  the mesh's length is no multiple of 9 or over 65,536 triangles; in questions and plan: marks_len is not the mesh's n; in
+ *       joining: runs_len is no multiple of 5
+ *    2  a question's number, r or floor outside its range (points 3e6, radii 0 to 1e6, lift and floor 1e6 in magnitude); in joining:
+ *       a number that is not finite
  *    3  the mesh is empty
  *    4  a coordinate is not finite, or its magnitude is over 1e6
  *    5  columns or rows over 65,536, cells over 1,048,576, or cells + 1 over starts_len
@@ -100,6 +102,12 @@ uint32_t mandrikelo_plan(const double *mesh, size_t mesh_len, const double measu
     uint32_t axis /* 0 X, 1 Y, else 9 */,
     double *levels, size_t levels_len, double *runs, size_t runs_len,
     double lengths[2] /* cut, dropped */, uint32_t counts[3] /* levels, rows, runs */);
+
+/* Runs of five numbers each (ax, ay, bx, by, z) joined in place: a run that begins where the one before it ends, at the same z, becomes
+ * part of it. The joined runs stand first and zeros after; `count` gets their number. Refusals: 1 the table is not five numbers a run,
+ * 2 one is not finite. When it is done does not matter: joined runs, with more added behind them, join to what the whole list joins to.
+ * Only the first `count` runs are to be handed on: the zeros behind them are no runs, and taken for runs they would join too. */
+uint32_t mandrikelo_join(double *runs, size_t runs_len, size_t count[1]);
 
 /* A job file (docs: "The job file"). `mesh` gets 9 numbers a triangle, `questions` 5 each (px, py, qx, qy, r); entries beyond those
  * keep what they held. */

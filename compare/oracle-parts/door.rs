@@ -185,3 +185,13 @@ pub fn plan(mesh: &SurfaceMesh, floor: f64, r: f64, parameters: &[f64; 7], axis:
         Err(_) => refused(9),
     }
 }
+
+fn run(five: &[f64]) -> Run {
+    Run { a: [five[0], five[1]], b: [five[2], five[3]], z: five[4] }
+}
+
+/// Runs of five numbers each, joined by camlib's own loop.
+pub fn join(table: &[f64]) -> Vec<f64> {
+    let runs = super::joined(table.chunks_exact(5).map(run).collect());
+    runs.iter().flat_map(|run| [run.a[0], run.a[1], run.b[0], run.b[1], run.z]).collect()
+}

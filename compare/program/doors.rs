@@ -112,7 +112,7 @@ impl<T: Word> Lent<T> {
     pub fn len(&self) -> usize {
         self.0.len() - 2 * WIDE
     }
-    fn at(&mut self) -> *mut T {
+    pub fn at(&mut self) -> *mut T {
         // The address is the whole table's, so that a write over its end would meet the guard.
         unsafe { self.0.as_mut_ptr().add(WIDE) }
     }

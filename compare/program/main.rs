@@ -9,6 +9,7 @@ mod bench;
 mod case;
 mod doors;
 mod inputs;
+mod join;
 mod model;
 mod parts;
 mod rng;

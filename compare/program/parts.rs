@@ -19,19 +19,19 @@ pub struct Tally {
 }
 
 impl Tally {
-    fn add(&mut self, what: &str, n: u64) {
+    pub fn add(&mut self, what: &str, n: u64) {
         self.answers += n;
         self.note(what, n);
     }
-    fn unit(&mut self) {
+    pub fn unit(&mut self) {
         self.units += 1;
     }
-    fn note(&mut self, what: &str, n: u64) {
+    pub fn note(&mut self, what: &str, n: u64) {
         *self.told.entry(what.into()).or_default() += n;
     }
 }
 
-type Verdict = Result<(), String>;
+pub type Verdict = Result<(), String>;
 
 pub struct Part {
     pub name: &'static str,
@@ -158,6 +158,7 @@ pub const PARTS: &[Part] = &[
         unit: "plans",
         share: 20,
     },
+    crate::join::PART,
     Part {
         name: "job",
         doors: &["read_job"],

@@ -8,7 +8,8 @@ use lib.Ieee.{Float, nan, inf, fin, binary64, ofBits, div, lt}
 use lib.ListN.{length, drop}
 use lib.Seq.{drop-cons, drop-length}
 use Rattle.numbers.specs.Reals.{_⊘_, f0, f1, minus1, num}
-use Rattle.join.specs.Join.{finite, allFinite}
+use Rattle.fields.specs.Rows.{finite}
+use Rattle.join.specs.Join.{allFinite}
 
 pub between : (x : Float) → (lt (minus1 ⊘ f0) x && lt x (f1 ⊘ f0)) ≡ finite x
 unfolding finite lt div ofBits

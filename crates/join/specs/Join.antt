@@ -3,9 +3,10 @@ use mathlib.Core.Bool.{Bool, true, false, cond}
 use mathlib.Core.List.{List, [], _∷_, map}
 use Prim.Native.Nat.{ℕ, zero, suc, _+_, _*_, _%_}
 use lib.Dec.{eqb}
-use lib.Ieee.{Float, nan, inf, fin}
+use lib.Ieee.{Float}
 use lib.ListN.{length}
 use Rattle.numbers.specs.Reals.{num}
+use Rattle.fields.specs.Rows.{finite}
 use Rattle.grid.specs.Ladder.{demand}
 use Rattle.fives.specs.Tables.{roomOf, written, zeroed}
 use Rattle.runs.specs.Runs.{joinedOf, fiveOf}
@@ -13,12 +14,6 @@ use Rattle.runs.specs.declared.Run.{Run}
 use Rattle.join.specs.declared.Joined.{Joined}
 
 -- ---- what is refused
-
--- Neither infinite nor a NaN.
-unfoldable pub finite : Float → Bool
-finite nan = false
-finite (inf s) = false
-finite (fin s m e) = true
 
 -- Whether every number is finite.
 unfoldable pub allFinite : List Float → Bool

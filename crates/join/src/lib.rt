@@ -3,9 +3,10 @@ ghost use mathlib.Core.Path.{_≡_};
 ghost use mathlib.Core.List.{map, _++_};
 ghost use Prim.Native.Nat.{_+_, _*_, _≤_};
 ghost use lib.ListN.{length, take, drop};
+ghost use Rattle.fields.specs.Rows.{finite};
 ghost use Rattle.fives.specs.Tables.{written, zeroed};
 ghost use Rattle.runs.specs.Runs.{joinedOf, fiveOf};
-ghost use Rattle.join.specs.Join.{finite, allFinite, refusalOf, runIn, runsOf, outcome, joinOf};
+ghost use Rattle.join.specs.Join.{allFinite, refusalOf, runIn, runsOf, outcome, joinOf};
 ghost use Rattle.join.specs.Law.{WheneverJoined, HandedOn};
 use runs::Run;
 
@@ -69,7 +70,8 @@ fn is_finite(x: f64) -> bool
 
 // The runs of a table taken one after the other, and written over those that were taken before. Their number comes back.
 fn join_all(runs: &mut [f64]) -> usize
-    ensures { λ n. ⌜ (now (runs .exit) ≡ written (map fiveOf (joinedOf (runsOf (now (runs .entry))))) (now (runs .entry))) × (n ≡ length (joinedOf (runsOf (now (runs .entry))))) ⌝ }
+    ensures { λ n. ⌜ (now (runs .exit) ≡ written (map fiveOf (joinedOf (runsOf (now (runs .entry))))) (now (runs .entry)))
+        × (n ≡ length (joinedOf (runsOf (now (runs .entry))))) ⌝ }
 {
     let mut y = runs::begin();
     for m in 0..runs.len() / 5 {
