@@ -16,31 +16,22 @@ use Rattle.walk.specs.declared.Verdict.{Verdict}
 use Rattle.walk.proofs.Rings.{Kept, unmarked-length, look-keeps, fold-keeps}
 use Rattle.walk.proofs.Lists.{walk-is, chase-is}
 use Rattle.grid.specs.declared.Header.{Header}
-use Rattle.grid.proofs.Ladder.{demanded}
+use Rattle.grid.specs.Index.{Index, SoundIndex}
+use Rattle.grid.proofs.Ladder.{demanded, demand-next}
 use Rattle.query.specs.declared.Patch.{Patch}
 use Rattle.query.specs.Asked.{isMarked}
 use Rattle.query.specs.Patch.{patchOf}
 use Rattle.query.specs.Usable.{usable}
 use Rattle.query.proofs.Patches.{patch-inside}
+use Rattle.query.specs.Looked.{within}
 use Rattle.query.proofs.Using.{walkable, usable-head}
-use Rattle.ask.specs.Ask.{refusalOf, begun, within, Outcome, ended, refusedBy, answeredBy, answerOf, heightOver, refusedChord, blockedEarly, ruledBy, rulingOf, chordOver}
+use Rattle.query.proofs.Passing.{sound-marked, sound-usable}
+use Rattle.ask.specs.Ask.{refusalOf, begun, Outcome, ended, refusedBy, answeredBy, answerOf, askedHeight, refusedChord, blockedEarly, ruledBy, rulingOf, askedChord}
+use Rattle.ask.specs.Demand.{GoodQuestion}
 use Rattle.ask.specs.declared.Answer.{Answer}
 use Rattle.ask.specs.declared.Ruling.{Ruling}
 use Rattle.ask.specs.declared.Finding.{Finding}
 use Rattle.ask.specs.declared.Finding.the-variants.{Clear, Blocked}
-
--- ---- a question that was not refused
-pub record Passed (mesh index : Bool) : Type 0 where
-  pub mesh-fits : mesh ≡ true
-  pub index-stands : index ≡ true
-
-pub passed : (mesh numbers tool index : Bool) → refusalOf mesh numbers tool index ≡ 0 → Passed mesh index
-unfolding refusalOf
-passed mesh numbers tool index e =
-    let a = demanded mesh 1 _ (lit< tt) e in
-    let b = demanded numbers 2 _ (lit< tt) (a .1) in
-    let c = demanded tool 8 _ (lit< tt) (b .1) in
-    record { mesh-fits = a .0; index-stands = demanded index 7 _ (lit< tt) (c .1) .0 }
 
 pub record Marked (mesh : List Float) (marks : List ℕ) : Type 0 where
   pub few : length marks ≤ 65536
@@ -52,6 +43,29 @@ marked-is mesh marks e =
     let a = both-true (leb (length marks) 65536) (eqb (length mesh) (length marks * 9)) e in
     record { few = leb-true _ _ (a .0); nine = eqb-true _ _ (a .1) }
 
+-- ---- a question that was not refused
+pub record Passed (ix : Index) (marks : List ℕ) (stamp : ℕ) (p : Patch) : Type 0 where
+  pub marked : Marked (ix .mesh) marks
+  pub index-stands : usable ix marks stamp p ≡ true
+
+module _ (numbers tool : Bool) (ix : Index) (marks : List ℕ) (stamp : ℕ) (p : Patch) where
+  pub passed : refusalOf numbers tool ix marks stamp p ≡ 0 → Passed ix marks stamp p
+  unfolding refusalOf
+  passed e =
+      let a = demanded (isMarked (ix .mesh) marks) 1 _ (lit< tt) e in
+      let b = demanded numbers 2 _ (lit< tt) (a .1) in
+      let c = demanded tool 8 _ (lit< tt) (b .1) in
+      record { marked = marked-is (ix .mesh) marks (a .0); index-stands = demanded (usable ix marks stamp p) 7 _ (lit< tt) (c .1) .0 }
+
+  -- a good question over a sound index is not
+  pub good-passes : SoundIndex ix → GoodQuestion numbers tool ix marks stamp → p .x1 ≤ ix .header .columns → p .y1 ≤ ix .header .rows → refusalOf numbers tool ix marks stamp p ≡ 0
+  unfolding refusalOf
+  good-passes d g right top =
+      sym (demand-next _ _ _ _ (sound-marked ix d marks stamp (g .marked) (g .low))
+      (demand-next _ _ _ _ (g .numbersInRange)
+      (demand-next _ _ _ _ (g .toolInRange)
+      (demand-next _ _ _ _ (sound-usable ix d marks stamp (g .marked) (g .low) p right top) refl))))
+
 ready-length : (marks : List ℕ) (stamp : ℕ) → length (readyMarks marks stamp) ≡ length marks
 unfolding readyMarks
 ready-length marks stamp =
@@ -62,45 +76,45 @@ pub inside : (h : Header) (px py qx qy reach : Float) (p : Patch) → p ≡ patc
 inside h px py qx qy reach p e = rw e (patch-inside h px py qx qy reach)
 
 -- n is the refusal that the code found
-module _ (numbers tool : Bool) (mesh : List Float) (h : Header) (starts members marks : List ℕ) (stamp : ℕ) (p : Patch) (n : ℕ) (e : n ≡ refusalOf (isMarked mesh marks) numbers tool (usable mesh h starts members marks stamp p)) where
+module _ (numbers tool : Bool) (ix : Index) (marks : List ℕ) (stamp : ℕ) (p : Patch) (n : ℕ) (e : n ≡ refusalOf numbers tool ix marks stamp p) where
   -- where the walk of an accepted question begins, with the marks m
-  pub ready : {A : Type 0} (next : ℕ) (m : List ℕ) (v : A) → n ≡ 0 → m ≡ readyMarks marks stamp → (p .x1 ≤ h .columns) × (p .y1 ≤ h .rows) → (length mesh ≡ length m * 9) × Walkable starts members (length m) (h .columns) (p .x0) (p .x1) (p .y0) (p .y1) × Room next (record { marks = m; count = 0; value = v })
+  pub ready : {A : Type 0} (next : ℕ) (m : List ℕ) (v : A) → n ≡ 0 → m ≡ readyMarks marks stamp → (p .x1 ≤ ix .header .columns) × (p .y1 ≤ ix .header .rows) → (length (ix .mesh) ≡ length m * 9) × Walkable (ix .starts) (ix .members) (length m) (ix .header .columns) (p .x0) (p .x1) (p .y0) (p .y1) × Room next (record { marks = m; count = 0; value = v })
   ready next m v z f i =
-      let a = passed _ _ _ _ (sym e ∙ z) in
-      let k = marked-is mesh marks (a .mesh-fits) in
+      let a = passed _ _ _ _ _ _ (sym e ∙ z) in
+      let k = a .marked in
       let l : length m ≡ length marks = ap length f ∙ ready-length marks stamp in
-      let d : length mesh ≡ h .n * 9 = usable-head mesh h starts members marks stamp p (a .index-stands) .nine in
-      let s : length m ≡ h .n = omega (arith, k .nine) in
-      (omega (arith, k .nine), rw s (walkable mesh h starts members marks stamp p (a .index-stands) (i .0) (i .1)), omega (arith, unmarked-length next m, k .few))
+      let d : length (ix .mesh) ≡ ix .header .n * 9 = usable-head ix marks stamp p (a .index-stands) .nine in
+      let s : length m ≡ ix .header .n = omega (arith, k .nine) in
+      (omega (arith, k .nine), rw s (walkable ix marks stamp p (a .index-stands) (i .0) (i .1)), omega (arith, unmarked-length next m, k .few))
 
   -- ---- a height question
   module _ (step : Float → ℕ → Float) where
-    pub height-refused : (n ≡ 0 → ⊥) → ended (refusedBy n stamp) marks ≡ heightOver numbers tool step mesh h starts members marks stamp p
-    unfolding heightOver answerOf
+    pub height-refused : (n ≡ 0 → ⊥) → ended (refusedBy n stamp) marks ≡ askedHeight numbers tool step ix marks stamp p
+    unfolding askedHeight answerOf
     height-refused z = left _ _ _ _ (ne-eqb _ 0 (λ k. z (e ∙ k))) (ap (λ (j : ℕ). ended (refusedBy j stamp) marks) e)
 
-    pub height-answered : (next : ℕ) (m m′ : List ℕ) (s : Seen) → n ≡ 0 → next ≡ nextStamp stamp → m ≡ readyMarks marks stamp → seen m′ s ≡ fold (look next step) (seen m (record { count = 0; best = h .floor })) (within h starts members p) → ended (record { refusal = 0; height = s .best; count = s .count; stamp = next }) m′ ≡ heightOver numbers tool step mesh h starts members marks stamp p
-    unfolding heightOver answerOf
+    pub height-answered : (next : ℕ) (m m′ : List ℕ) (s : Seen) → n ≡ 0 → next ≡ nextStamp stamp → m ≡ readyMarks marks stamp → seen m′ s ≡ fold (look next step) (seen m (record { count = 0; best = ix .header .floor })) (within ix p) → ended (record { refusal = 0; height = s .best; count = s .count; stamp = next }) m′ ≡ askedHeight numbers tool step ix marks stamp p
+    unfolding askedHeight answerOf
     height-answered next m m′ s z f g w =
-        let v : Walk Float = walked (nextStamp stamp) step (begun marks stamp (h .floor)) (within h starts members p) in
+        let v : Walk Float = walked (nextStamp stamp) step (begun marks stamp (ix .header .floor)) (within ix p) in
         let i : seen m′ s ≡ v = w ∙ walk-is next step _ _ ∙ (rw (g, f)) in
         taken _ _ _ _ (eq-eqb _ 0 (sym e ∙ z))
         (ap (λ (u : Walk Float). ended (answeredBy u next) (u .marks)) i ∙ ap (λ (k : ℕ). ended (answeredBy v k) (v .marks)) f)
 
   -- ---- a chord question
   module _ (early : Bool) (blocks : ℕ → Bool) where
-    pub chord-refused : (n ≡ 0 → ⊥) → ended (refusedChord n stamp) marks ≡ chordOver numbers tool early blocks mesh h starts members marks stamp p
-    unfolding chordOver rulingOf
+    pub chord-refused : (n ≡ 0 → ⊥) → ended (refusedChord n stamp) marks ≡ askedChord numbers tool early blocks ix marks stamp p
+    unfolding askedChord rulingOf
     chord-refused z = left _ _ _ _ (ne-eqb _ 0 (λ k. z (e ∙ k))) (ap (λ (j : ℕ). ended (refusedChord j stamp) marks) e)
 
-    pub chord-early : n ≡ 0 → early ≡ true → ended (blockedEarly stamp) marks ≡ chordOver numbers tool early blocks mesh h starts members marks stamp p
-    unfolding chordOver rulingOf
+    pub chord-early : n ≡ 0 → early ≡ true → ended (blockedEarly stamp) marks ≡ askedChord numbers tool early blocks ix marks stamp p
+    unfolding askedChord rulingOf
     chord-early z b = taken _ _ _ _ (eq-eqb _ 0 (sym e ∙ z)) (taken _ _ _ _ b refl)
 
-    pub chord-ruled : (next : ℕ) (m m′ : List ℕ) (v : Verdict) (f : Finding) → n ≡ 0 → early ≡ false → next ≡ nextStamp stamp → m ≡ readyMarks marks stamp → judged m′ v ≡ fold (strike next blocks) (judged m (record { count = 0; clear = true })) (within h starts members p) → f ≡ cond (v .clear) Clear Blocked → ended (record { refusal = 0; finding = f; count = v .count; stamp = next }) m′ ≡ chordOver numbers tool early blocks mesh h starts members marks stamp p
-    unfolding chordOver rulingOf
+    pub chord-ruled : (next : ℕ) (m m′ : List ℕ) (v : Verdict) (f : Finding) → n ≡ 0 → early ≡ false → next ≡ nextStamp stamp → m ≡ readyMarks marks stamp → judged m′ v ≡ fold (strike next blocks) (judged m (record { count = 0; clear = true })) (within ix p) → f ≡ cond (v .clear) Clear Blocked → ended (record { refusal = 0; finding = f; count = v .count; stamp = next }) m′ ≡ askedChord numbers tool early blocks ix marks stamp p
+    unfolding askedChord rulingOf
     chord-ruled next m m′ v f z b g k w r =
-        let u : Walk Bool = chased (nextStamp stamp) blocks (begun marks stamp true) (within h starts members p) in
+        let u : Walk Bool = chased (nextStamp stamp) blocks (begun marks stamp true) (within ix p) in
         let i : judged m′ v ≡ u = w ∙ chase-is next blocks _ _ refl ∙ (rw (k, g)) in
         taken _ _ _ _ (eq-eqb _ 0 (sym e ∙ z))
         (left _ _ _ _ b

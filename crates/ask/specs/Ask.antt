@@ -7,12 +7,13 @@ use lib.Ieee.{Float, le}
 use Rattle.numbers.specs.Reals.{f0, maxOf}
 use Rattle.plane.specs.declared.Contact.{Contact}
 use Rattle.plane.specs.declared.Contact.the-variants.{Nothing, Height}
-use Rattle.walk.specs.Walk.{Walk, nextStamp, readyMarks, block, walked, chased}
-use Rattle.grid.specs.declared.Header.{Header}
+use Rattle.walk.specs.Walk.{Walk, nextStamp, readyMarks, walked, chased}
+use Rattle.grid.specs.Index.{Index}
 use Rattle.grid.specs.Ladder.{demand}
 use Rattle.query.specs.declared.Patch.{Patch}
 use Rattle.query.specs.Asked.{isMarked}
 use Rattle.query.specs.Usable.{usable}
+use Rattle.query.specs.Looked.{within}
 use Rattle.ask.specs.declared.Answer.{Answer}
 use Rattle.ask.specs.declared.Finding.{Finding}
 use Rattle.ask.specs.declared.Finding.the-variants.{Neither, Clear, Blocked}
@@ -22,9 +23,15 @@ use Rattle.ask.specs.declared.Ruling.{Ruling}
 unfoldable pub isCorner : Float → Float → Bool
 isCorner r rc = le f0 rc && le rc r
 
--- 1, 2, 8 and 7 in this order, each where its test does not hold; 0 where the question is accepted.
-unfoldable pub refusalOf : Bool → Bool → Bool → Bool → ℕ
-refusalOf mesh numbers tool index = demand mesh 1 (demand numbers 2 (demand tool 8 (demand index 7 0)))
+-- 1, 2, 8 and 7 in this order, each where its test does not hold; 0 where the question with the cells p is accepted. `numbers` and `tool` say whether its numbers
+-- and its tool are in their ranges.
+unfoldable pub refusalOf : Bool → Bool → Index → List ℕ → ℕ → Patch → ℕ
+refusalOf numbers tool ix marks stamp p =
+    demand (isMarked (ix .mesh) marks) 1
+    (demand numbers 2
+    (demand tool 8
+    (demand (usable ix marks stamp p) 7
+    0)))
 
 -- The best so far, with one contact more.
 unfoldable pub raisedBy : Contact → Float → Float
@@ -34,10 +41,6 @@ raisedBy (Height z) best = maxOf best z
 -- Where a walk begins: with the next stamp's marks, no triangle looked at, and v.
 abbrev pub begun : {A : Type 0} → List ℕ → ℕ → A → Walk A
 begun marks stamp v = record { marks = readyMarks marks stamp; count = 0; value = v }
-
--- The numbers of the question's cells p.
-abbrev pub within : Header → List ℕ → List ℕ → Patch → List ℕ
-within h starts members p = block starts members (h .columns) (p .x0) (p .x1) (p .y0) (p .y1)
 
 -- ---- a height question
 
@@ -62,12 +65,11 @@ unfoldable pub answerOf : ℕ → List ℕ → ℕ → Walk Float → Outcome An
 answerOf k marks stamp w =
     cond (eqb k 0) (ended (answeredBy w (nextStamp stamp)) (w .marks)) (ended (refusedBy k stamp) marks)
 
--- The question with the cells p, whose step takes the best so far and the next triangle: `numbers` and `tool` say whether its numbers and its tool are in their
--- ranges. Its walk begins at the floor.
-unfoldable pub heightOver : Bool → Bool → (Float → ℕ → Float) → List Float → Header → List ℕ → List ℕ → List ℕ → ℕ → Patch → Outcome Answer
-heightOver numbers tool step mesh h starts members marks stamp p =
-    answerOf (refusalOf (isMarked mesh marks) numbers tool (usable mesh h starts members marks stamp p)) marks stamp
-    (walked (nextStamp stamp) step (begun marks stamp (h .floor)) (within h starts members p))
+-- The question with the cells p, whose step takes the best so far and the next triangle. Its walk begins at the floor.
+unfoldable pub askedHeight : Bool → Bool → (Float → ℕ → Float) → Index → List ℕ → ℕ → Patch → Outcome Answer
+askedHeight numbers tool step ix marks stamp p =
+    answerOf (refusalOf numbers tool ix marks stamp p) marks stamp
+    (walked (nextStamp stamp) step (begun marks stamp (ix .header .floor)) (within ix p))
 
 -- ---- a chord question
 
@@ -97,7 +99,7 @@ rulingOf k early marks stamp w =
     (ended (refusedChord k stamp) marks)
 
 -- The question with the cells p, which a triangle may block: `early` says whether it is blocked before any walk.
-unfoldable pub chordOver : Bool → Bool → Bool → (ℕ → Bool) → List Float → Header → List ℕ → List ℕ → List ℕ → ℕ → Patch → Outcome Ruling
-chordOver numbers tool early blocks mesh h starts members marks stamp p =
-    rulingOf (refusalOf (isMarked mesh marks) numbers tool (usable mesh h starts members marks stamp p)) early marks stamp
-    (chased (nextStamp stamp) blocks (begun marks stamp true) (within h starts members p))
+unfoldable pub askedChord : Bool → Bool → Bool → (ℕ → Bool) → Index → List ℕ → ℕ → Patch → Outcome Ruling
+askedChord numbers tool early blocks ix marks stamp p =
+    rulingOf (refusalOf numbers tool ix marks stamp p) early marks stamp
+    (chased (nextStamp stamp) blocks (begun marks stamp true) (within ix p))

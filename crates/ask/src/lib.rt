@@ -1,8 +1,7 @@
 // What every question shares: its refusals in their order, and its answer.
 ghost use mathlib.Core.Path.{_≡_};
 ghost use Prim.Native.Nat.{_≤_};
-ghost use Rattle.query.specs.Asked.{isMarked};
-ghost use Rattle.query.specs.Usable.{usable};
+ghost use Rattle.grid.specs.Index.{indexOf};
 ghost use Rattle.ask.specs.Ask.{isCorner, refusalOf, raisedBy, findingNumber};
 use grid::Header;
 use plane::Contact;
@@ -44,7 +43,8 @@ pub fn refusal(
     tool: bool,
 ) -> u32
     requires { ⌜ (p .x1 ≤ h .columns) × (p .y1 ≤ h .rows) ⌝ }
-    ensures { λ k. ⌜ k ≡ refusalOf (isMarked (now (mesh .entry)) (now (marks .entry))) numbers tool (usable (now (mesh .entry)) h (now (starts .entry)) (now (members .entry)) (now (marks .entry)) stamp p) ⌝ }
+    ensures { λ k. ⌜ k
+        ≡ refusalOf numbers tool (indexOf (now (mesh .entry)) h (now (starts .entry)) (now (members .entry))) (now (marks .entry)) stamp p ⌝ }
 {
     if !query::is_marked(mesh, marks) {
         return 1;

@@ -107,25 +107,25 @@ rowsUnder columns b y c = covers columns b c && ltb (c / columns) y
 
 -- cell c is column c % columns of row c / columns
 module _ (columns : ℕ) (b : Cells) (c : ℕ) where
-  pub covered : (b .x0 ≤ c % columns) → (c % columns ≤ b .x1) → (b .y0 ≤ c / columns) → (c / columns ≤ b .y1) → covers columns b c ≡ true
+  pub covered : (b .left ≤ c % columns) → (c % columns ≤ b .right) → (b .bottom ≤ c / columns) → (c / columns ≤ b .top) → covers columns b c ≡ true
   unfolding covers isFrom
   covered h₁ h₂ h₃ h₄ = both-on _ _ (both-on _ _ (le-leb _ _ h₁) (le-leb _ _ h₂)) (both-on _ _ (le-leb _ _ h₃) (le-leb _ _ h₄))
 
-  pub left-of : c % columns < b .x0 → covers columns b c ≡ false
+  pub left-of : c % columns < b .left → covers columns b c ≡ false
   unfolding covers isFrom
   left-of h = off-left _ _ (off-left _ _ (lt-leb _ _ h))
 
-  pub right-of : b .x1 < c % columns → covers columns b c ≡ false
+  pub right-of : b .right < c % columns → covers columns b c ≡ false
   unfolding covers isFrom
-  right-of h = off-left _ _ (off-right (leb (b .x0) (c % columns)) _ (lt-leb _ _ h))
+  right-of h = off-left _ _ (off-right (leb (b .left) (c % columns)) _ (lt-leb _ _ h))
 
-  pub below : c / columns < b .y0 → covers columns b c ≡ false
+  pub below : c / columns < b .bottom → covers columns b c ≡ false
   unfolding covers isFrom
-  below h = off-right (isFrom (b .x0) (b .x1) (c % columns)) _ (off-left _ _ (lt-leb _ _ h))
+  below h = off-right (isFrom (b .left) (b .right) (c % columns)) _ (off-left _ _ (lt-leb _ _ h))
 
-  pub above : b .y1 < c / columns → covers columns b c ≡ false
+  pub above : b .top < c / columns → covers columns b c ≡ false
   unfolding covers isFrom
-  above h = off-right (isFrom (b .x0) (b .x1) (c % columns)) _ (off-right (leb (b .y0) (c / columns)) _ (lt-leb _ _ h))
+  above h = off-right (isFrom (b .left) (b .right) (c % columns)) _ (off-right (leb (b .bottom) (c / columns)) _ (lt-leb _ _ h))
 
   pub under-all : (y : ℕ) → c / columns < y → weight (rowsUnder columns b y c) ≡ weight (covers columns b c)
   under-all y h = rw (lt-ltb (c / columns) y h) (by-test (covers columns b c) (λ e. rw e) (λ e. rw e))
@@ -134,8 +134,8 @@ module _ (columns : ℕ) (b : Cells) (c : ℕ) where
   under-none y h = weight-off _ (off-right (covers columns b c) _ (le-ltb (c / columns) y h))
 
   -- a covered cell is in a row of the triangle
-  pub covered-row : covers columns b c ≡ true → c / columns ≤ b .y1
-  covered-row e = by-lt (b .y1) (c / columns) (λ l. let z : _≡_ {A = Bool} true false = sym e ∙ above l in absurd (no z)) (λ l. l)
+  pub covered-row : covers columns b c ≡ true → c / columns ≤ b .top
+  covered-row e = by-lt (b .top) (c / columns) (λ l. let z : _≡_ {A = Bool} true false = sym e ∙ above l in absurd (no z)) (λ l. l)
     where
       no : true ≡ false → ⊥
       no z = let k : _≡_ {A = ℕ} 0 1 = cc in omega arith
@@ -144,15 +144,15 @@ module _ (columns : ℕ) (b : Cells) (c : ℕ) where
 row-before : (columns q y : ℕ) → q < y → q * columns + columns ≤ y * columns
 row-before columns q y h = omega (arith, mul-le-mul-right {m = q + 1} {n = y} columns (omega arith), add-mul q 1 columns)
 
-pub row-more : (columns : ℕ) (b : Cells) (y : ℕ) → b .x1 < columns → b .y0 ≤ y → y ≤ b .y1
-    → Split (rowsUnder columns b y) (between (y * columns + b .x0) (y * columns + b .x1 + 1)) (rowsUnder columns b (y + 1))
+pub row-more : (columns : ℕ) (b : Cells) (y : ℕ) → b .right < columns → b .bottom ≤ y → y ≤ b .top
+    → Split (rowsUnder columns b y) (between (y * columns + b .left) (y * columns + b .right + 1)) (rowsUnder columns b (y + 1))
 row-more columns b y hx hl hh c =
     let q = c / columns in
     let r = c % columns in
     let d : q * columns + r ≡ c = div-add-mod' c columns in
     let m : r < columns = mod-lt c {m = columns} (omega arith) in
-    let lo = y * columns + b .x0 in
-    let hi = y * columns + b .x1 + 1 in
+    let lo = y * columns + b .left in
+    let hi = y * columns + b .right + 1 in
     by-lt q y
     (λ l. omega (arith, under-all columns b c (y + 1) (omega arith), under-all columns b c y l, under-between lo hi c (omega (arith, row-before columns q y l))))
     (λ l.
@@ -161,10 +161,10 @@ row-more columns b y hx hl hh c =
     (λ g.
     let e : q ≡ y = omega arith in
     let d′ : y * columns + r ≡ c = rw (← e) d in
-    by-lt r (b .x0)
+    by-lt r (b .left)
     (λ k. omega (arith, under-all columns b c (y + 1) (omega arith), weight-off _ (left-of columns b c k), under-none columns b c y l, under-between lo hi c (omega arith)))
     (λ k.
-    by-lt (b .x1) r
+    by-lt (b .right) r
     (λ n. omega (arith, under-all columns b c (y + 1) (omega arith), weight-off _ (right-of columns b c n), under-none columns b c y l, over-between lo hi c (omega arith)))
     (λ n. omega (arith, under-all columns b c (y + 1) (omega arith), weight-on _ (covered columns b c k n (omega arith) (omega arith)), under-none columns b c y l, in-between lo hi c (omega arith) (omega arith))))))
 
@@ -173,7 +173,7 @@ pub row-fits : (columns y : ℕ) → columns ≤ 65536 → y < 65536 → y * col
 row-fits columns y h k = omega (arith, mul-le-mul-right {m = y} {n = 65536} columns (omega arith))
 
 -- a row's cells are covered
-pub row-covered : (columns : ℕ) (b : Cells) (y c : ℕ) → b .x1 < columns → b .y0 ≤ y → y ≤ b .y1 → between (y * columns + b .x0) (y * columns + b .x1 + 1) c ≡ true → covers columns b c ≡ true
+pub row-covered : (columns : ℕ) (b : Cells) (y c : ℕ) → b .right < columns → b .bottom ≤ y → y ≤ b .top → between (y * columns + b .left) (y * columns + b .right + 1) c ≡ true → covers columns b c ≡ true
 row-covered columns b y c hx hl hh e =
     by-test (covers columns b c) (λ t. t)
     (λ f.
@@ -183,27 +183,27 @@ row-covered columns b y c hx hl hh e =
     (λ l. omega (arith, row-more columns b y hx hl hh c, weight-on _ e, under-none columns b c (y + 1) l))))
 
 -- and new
-pub row-new : (columns : ℕ) (b : Cells) (y c : ℕ) → b .x1 < columns → b .y0 ≤ y → y ≤ b .y1 → between (y * columns + b .x0) (y * columns + b .x1 + 1) c ≡ true → weight (rowsUnder columns b y c) ≡ 0
+pub row-new : (columns : ℕ) (b : Cells) (y c : ℕ) → b .right < columns → b .bottom ≤ y → y ≤ b .top → between (y * columns + b .left) (y * columns + b .right + 1) c ≡ true → weight (rowsUnder columns b y c) ≡ 0
 row-new columns b y c hx hl hh e = omega (arith, row-more columns b y hx hl hh c, weight-on _ e, weight-le (rowsUnder columns b (y + 1) c))
 
 -- an end before the begin covers nothing
-pub none-covered : (columns : ℕ) (b : Cells) (c : ℕ) → b .x1 < b .x0 → weight (covers columns b c) ≡ 0
+pub none-covered : (columns : ℕ) (b : Cells) (c : ℕ) → b .right < b .left → weight (covers columns b c) ≡ 0
 none-covered columns b c h =
-    by-lt (c % columns) (b .x0) (λ l. weight-off _ (left-of columns b c l)) (λ l. weight-off _ (right-of columns b c (omega arith)))
+    by-lt (c % columns) (b .left) (λ l. weight-off _ (left-of columns b c l)) (λ l. weight-off _ (right-of columns b c (omega arith)))
 
 -- before the first row, and behind the last
-pub rows-none : (columns : ℕ) (b : Cells) (y c : ℕ) → y ≤ b .y0 → weight (rowsUnder columns b y c) ≡ 0
+pub rows-none : (columns : ℕ) (b : Cells) (y c : ℕ) → y ≤ b .bottom → weight (rowsUnder columns b y c) ≡ 0
 rows-none columns b y c h =
     by-lt (c / columns) y
     (λ l. under-all columns b c y l ∙ weight-off _ (below columns b c (omega arith)))
     (under-none columns b c y)
 
-pub rows-all : (columns : ℕ) (b : Cells) (y c : ℕ) → b .y1 < y → weight (rowsUnder columns b y c) ≡ weight (covers columns b c)
+pub rows-all : (columns : ℕ) (b : Cells) (y c : ℕ) → b .top < y → weight (rowsUnder columns b y c) ≡ weight (covers columns b c)
 rows-all columns b y c h =
     by-lt (c / columns) y
     (under-all columns b c y)
     (λ l. under-none columns b c y l ∙ sym (weight-off _ (above columns b c (omega arith))))
 
 -- where the loop over the rows ends
-pub rows-end : (columns : ℕ) (b : Cells) (y c : ℕ) → b .y1 + 1 ≤ y → y ≤ max (b .y0) (b .y1 + 1) → weight (rowsUnder columns b y c) ≡ weight (covers columns b c)
+pub rows-end : (columns : ℕ) (b : Cells) (y c : ℕ) → b .top + 1 ≤ y → y ≤ max (b .bottom) (b .top + 1) → weight (rowsUnder columns b y c) ≡ weight (covers columns b c)
 rows-end columns b y c h k = rows-all columns b y c (omega arith)

@@ -44,48 +44,48 @@ module _ where
       (λ m. omega (arith, size-between a e k h, over-between a e k m)))
 
 -- the size of a triangle's rows, one by one
-module _ (columns : ℕ) (b : Cells) (k : ℕ) (right : b .x1 < columns) (some : b .x0 ≤ b .x1) (grid : (b .y1 + 1) * columns ≤ k) where
-  size-rows : (d : ℕ) → b .y0 + d ≤ b .y1 + 1 → sizeTo (rowsUnder columns b (b .y0 + d)) k ≡ d * (b .x1 + 1 - b .x0)
+module _ (columns : ℕ) (b : Cells) (k : ℕ) (right : b .right < columns) (some : b .left ≤ b .right) (grid : (b .top + 1) * columns ≤ k) where
+  size-rows : (d : ℕ) → b .bottom + d ≤ b .top + 1 → sizeTo (rowsUnder columns b (b .bottom + d)) k ≡ d * (b .right + 1 - b .left)
   size-rows zero h =
-      let e : b .y0 + 0 ≡ b .y0 = omega arith in
-      rw e (size-none (rowsUnder columns b (b .y0)) k (λ c. rows-none columns b (b .y0) c (omega arith)) ∙ omega arith)
+      let e : b .bottom + 0 ≡ b .bottom = omega arith in
+      rw e (size-none (rowsUnder columns b (b .bottom)) k (λ c. rows-none columns b (b .bottom) c (omega arith)) ∙ omega arith)
   size-rows (suc d) h =
-      let y = b .y0 + d in
-      let e : b .y0 + suc d ≡ y + 1 = omega arith in
-      let end : y * columns + columns ≤ k = omega (arith, mul-le-mul-right {m = y + 1} {n = b .y1 + 1} columns (omega arith), add-mul y 1 columns) in
+      let y = b .bottom + d in
+      let e : b .bottom + suc d ≡ y + 1 = omega arith in
+      let end : y * columns + columns ≤ k = omega (arith, mul-le-mul-right {m = y + 1} {n = b .top + 1} columns (omega arith), add-mul y 1 columns) in
       rw (e, suc-mul d)
       (omega (
         arith,
-        size-split (rowsUnder columns b y) (between (y * columns + b .x0) (y * columns + b .x1 + 1)) (rowsUnder columns b (y + 1)) k (row-more columns b y right (omega arith) (omega arith)),
+        size-split (rowsUnder columns b y) (between (y * columns + b .left) (y * columns + b .right + 1)) (rowsUnder columns b (y + 1)) k (row-more columns b y right (omega arith) (omega arith)),
         size-rows d (omega arith),
-        size-between (y * columns + b .x0) (y * columns + b .x1 + 1) k (omega arith),
+        size-between (y * columns + b .left) (y * columns + b .right + 1) k (omega arith),
       ))
 
-pub size-box : (columns : ℕ) (b : Cells) (rows : ℕ) → b .x1 < columns → b .y1 < rows → sizeTo (covers columns b) (rows * columns) ≡ areaOf b
+pub size-box : (columns : ℕ) (b : Cells) (rows : ℕ) → b .right < columns → b .top < rows → sizeTo (covers columns b) (rows * columns) ≡ areaOf b
 unfolding areaOf
 size-box columns b rows hx hy =
     let k = rows * columns in
-    by-lt (b .x1) (b .x0)
-    (λ l. size-none (covers columns b) k (λ c. none-covered columns b c l) ∙ (let z : b .x1 + 1 - b .x0 ≡ 0 = omega arith in rw z (omega arith)))
+    by-lt (b .right) (b .left)
+    (λ l. size-none (covers columns b) k (λ c. none-covered columns b c l) ∙ (let z : b .right + 1 - b .left ≡ 0 = omega arith in rw z (omega arith)))
     (λ l.
-    by-lt (b .y1) (b .y0)
+    by-lt (b .top) (b .bottom)
     (λ m.
-    let z : b .y1 + 1 - b .y0 ≡ 0 = omega arith in
-    size-none (covers columns b) k (λ c. no-rows c m) ∙ (rw (z, mul-comm (b .x1 + 1 - b .x0) 0) (omega arith)))
+    let z : b .top + 1 - b .bottom ≡ 0 = omega arith in
+    size-none (covers columns b) k (λ c. no-rows c m) ∙ (rw (z, mul-comm (b .right + 1 - b .left) 0) (omega arith)))
     (λ m.
-    let y = b .y0 + (b .y1 + 1 - b .y0) in
+    let y = b .bottom + (b .top + 1 - b .bottom) in
     sym (size-as (rowsUnder columns b y) (covers columns b) k (λ c. rows-all columns b y c (omega arith)))
-    ∙ size-rows columns b k hx l (mul-le-mul-right {m = b .y1 + 1} {n = rows} columns (omega arith)) (b .y1 + 1 - b .y0) (omega arith)
-    ∙ mul-comm (b .y1 + 1 - b .y0) (b .x1 + 1 - b .x0)))
+    ∙ size-rows columns b k hx l (mul-le-mul-right {m = b .top + 1} {n = rows} columns (omega arith)) (b .top + 1 - b .bottom) (omega arith)
+    ∙ mul-comm (b .top + 1 - b .bottom) (b .right + 1 - b .left)))
   where
-    no-rows : (c : ℕ) → b .y1 < b .y0 → weight (covers columns b c) ≡ 0
-    no-rows c m = sym (rows-all columns b (b .y1 + 1) c (omega arith)) ∙ rows-none columns b (b .y1 + 1) c (omega arith)
+    no-rows : (c : ℕ) → b .top < b .bottom → weight (covers columns b c) ≡ 0
+    no-rows c m = sym (rows-all columns b (b .top + 1) c (omega arith)) ∙ rows-none columns b (b .top + 1) c (omega arith)
 
 -- areas: none, and small ones
-pub area-none : (b : Cells) → (b .x1 < b .x0) ⊎ (b .y1 < b .y0) → areaOf b ≡ 0
+pub area-none : (b : Cells) → (b .right < b .left) ⊎ (b .top < b .bottom) → areaOf b ≡ 0
 unfolding areaOf
-area-none b (inl h) = let z : b .x1 + 1 - b .x0 ≡ 0 = omega arith in rw z (omega arith)
-area-none b (inr h) = let z : b .y1 + 1 - b .y0 ≡ 0 = omega arith in rw (z, mul-comm (b .x1 + 1 - b .x0) 0) (omega arith)
+area-none b (inl h) = let z : b .right + 1 - b .left ≡ 0 = omega arith in rw z (omega arith)
+area-none b (inr h) = let z : b .top + 1 - b .bottom ≡ 0 = omega arith in rw (z, mul-comm (b .right + 1 - b .left) 0) (omega arith)
 
 pub area-small : (w h : ℕ) → w ≤ 65536 → h ≤ 65536 → w * h ≤ 4294967296
 area-small w h a b = omega (arith, mul-le-mul-right {m = w} {n = 65536} h a)
@@ -106,7 +106,7 @@ module _ (on : Cover) where
 
 -- all members, triangle by triangle
 module _ (on : Cover) (columns rows : ℕ) (box : ℕ → Cells) (same : (i c : ℕ) → on i c ≡ covers columns (box i) c)
-    (right : (i : ℕ) → box i .x1 < columns) (top : (i : ℕ) → box i .y1 < rows) where
+    (right : (i : ℕ) → box i .right < columns) (top : (i : ℕ) → box i .top < rows) where
   pub total-is : (n : ℕ) → sums (λ i. areaOf (box i)) n ≡ startOf on n (rows * columns)
   unfolding sums
   total-is zero = sym (start-none on (rows * columns))

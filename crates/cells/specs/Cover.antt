@@ -10,13 +10,13 @@ use Rattle.cells.specs.declared.Cells.{Cells}
 unfoldable pub isFrom : ℕ → ℕ → ℕ → Bool
 isFrom a e k = leb a k && leb k e
 
--- Cell c lies in columns x0 to x1 of rows y0 to y1. Its number is y * columns + x.
+-- Cell c lies in columns left to right of rows bottom to top, both ends included. Its number is y * columns + x.
 unfoldable pub covers : ℕ → Cells → ℕ → Bool
-covers columns b c = isFrom (b .x0) (b .x1) (c % columns) && isFrom (b .y0) (b .y1) (c / columns)
+covers columns b c = isFrom (b .left) (b .right) (c % columns) && isFrom (b .bottom) (b .top) (c / columns)
 
 -- How many cells that is.
 unfoldable pub areaOf : Cells → ℕ
-areaOf b = (b .x1 + 1 - b .x0) * (b .y1 + 1 - b .y0)
+areaOf b = (b .right + 1 - b .left) * (b .top + 1 - b .bottom)
 
 -- Which triangle covers which cell: `on i c` says that triangle i covers cell c.
 abbrev pub Cover : Type 0

@@ -11,9 +11,9 @@ use Rattle.cells.specs.Cover.{Cover, membersOf, startOf, weight}
 
 -- A triangle's cells end inside the columns, and row times columns fits the machine.
 pub record Fitting (columns : ℕ) (b : Cells) : Type 0 where
-  pub right : b .x1 < columns
+  pub right : b .right < columns
   pub wide : columns ≤ 65536
-  pub tall : b .y1 < 65536
+  pub tall : b .top < 65536
 
 -- ---- a set of cells
 abbrev pub Set : Type 0

@@ -6,12 +6,12 @@ ghost use lib.ListN.{length};
 ghost use Rattle.cells.specs.Cover.{covers, areaOf};
 ghost use Rattle.cells.specs.Steps.{Fitting, between, entry, sums, Countable, Counted, Cleared, Summed, Open, Placed};
 
-// The cells that a triangle covers: columns x0 to x1 of rows y0 to y1, both ends included.
+// The cells that a triangle covers: columns left to right of rows bottom to top, both ends included.
 pub struct Cells {
-    pub x0: usize,
-    pub x1: usize,
-    pub y0: usize,
-    pub y1: usize,
+    pub left: usize,
+    pub right: usize,
+    pub bottom: usize,
+    pub top: usize,
 }
 
 // The first k entries become 0.
@@ -40,10 +40,10 @@ pub fn count_cells(starts: &mut [u32], columns: usize, b: Cells)
     requires { ⌜ Countable (covers columns b) (now starts) ⌝ }
     ensures { λ _. ⌜ Counted (covers columns b) (now (starts .entry)) (now (starts .exit)) ⌝ }
 {
-    let x0 = b.x0;
-    let x1 = b.x1;
-    let y0 = b.y0;
-    let y1 = b.y1;
+    let x0 = b.left;
+    let x1 = b.right;
+    let y0 = b.bottom;
+    let y1 = b.top;
     if x1 < x0 {
         return;
     }
@@ -81,10 +81,10 @@ pub fn place_cells(starts: &mut [u32], members: &mut [u32], columns: usize, b: C
     requires { ⌜ Open (covers columns b) (now starts) (now members) ⌝ }
     ensures { λ _. ⌜ Placed (covers columns b) i (now (starts .entry)) (now (members .entry)) (now (starts .exit)) (now (members .exit)) ⌝ }
 {
-    let x0 = b.x0;
-    let x1 = b.x1;
-    let y0 = b.y0;
-    let y1 = b.y1;
+    let x0 = b.left;
+    let x1 = b.right;
+    let y0 = b.bottom;
+    let y1 = b.top;
     if x1 < x0 {
         return;
     }
@@ -95,13 +95,13 @@ pub fn place_cells(starts: &mut [u32], members: &mut [u32], columns: usize, b: C
 
 // How many cells a triangle covers.
 pub fn area(b: Cells) -> usize
-    requires { ⌜ (b .x1 < 65536) × (b .y1 < 65536) ⌝ }
+    requires { ⌜ (b .right < 65536) × (b .top < 65536) ⌝ }
     ensures { λ r. ⌜ (r ≡ areaOf b) × (r ≤ 4294967296) ⌝ }
 {
-    let x0 = b.x0;
-    let x1 = b.x1;
-    let y0 = b.y0;
-    let y1 = b.y1;
+    let x0 = b.left;
+    let x1 = b.right;
+    let y0 = b.bottom;
+    let y1 = b.top;
     if x1 < x0 {
         return 0;
     }

@@ -8,38 +8,36 @@ use lib.ListN.{length}
 use Rattle.walk.specs.Walk.{Walk}
 use Rattle.walk.specs.Steps.{strike}
 use Rattle.walk.proofs.Rings.{Kept, strike-keeps}
-use Rattle.grid.specs.declared.Header.{Header}
+use Rattle.grid.specs.Index.{Index}
 use Rattle.query.specs.declared.Patch.{Patch}
 use Rattle.query.specs.Patch.{patchOf}
-use Rattle.query.specs.Looked.{IndexOf}
 use Rattle.reach.specs.declared.Chord.{Chord}
 use Rattle.ask.specs.declared.Ruling.{Ruling}
-use Rattle.ask.specs.Ask.{isCorner, Outcome, ended, chordOver}
-use Rattle.ask.specs.Demand.{LookedTo}
+use Rattle.ask.specs.Ask.{isCorner, Outcome, ended, askedChord}
 use Rattle.ask.proofs.Demands.{chord-demand, chord-told}
 use Rattle.tool.specs.Tool.{sectionsIn, isTool, widestOf, lowestOf}
-use Rattle.chords.specs.Chords.{isChord, blockedAtOnce, bullBlocksAt, isRide, bullChordOf, toolBlocksAt, sectionsChordOf}
+use Rattle.chords.specs.Chords.{isChord, blockedAtOnce, bullBlocksAt, isRide, bullChordOf, BullChordPromise, toolBlocksAt, sectionsChordOf, SectionsChordPromise}
 
 -- what one member keeps
 pub struck-keeps : (stamp : ℕ) (blocks : ℕ → Bool) (w w′ : Walk Bool) (i : ℕ) → i < length (w .marks) → w′ ≡ strike stamp blocks w i → Kept stamp w w′
 struck-keeps stamp blocks w w′ i h e = rw e (strike-keeps stamp blocks w i h)
 
-module _ (mesh : List Float) (h : Header) (starts members marks : List ℕ) (stamp : ℕ) (c : Ruling) (o : List ℕ) (m : Chord) where
-  -- demand 3 follows from the answer
-  pub tool-looks : (table : List Float) → ended c o ≡ sectionsChordOf mesh h starts members marks stamp m table → IndexOf mesh h starts members → c .refusal ≡ 0 → LookedTo mesh h starts members marks stamp (patchOf h (m .ax) (m .ay) (m .bx) (m .by) (widestOf table (sectionsIn table))) (blockedAtOnce (h .floor) m) (toolBlocksAt mesh m (lowestOf table (sectionsIn table)) table) c
+module _ (ix : Index) (marks : List ℕ) (stamp : ℕ) (c : Ruling) (o : List ℕ) (m : Chord) where
+  -- what is promised follows from the answer
+  pub tool-promise : (table : List Float) → ended c o ≡ sectionsChordOf ix marks stamp m table → SectionsChordPromise ix marks stamp m table c
   unfolding sectionsChordOf
-  tool-looks table = chord-demand _ _ mesh h starts members marks stamp (m .ax) (m .ay) (m .bx) (m .by) _ o _ _ c
+  tool-promise table = chord-demand _ _ ix marks stamp (m .ax) (m .ay) (m .bx) (m .by) _ o _ _ c
 
-  -- the answer, and demand 3 beside it
+  -- the answer, and what is promised beside it
   module _ (p : Patch) (a b : Bool) where
-    pub bull-answers : (r rc : Float) → p ≡ patchOf h (m .ax) (m .ay) (m .bx) (m .by) r → a ≡ isRide m r → b ≡ isCorner r rc → ended c o ≡ chordOver a b (blockedAtOnce (h .floor) m) (bullBlocksAt mesh m r rc) mesh h starts members marks stamp p → (ended c o ≡ bullChordOf mesh h starts members marks stamp m r rc) × (IndexOf mesh h starts members → c .refusal ≡ 0 → LookedTo mesh h starts members marks stamp (patchOf h (m .ax) (m .ay) (m .bx) (m .by) r) (blockedAtOnce (h .floor) m) (bullBlocksAt mesh m r rc) c)
+    pub bull-answers : (r rc : Float) → p ≡ patchOf (ix .header) (m .ax) (m .ay) (m .bx) (m .by) r → a ≡ isRide m r → b ≡ isCorner r rc → ended c o ≡ askedChord a b (blockedAtOnce (ix .header .floor) m) (bullBlocksAt (ix .mesh) m r rc) ix marks stamp p → (ended c o ≡ bullChordOf ix marks stamp m r rc) × BullChordPromise ix marks stamp m r rc c
     unfolding bullChordOf
-    bull-answers r rc = chord-told _ _ mesh h starts members marks stamp (m .ax) (m .ay) (m .bx) (m .by) r o _ _ c p a b
+    bull-answers r rc = chord-told _ _ ix marks stamp (m .ax) (m .ay) (m .bx) (m .by) r o _ _ c p a b
 
-    pub tool-answers : (reach low : Float) (table : List Float) → reach ≡ widestOf table (sectionsIn table) → low ≡ lowestOf table (sectionsIn table) → p ≡ patchOf h (m .ax) (m .ay) (m .bx) (m .by) reach → a ≡ isChord m → b ≡ isTool table → ended c o ≡ chordOver a b (blockedAtOnce (h .floor) m) (toolBlocksAt mesh m low table) mesh h starts members marks stamp p → (ended c o ≡ sectionsChordOf mesh h starts members marks stamp m table) × (IndexOf mesh h starts members → c .refusal ≡ 0 → LookedTo mesh h starts members marks stamp (patchOf h (m .ax) (m .ay) (m .bx) (m .by) (widestOf table (sectionsIn table))) (blockedAtOnce (h .floor) m) (toolBlocksAt mesh m (lowestOf table (sectionsIn table)) table) c)
+    pub tool-answers : (reach low : Float) (table : List Float) → reach ≡ widestOf table (sectionsIn table) → low ≡ lowestOf table (sectionsIn table) → p ≡ patchOf (ix .header) (m .ax) (m .ay) (m .bx) (m .by) reach → a ≡ isChord m → b ≡ isTool table → ended c o ≡ askedChord a b (blockedAtOnce (ix .header .floor) m) (toolBlocksAt (ix .mesh) m low table) ix marks stamp p → (ended c o ≡ sectionsChordOf ix marks stamp m table) × SectionsChordPromise ix marks stamp m table c
     unfolding sectionsChordOf
     tool-answers reach low table r l e f g i =
-        chord-told _ _ mesh h starts members marks stamp (m .ax) (m .ay) (m .bx) (m .by) _ o _ _ c p a b (e ∙ ap (patchOf h (m .ax) (m .ay) (m .bx) (m .by)) r) f g (rw l at i)
+        chord-told _ _ ix marks stamp (m .ax) (m .ay) (m .bx) (m .by) _ o _ _ c p a b (e ∙ ap (patchOf (ix .header) (m .ax) (m .ay) (m .bx) (m .by)) r) f g (rw l at i)
 
 -- an answer that a call made
 pub ended-is : (a b : Ruling) (m : List ℕ) (o : Outcome Ruling) → a ≡ b → ended b m ≡ o → ended a m ≡ o

@@ -7,13 +7,14 @@ use Rattle.numbers.specs.Reals.{_⊕_, _⊖_, minOf}
 use Rattle.plane.specs.declared.Triangle.{Triangle}
 use Rattle.plane.specs.Mesh.{triangleOf, topOf}
 use Rattle.spans.specs.Mesh.{isCoordinate, isRadius}
-use Rattle.grid.specs.declared.Header.{Header}
+use Rattle.grid.specs.Index.{Index}
 use Rattle.query.specs.Asked.{isPoint}
 use Rattle.query.specs.Patch.{patchOf}
 use Rattle.reach.specs.declared.Chord.{Chord}
 use Rattle.bull_gap.specs.Blocks.{bullBlocks}
 use Rattle.ask.specs.declared.Ruling.{Ruling}
-use Rattle.ask.specs.Ask.{isCorner, Outcome, chordOver}
+use Rattle.ask.specs.Ask.{isCorner, Outcome, askedChord}
+use Rattle.ask.specs.Demand.{ChordPromise}
 use Rattle.tool.specs.Tool.{sectionsIn, isTool, widestOf, lowestOf, passesAll}
 
 -- ---- what both share
@@ -40,10 +41,16 @@ unfoldable pub isRide : Chord → Float → Bool
 isRide m r = isChord m && isRadius r
 
 -- bull_chord_clear: 1, 2, 8 (the corner radius) and 7; reach is the radius.
-unfoldable pub bullChordOf : List Float → Header → List ℕ → List ℕ → List ℕ → ℕ → Chord → Float → Float → Outcome Ruling
-bullChordOf mesh h starts members marks stamp m r rc =
-    chordOver (isRide m r) (isCorner r rc) (blockedAtOnce (h .floor) m) (bullBlocksAt mesh m r rc)
-    mesh h starts members marks stamp (patchOf h (m .ax) (m .ay) (m .bx) (m .by) r)
+unfoldable pub bullChordOf : Index → List ℕ → ℕ → Chord → Float → Float → Outcome Ruling
+bullChordOf ix marks stamp m r rc =
+    askedChord (isRide m r) (isCorner r rc) (blockedAtOnce (ix .header .floor) m) (bullBlocksAt (ix .mesh) m r rc)
+    ix marks stamp (patchOf (ix .header) (m .ax) (m .ay) (m .bx) (m .by) r)
+
+-- What `bull_chord_clear` promises of its verdict over the index built from its mesh.
+abbrev pub BullChordPromise : Index → List ℕ → ℕ → Chord → Float → Float → Ruling → Type 0
+BullChordPromise ix marks stamp m r rc a =
+    ChordPromise (isRide m r) (isCorner r rc) (blockedAtOnce (ix .header .floor) m) (bullBlocksAt (ix .mesh) m r rc)
+    ix marks stamp (patchOf (ix .header) (m .ax) (m .ay) (m .bx) (m .by) r) a
 
 -- ---- a tool of sections, with the lowest z0 of them
 
@@ -56,7 +63,15 @@ unfoldable pub toolBlocksAt : List Float → Chord → Float → List Float → 
 toolBlocksAt mesh m low table i = toolBlocks (triangleOf mesh i) m low table
 
 -- sections_chord_clear: 1, 2, 8 (the sections) and 7; reach is the largest r1.
-unfoldable pub sectionsChordOf : List Float → Header → List ℕ → List ℕ → List ℕ → ℕ → Chord → List Float → Outcome Ruling
-sectionsChordOf mesh h starts members marks stamp m table =
-    chordOver (isChord m) (isTool table) (blockedAtOnce (h .floor) m) (toolBlocksAt mesh m (lowestOf table (sectionsIn table)) table)
-    mesh h starts members marks stamp (patchOf h (m .ax) (m .ay) (m .bx) (m .by) (widestOf table (sectionsIn table)))
+unfoldable pub sectionsChordOf : Index → List ℕ → ℕ → Chord → List Float → Outcome Ruling
+sectionsChordOf ix marks stamp m table =
+    askedChord (isChord m) (isTool table) (blockedAtOnce (ix .header .floor) m)
+    (toolBlocksAt (ix .mesh) m (lowestOf table (sectionsIn table)) table)
+    ix marks stamp (patchOf (ix .header) (m .ax) (m .ay) (m .bx) (m .by) (widestOf table (sectionsIn table)))
+
+-- What `sections_chord_clear` promises of its verdict over the index built from its mesh.
+abbrev pub SectionsChordPromise : Index → List ℕ → ℕ → Chord → List Float → Ruling → Type 0
+SectionsChordPromise ix marks stamp m table a =
+    ChordPromise (isChord m) (isTool table) (blockedAtOnce (ix .header .floor) m)
+    (toolBlocksAt (ix .mesh) m (lowestOf table (sectionsIn table)) table)
+    ix marks stamp (patchOf (ix .header) (m .ax) (m .ay) (m .bx) (m .by) (widestOf table (sectionsIn table))) a

@@ -5,12 +5,10 @@ ghost use Prim.Native.Nat.{_+_, _*_, _≤_, _<_};
 ghost use lib.ListN.{length};
 ghost use Rattle.walk.specs.Walk.{block, fold};
 ghost use Rattle.walk.specs.Steps.{judged, strike, Room, Walkable};
-ghost use Rattle.query.specs.Patch.{patchOf};
-ghost use Rattle.query.specs.Looked.{IndexOf};
-ghost use Rattle.ask.specs.Demand.{LookedTo};
-ghost use Rattle.tool.specs.Tool.{sectionsIn, widestOf, lowestOf};
+ghost use Rattle.grid.specs.Index.{indexOf};
 ghost use Rattle.ask.specs.Ask.{ended, refusedChord, blockedEarly};
-ghost use Rattle.chords.specs.Chords.{isEnd, isChord, blockedAtOnce, bullBlocksAt, isRide, bullChordOf, toolBlocks, toolBlocksAt, sectionsChordOf};
+ghost use Rattle.chords.specs.Chords.{isEnd, isChord, blockedAtOnce, bullBlocksAt, isRide, bullChordOf, BullChordPromise};
+ghost use Rattle.chords.specs.Chords.{toolBlocks, toolBlocksAt, sectionsChordOf, SectionsChordPromise};
 use ask::Finding;
 use ask::Ruling;
 use grid::Header;
@@ -31,8 +29,10 @@ pub fn bull_chord_clear(
     r: f64,
     rc: f64,
 ) -> Ruling
-    ensures { λ a. ⌜ ended a (now (marks .exit)) ≡ bullChordOf (now (mesh .entry)) h (now (starts .entry)) (now (members .entry)) (now (marks .entry)) stamp m r rc ⌝ }
-    ensures { λ a. ⌜ (IndexOf (now (mesh .entry)) h (now (starts .entry)) (now (members .entry)) → a .refusal ≡ 0 → LookedTo (now (mesh .entry)) h (now (starts .entry)) (now (members .entry)) (now (marks .entry)) stamp (patchOf h (m .ax) (m .ay) (m .bx) (m .by) r) (blockedAtOnce (h .floor) m) (bullBlocksAt (now (mesh .entry)) m r rc) a) ⌝ }
+    ensures { λ a. ⌜ ended a (now (marks .exit))
+        ≡ bullChordOf (indexOf (now (mesh .entry)) h (now (starts .entry)) (now (members .entry))) (now (marks .entry)) stamp m r rc ⌝ }
+    ensures { λ a. ⌜ BullChordPromise (indexOf (now (mesh .entry)) h (now (starts .entry)) (now (members .entry)))
+        (now (marks .entry)) stamp m r rc a ⌝ }
 {
     let columns = h.columns;
     let floor = h.floor;
@@ -67,8 +67,11 @@ pub fn sections_chord_clear(
     m: Chord,
     table: &[f64],
 ) -> Ruling
-    ensures { λ a. ⌜ ended a (now (marks .exit)) ≡ sectionsChordOf (now (mesh .entry)) h (now (starts .entry)) (now (members .entry)) (now (marks .entry)) stamp m (now (table .entry)) ⌝ }
-    ensures { λ a. ⌜ (IndexOf (now (mesh .entry)) h (now (starts .entry)) (now (members .entry)) → a .refusal ≡ 0 → LookedTo (now (mesh .entry)) h (now (starts .entry)) (now (members .entry)) (now (marks .entry)) stamp (patchOf h (m .ax) (m .ay) (m .bx) (m .by) (widestOf (now (table .entry)) (sectionsIn (now (table .entry))))) (blockedAtOnce (h .floor) m) (toolBlocksAt (now (mesh .entry)) m (lowestOf (now (table .entry)) (sectionsIn (now (table .entry)))) (now (table .entry))) a) ⌝ }
+    ensures { λ a. ⌜ ended a (now (marks .exit))
+        ≡ sectionsChordOf (indexOf (now (mesh .entry)) h (now (starts .entry)) (now (members .entry)))
+        (now (marks .entry)) stamp m (now (table .entry)) ⌝ }
+    ensures { λ a. ⌜ SectionsChordPromise (indexOf (now (mesh .entry)) h (now (starts .entry)) (now (members .entry)))
+        (now (marks .entry)) stamp m (now (table .entry)) a ⌝ }
 {
     let columns = h.columns;
     let floor = h.floor;
@@ -258,8 +261,12 @@ fn chase_bull(
     r: f64,
     rc: f64,
 ) -> Verdict
-    requires { ⌜ (length (now mesh) ≡ length (now marks) * 9) × Walkable (now starts) (now members) (length (now marks)) columns (p .x0) (p .x1) (p .y0) (p .y1) × Room stamp (judged (now marks) (record { count = 0; clear = true })) ⌝ }
-    ensures { λ w. ⌜ judged (now (marks .exit)) w ≡ fold (strike stamp (bullBlocksAt (now (mesh .entry)) m r rc)) (judged (now (marks .entry)) (record { count = 0; clear = true })) (block (now (starts .entry)) (now (members .entry)) columns (p .x0) (p .x1) (p .y0) (p .y1)) ⌝ }
+    requires { ⌜ (length (now mesh) ≡ length (now marks) * 9)
+        × Walkable (now starts) (now members) (length (now marks)) columns (p .x0) (p .x1) (p .y0) (p .y1)
+        × Room stamp (judged (now marks) (record { count = 0; clear = true })) ⌝ }
+    ensures { λ w. ⌜ judged (now (marks .exit)) w ≡ fold (strike stamp (bullBlocksAt (now (mesh .entry)) m r rc))
+        (judged (now (marks .entry)) (record { count = 0; clear = true }))
+        (block (now (starts .entry)) (now (members .entry)) columns (p .x0) (p .x1) (p .y0) (p .y1)) ⌝ }
 {
     let x0 = p.x0;
     let x1 = p.x1;
@@ -295,7 +302,8 @@ fn strike_tool(
     i: usize,
 ) -> Verdict
     requires { ⌜ (length (now mesh) ≡ length (now marks) * 9) × (i < length (now marks)) × Room stamp (judged (now marks) v) × (v .clear ≡ true) ⌝ }
-    ensures { λ w. ⌜ judged (now (marks .exit)) w ≡ strike stamp (toolBlocksAt (now (mesh .entry)) m low (now (table .entry))) (judged (now (marks .entry)) v) i ⌝ }
+    ensures { λ w. ⌜ judged (now (marks .exit)) w ≡ strike stamp (toolBlocksAt (now (mesh .entry)) m low (now (table .entry)))
+        (judged (now (marks .entry)) v) i ⌝ }
 {
     let count = v.count;
     if !walk::fresh(marks, stamp, i) {
@@ -320,8 +328,12 @@ fn chase_tool(
     low: f64,
     table: &[f64],
 ) -> Verdict
-    requires { ⌜ (length (now mesh) ≡ length (now marks) * 9) × Walkable (now starts) (now members) (length (now marks)) columns (p .x0) (p .x1) (p .y0) (p .y1) × Room stamp (judged (now marks) (record { count = 0; clear = true })) ⌝ }
-    ensures { λ w. ⌜ judged (now (marks .exit)) w ≡ fold (strike stamp (toolBlocksAt (now (mesh .entry)) m low (now (table .entry)))) (judged (now (marks .entry)) (record { count = 0; clear = true })) (block (now (starts .entry)) (now (members .entry)) columns (p .x0) (p .x1) (p .y0) (p .y1)) ⌝ }
+    requires { ⌜ (length (now mesh) ≡ length (now marks) * 9)
+        × Walkable (now starts) (now members) (length (now marks)) columns (p .x0) (p .x1) (p .y0) (p .y1)
+        × Room stamp (judged (now marks) (record { count = 0; clear = true })) ⌝ }
+    ensures { λ w. ⌜ judged (now (marks .exit)) w ≡ fold (strike stamp (toolBlocksAt (now (mesh .entry)) m low (now (table .entry))))
+        (judged (now (marks .entry)) (record { count = 0; clear = true }))
+        (block (now (starts .entry)) (now (members .entry)) columns (p .x0) (p .x1) (p .y0) (p .y1)) ⌝ }
 {
     let x0 = p.x0;
     let x1 = p.x1;

@@ -9,11 +9,12 @@ use Rattle.plane.specs.Mesh.{triangleOf, topOf}
 use Rattle.spans.specs.Mesh.{isRadius}
 use Rattle.bull.specs.declared.Bull.{Bull}
 use Rattle.bull.specs.Bull.{bullContactAbove}
-use Rattle.grid.specs.declared.Header.{Header}
+use Rattle.grid.specs.Index.{Index}
 use Rattle.query.specs.Asked.{isPoint}
 use Rattle.query.specs.Patch.{patchOf}
 use Rattle.ask.specs.declared.Answer.{Answer}
-use Rattle.ask.specs.Ask.{isCorner, raisedBy, Outcome, heightOver}
+use Rattle.ask.specs.Ask.{isCorner, raisedBy, Outcome, askedHeight}
+use Rattle.ask.specs.Demand.{HeightPromise}
 use Rattle.tool.specs.Tool.{sectionsIn, isTool, widestOf, lowestOf, raisedOver}
 use Rattle.contact.specs.declared.Axis.{Axis}
 
@@ -31,10 +32,16 @@ unfoldable pub isStand : Float → Float → Float → Bool
 isStand x y r = isPoint x && (isPoint y && isRadius r)
 
 -- max_bull: 1, 2, 8 (the corner radius) and 7; reach is the radius.
-unfoldable pub maxBullOf : List Float → Header → List ℕ → List ℕ → List ℕ → ℕ → Bull → Outcome Answer
-maxBullOf mesh h starts members marks stamp k =
-    heightOver (isStand (k .x) (k .y) (k .r)) (isCorner (k .r) (k .rc)) (bullStep mesh k) mesh h starts members marks stamp
-    (patchOf h (k .x) (k .y) (k .x) (k .y) (k .r))
+unfoldable pub maxBullOf : Index → List ℕ → ℕ → Bull → Outcome Answer
+maxBullOf ix marks stamp k =
+    askedHeight (isStand (k .x) (k .y) (k .r)) (isCorner (k .r) (k .rc)) (bullStep (ix .mesh) k) ix marks stamp
+    (patchOf (ix .header) (k .x) (k .y) (k .x) (k .y) (k .r))
+
+-- What `max_bull` promises of its answer over the index built from its mesh.
+abbrev pub BullPromise : Index → List ℕ → ℕ → Bull → Answer → Type 0
+BullPromise ix marks stamp k a =
+    HeightPromise (isStand (k .x) (k .y) (k .r)) (isCorner (k .r) (k .rc)) ix marks stamp
+    (patchOf (ix .header) (k .x) (k .y) (k .x) (k .y) (k .r)) a
 
 -- ---- a tool of sections
 
@@ -51,8 +58,13 @@ unfoldable pub isPlace : Float → Float → Bool
 isPlace x y = isPoint x && isPoint y
 
 -- max_sections: 1, 2, 8 (the sections) and 7; reach is the largest r1.
-unfoldable pub maxSectionsOf : List Float → Header → List ℕ → List ℕ → List ℕ → ℕ → Float → Float → List Float → Outcome Answer
-maxSectionsOf mesh h starts members marks stamp x y table =
-    heightOver (isPlace x y) (isTool table)
-    (toolStep mesh (record { x = x; y = y; low = lowestOf table (sectionsIn table) }) table)
-    mesh h starts members marks stamp (patchOf h x y x y (widestOf table (sectionsIn table)))
+unfoldable pub maxSectionsOf : Index → List ℕ → ℕ → Float → Float → List Float → Outcome Answer
+maxSectionsOf ix marks stamp x y table =
+    askedHeight (isPlace x y) (isTool table)
+    (toolStep (ix .mesh) (record { x = x; y = y; low = lowestOf table (sectionsIn table) }) table)
+    ix marks stamp (patchOf (ix .header) x y x y (widestOf table (sectionsIn table)))
+
+-- What `max_sections` promises of its answer over the index built from its mesh.
+abbrev pub SectionsPromise : Index → List ℕ → ℕ → Float → Float → List Float → Answer → Type 0
+SectionsPromise ix marks stamp x y table a =
+    HeightPromise (isPlace x y) (isTool table) ix marks stamp (patchOf (ix .header) x y x y (widestOf table (sectionsIn table))) a

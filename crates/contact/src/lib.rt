@@ -4,12 +4,9 @@ ghost use Prim.Native.Nat.{_+_, _*_, _≤_, _<_};
 ghost use lib.ListN.{length};
 ghost use Rattle.walk.specs.Walk.{block, fold};
 ghost use Rattle.walk.specs.Steps.{seen, look, Below, Room, Walkable};
-ghost use Rattle.query.specs.Patch.{patchOf};
-ghost use Rattle.query.specs.Looked.{IndexOf};
+ghost use Rattle.grid.specs.Index.{indexOf};
 ghost use Rattle.ask.specs.Ask.{ended};
-ghost use Rattle.ask.specs.Demand.{LookedAll};
-ghost use Rattle.tool.specs.Tool.{sectionsIn, widestOf};
-ghost use Rattle.contact.specs.Contact.{bullRaised, bullStep, isStand, maxBullOf, toolRaised, toolStep, isPlace, maxSectionsOf};
+ghost use Rattle.contact.specs.Contact.{bullRaised, bullStep, isStand, maxBullOf, BullPromise, toolRaised, toolStep, isPlace, maxSectionsOf, SectionsPromise};
 use ask::Answer;
 use bull::Bull;
 use grid::Header;
@@ -37,8 +34,11 @@ pub fn max_bull(
     r: f64,
     rc: f64,
 ) -> Answer
-    ensures { λ a. ⌜ ended a (now (marks .exit)) ≡ maxBullOf (now (mesh .entry)) h (now (starts .entry)) (now (members .entry)) (now (marks .entry)) stamp (record { x = px; y = py; r = r; rc = rc }) ⌝ }
-    ensures { λ a. ⌜ (IndexOf (now (mesh .entry)) h (now (starts .entry)) (now (members .entry)) → a .refusal ≡ 0 → LookedAll (now (mesh .entry)) h (now (starts .entry)) (now (members .entry)) (now (marks .entry)) stamp (patchOf h px py px py r) (a .count)) ⌝ }
+    ensures { λ a. ⌜ ended a (now (marks .exit))
+        ≡ maxBullOf (indexOf (now (mesh .entry)) h (now (starts .entry)) (now (members .entry)))
+        (now (marks .entry)) stamp (record { x = px; y = py; r = r; rc = rc }) ⌝ }
+    ensures { λ a. ⌜ BullPromise (indexOf (now (mesh .entry)) h (now (starts .entry)) (now (members .entry)))
+        (now (marks .entry)) stamp (record { x = px; y = py; r = r; rc = rc }) a ⌝ }
 {
     let k = Bull {
         x: px,
@@ -85,8 +85,11 @@ pub fn max_sections(
     py: f64,
     table: &[f64],
 ) -> Answer
-    ensures { λ a. ⌜ ended a (now (marks .exit)) ≡ maxSectionsOf (now (mesh .entry)) h (now (starts .entry)) (now (members .entry)) (now (marks .entry)) stamp px py (now (table .entry)) ⌝ }
-    ensures { λ a. ⌜ (IndexOf (now (mesh .entry)) h (now (starts .entry)) (now (members .entry)) → a .refusal ≡ 0 → LookedAll (now (mesh .entry)) h (now (starts .entry)) (now (members .entry)) (now (marks .entry)) stamp (patchOf h px py px py (widestOf (now (table .entry)) (sectionsIn (now (table .entry))))) (a .count)) ⌝ }
+    ensures { λ a. ⌜ ended a (now (marks .exit))
+        ≡ maxSectionsOf (indexOf (now (mesh .entry)) h (now (starts .entry)) (now (members .entry)))
+        (now (marks .entry)) stamp px py (now (table .entry)) ⌝ }
+    ensures { λ a. ⌜ SectionsPromise (indexOf (now (mesh .entry)) h (now (starts .entry)) (now (members .entry)))
+        (now (marks .entry)) stamp px py (now (table .entry)) a ⌝ }
 {
     let columns = h.columns;
     let first = Seen {
@@ -213,8 +216,10 @@ fn visit_bull(
     k: Bull,
     s: Seen,
 ) -> Seen
-    requires { ⌜ (length (now mesh) ≡ length (now marks) * 9) × Walkable (now starts) (now members) (length (now marks)) columns (p .x0) (p .x1) (p .y0) (p .y1) × Room stamp (seen (now marks) s) ⌝ }
-    ensures { λ r. ⌜ seen (now (marks .exit)) r ≡ fold (look stamp (bullStep (now (mesh .entry)) k)) (seen (now (marks .entry)) s) (block (now (starts .entry)) (now (members .entry)) columns (p .x0) (p .x1) (p .y0) (p .y1)) ⌝ }
+    requires { ⌜ (length (now mesh) ≡ length (now marks) * 9)
+        × Walkable (now starts) (now members) (length (now marks)) columns (p .x0) (p .x1) (p .y0) (p .y1) × Room stamp (seen (now marks) s) ⌝ }
+    ensures { λ r. ⌜ seen (now (marks .exit)) r ≡ fold (look stamp (bullStep (now (mesh .entry)) k)) (seen (now (marks .entry)) s)
+        (block (now (starts .entry)) (now (members .entry)) columns (p .x0) (p .x1) (p .y0) (p .y1)) ⌝ }
 {
     let x0 = p.x0;
     let x1 = p.x1;
@@ -286,7 +291,8 @@ fn cell_tool(
     s: Seen,
 ) -> Seen
     requires { ⌜ (length (now mesh) ≡ length (now marks) * 9) × Below (length (now marks)) (now part) × Room stamp (seen (now marks) s) ⌝ }
-    ensures { λ r. ⌜ seen (now (marks .exit)) r ≡ fold (look stamp (toolStep (now (mesh .entry)) a (now (table .entry)))) (seen (now (marks .entry)) s) (now (part .entry)) ⌝ }
+    ensures { λ r. ⌜ seen (now (marks .exit)) r ≡ fold (look stamp (toolStep (now (mesh .entry)) a (now (table .entry))))
+        (seen (now (marks .entry)) s) (now (part .entry)) ⌝ }
 {
     let mut found = s;
     for j in 0..part.len() {
@@ -308,8 +314,10 @@ fn visit_tool(
     table: &[f64],
     s: Seen,
 ) -> Seen
-    requires { ⌜ (length (now mesh) ≡ length (now marks) * 9) × Walkable (now starts) (now members) (length (now marks)) columns (p .x0) (p .x1) (p .y0) (p .y1) × Room stamp (seen (now marks) s) ⌝ }
-    ensures { λ r. ⌜ seen (now (marks .exit)) r ≡ fold (look stamp (toolStep (now (mesh .entry)) a (now (table .entry)))) (seen (now (marks .entry)) s) (block (now (starts .entry)) (now (members .entry)) columns (p .x0) (p .x1) (p .y0) (p .y1)) ⌝ }
+    requires { ⌜ (length (now mesh) ≡ length (now marks) * 9)
+        × Walkable (now starts) (now members) (length (now marks)) columns (p .x0) (p .x1) (p .y0) (p .y1) × Room stamp (seen (now marks) s) ⌝ }
+    ensures { λ r. ⌜ seen (now (marks .exit)) r ≡ fold (look stamp (toolStep (now (mesh .entry)) a (now (table .entry))))
+        (seen (now (marks .entry)) s) (block (now (starts .entry)) (now (members .entry)) columns (p .x0) (p .x1) (p .y0) (p .y1)) ⌝ }
 {
     let x0 = p.x0;
     let x1 = p.x1;

@@ -5,7 +5,7 @@ use Prim.Native.Nat.{ℕ, min}
 use lib.Dec.{eqb}
 use lib.Ieee.{Float}
 use Rattle.numbers.specs.Reals.{num}
-use Rattle.grid.specs.declared.Header.{Header}
+use Rattle.grid.specs.Index.{Index}
 use Rattle.grid.specs.Ladder.{demand}
 use Rattle.query.specs.Asked.{isMarked}
 use Rattle.rows.specs.declared.Axis.the-variants.{X, Y}
@@ -26,11 +26,11 @@ parametersFrom xs =
     }
 
 -- The plan along the axis of that number: 0 is X, 1 is Y. Any other is a parameter that is refused: 9 in its place, after 1 and before 7.
-unfoldable pub planAlong : List Float → Header → List ℕ → List ℕ → List ℕ → List Float → List Float → Parameters → ℕ → Outcome
-planAlong mesh h starts members marks levels runs p axis =
-    cond (eqb axis 0) (planOf mesh h starts members marks levels runs p X)
-    (cond (eqb axis 1) (planOf mesh h starts members marks levels runs p Y)
-    (outcome (refusedBy (demand (isMarked mesh marks) 1 9)) levels runs marks))
+unfoldable pub planAlong : Index → List ℕ → List Float → List Float → Parameters → ℕ → Outcome
+planAlong ix marks levels runs p axis =
+    cond (eqb axis 0) (planOf ix marks levels runs p X)
+    (cond (eqb axis 1) (planOf ix marks levels runs p Y)
+    (outcome (refusedBy (demand (isMarked (ix .mesh) marks) 1 9)) levels runs marks))
 
 -- A count as C gets it: 4294967295 stands for all that are more.
 abbrev pub narrowed : ℕ → ℕ

@@ -2,20 +2,17 @@
 // into fixed arrays; the contract is the library's own, and asks nothing of the caller.
 ghost use mathlib.Core.Path.{_≡_};
 ghost use lib.ListN.{getD};
-ghost use Rattle.desk.specs.Doors.{builtLeft, builtLeftBy, headerFrom, heightLeft, heightLeftBy, answerFrom, verdictLeft, verdictLeftBy, rulingFrom};
+ghost use Rattle.desk.specs.Doors.{builtLeft, builtLeftBy, headerFrom, indexFrom, BuildPromise, heightLeft, heightLeftBy, answerFrom, verdictLeft, verdictLeftBy, rulingFrom};
 ghost use Rattle.grid.specs.Build.{buildOf};
-ghost use Rattle.grid.specs.Indexed.{Indexed};
+ghost use Rattle.grid.specs.Index.{indexOf};
 ghost use Rattle.grid.specs.Ladder.{demand};
 ghost use Rattle.query.specs.Asked.{isMarked};
-ghost use Rattle.query.specs.Patch.{patchOf};
-ghost use Rattle.query.specs.Looked.{IndexOf};
 ghost use Rattle.height.specs.Height.{maxHeightOf};
-ghost use Rattle.height.specs.Demand.{Demand3};
-ghost use Rattle.ask.specs.Demand.{LookedAll, LookedTo};
-ghost use Rattle.tool.specs.Tool.{widestOf, lowestOf, sectionsIn};
-ghost use Rattle.contact.specs.Contact.{maxBullOf, maxSectionsOf};
-ghost use Rattle.chords.specs.Chords.{bullChordOf, sectionsChordOf, blockedAtOnce, bullBlocksAt, toolBlocksAt};
-ghost use Rattle.plan.specs.Plan.{outcome, refusedBy};
+ghost use Rattle.height.specs.Sweep.{sweep};
+ghost use Rattle.height.specs.Demand.{DiskPromise};
+ghost use Rattle.contact.specs.Contact.{maxBullOf, BullPromise, maxSectionsOf, SectionsPromise};
+ghost use Rattle.chords.specs.Chords.{bullChordOf, BullChordPromise, sectionsChordOf, SectionsChordPromise};
+ghost use Rattle.plan.specs.Plan.{outcome, refusedBy, NeverSeven};
 ghost use Rattle.desk.specs.Plans.{parametersFrom, planAlong, narrowed, planLeft, planLeftBy};
 use grid::Header;
 use plan::Planned;
@@ -34,9 +31,10 @@ pub extern "C" fn mandrikelo_build(
     measures: &mut [f64; 6],
     sizes: &mut [u32; 3],
 ) -> u32
-    ensures { λ k. ⌜ builtLeft k (now (starts .exit)) (now (members .exit)) (now (measures .exit)) (now (sizes .exit)) ≡ builtLeftBy (buildOf (now (mesh .entry)) floor r (now (starts .entry)) (now (members .entry))) ⌝ }
-    ensures { λ k. ⌜ (k ≡ 0 → Indexed (now (mesh .entry)) (headerFrom (now (measures .exit)) (now (sizes .exit))) (now (starts .exit)) (now (members .exit))) ⌝ }
-    ensures { λ k. ⌜ (k ≡ 0 → IndexOf (now (mesh .entry)) (headerFrom (now (measures .exit)) (now (sizes .exit))) (now (starts .exit)) (now (members .exit))) ⌝ }
+    ensures { λ k. ⌜ builtLeft k (now (starts .exit)) (now (members .exit)) (now (measures .exit)) (now (sizes .exit))
+        ≡ builtLeftBy (buildOf (now (mesh .entry)) floor r (now (starts .entry)) (now (members .entry))) ⌝ }
+    ensures { λ k. ⌜ BuildPromise
+        (indexFrom (now (mesh .entry)) (now (measures .exit)) (now (sizes .exit)) (now (starts .exit)) (now (members .exit))) k ⌝ }
 {
     let b = grid::build(mesh, floor, r, starts, members);
     let k = b.refusal;
@@ -93,8 +91,14 @@ pub extern "C" fn mandrikelo_max_height(
     found: &mut [f64; 1],
     counts: &mut [u32; 2],
 ) -> u32
-    ensures { λ k. ⌜ heightLeft k (now (marks .exit)) (now (found .exit)) (now (counts .exit)) ≡ heightLeftBy (maxHeightOf (now (mesh .entry)) (headerFrom (now (measures .entry)) (now (sizes .entry))) (now (starts .entry)) (now (members .entry)) (now (marks .entry)) stamp px py qx qy r) ⌝ }
-    ensures { λ k. ⌜ (IndexOf (now (mesh .entry)) (headerFrom (now (measures .entry)) (now (sizes .entry))) (now (starts .entry)) (now (members .entry)) → k ≡ 0 → Demand3 (now (mesh .entry)) (headerFrom (now (measures .entry)) (now (sizes .entry))) (now (starts .entry)) (now (members .entry)) (now (marks .entry)) stamp px py qx qy r (answerFrom k (now (found .exit)) (now (counts .exit)))) ⌝ }
+    ensures { λ k. ⌜ heightLeft k (now (marks .exit)) (now (found .exit)) (now (counts .exit))
+        ≡ heightLeftBy (maxHeightOf
+        (indexFrom (now (mesh .entry)) (now (measures .entry)) (now (sizes .entry)) (now (starts .entry)) (now (members .entry)))
+        (now (marks .entry)) stamp (sweep px py qx qy r)) ⌝ }
+    ensures { λ k. ⌜ DiskPromise
+        (indexFrom (now (mesh .entry)) (now (measures .entry)) (now (sizes .entry)) (now (starts .entry)) (now (members .entry)))
+        (now (marks .entry)) stamp (sweep px py qx qy r)
+        (answerFrom k (now (found .exit)) (now (counts .exit))) ⌝ }
 {
     let a = height::max_height(
         mesh,
@@ -135,8 +139,14 @@ pub extern "C" fn mandrikelo_max_bull(
     found: &mut [f64; 1],
     counts: &mut [u32; 2],
 ) -> u32
-    ensures { λ k. ⌜ heightLeft k (now (marks .exit)) (now (found .exit)) (now (counts .exit)) ≡ heightLeftBy (maxBullOf (now (mesh .entry)) (headerFrom (now (measures .entry)) (now (sizes .entry))) (now (starts .entry)) (now (members .entry)) (now (marks .entry)) stamp (record { x = px; y = py; r = r; rc = rc })) ⌝ }
-    ensures { λ k. ⌜ (IndexOf (now (mesh .entry)) (headerFrom (now (measures .entry)) (now (sizes .entry))) (now (starts .entry)) (now (members .entry)) → k ≡ 0 → LookedAll (now (mesh .entry)) (headerFrom (now (measures .entry)) (now (sizes .entry))) (now (starts .entry)) (now (members .entry)) (now (marks .entry)) stamp (patchOf (headerFrom (now (measures .entry)) (now (sizes .entry))) px py px py r) (getD (now (counts .exit)) 0 0)) ⌝ }
+    ensures { λ k. ⌜ heightLeft k (now (marks .exit)) (now (found .exit)) (now (counts .exit))
+        ≡ heightLeftBy (maxBullOf
+        (indexFrom (now (mesh .entry)) (now (measures .entry)) (now (sizes .entry)) (now (starts .entry)) (now (members .entry)))
+        (now (marks .entry)) stamp (record { x = px; y = py; r = r; rc = rc })) ⌝ }
+    ensures { λ k. ⌜ BullPromise
+        (indexFrom (now (mesh .entry)) (now (measures .entry)) (now (sizes .entry)) (now (starts .entry)) (now (members .entry)))
+        (now (marks .entry)) stamp (record { x = px; y = py; r = r; rc = rc })
+        (answerFrom k (now (found .exit)) (now (counts .exit))) ⌝ }
 {
     let a = contact::max_bull(
         mesh,
@@ -175,8 +185,14 @@ pub extern "C" fn mandrikelo_max_sections(
     found: &mut [f64; 1],
     counts: &mut [u32; 2],
 ) -> u32
-    ensures { λ k. ⌜ heightLeft k (now (marks .exit)) (now (found .exit)) (now (counts .exit)) ≡ heightLeftBy (maxSectionsOf (now (mesh .entry)) (headerFrom (now (measures .entry)) (now (sizes .entry))) (now (starts .entry)) (now (members .entry)) (now (marks .entry)) stamp px py (now (sections .entry))) ⌝ }
-    ensures { λ k. ⌜ (IndexOf (now (mesh .entry)) (headerFrom (now (measures .entry)) (now (sizes .entry))) (now (starts .entry)) (now (members .entry)) → k ≡ 0 → LookedAll (now (mesh .entry)) (headerFrom (now (measures .entry)) (now (sizes .entry))) (now (starts .entry)) (now (members .entry)) (now (marks .entry)) stamp (patchOf (headerFrom (now (measures .entry)) (now (sizes .entry))) px py px py (widestOf (now (sections .entry)) (sectionsIn (now (sections .entry))))) (getD (now (counts .exit)) 0 0)) ⌝ }
+    ensures { λ k. ⌜ heightLeft k (now (marks .exit)) (now (found .exit)) (now (counts .exit))
+        ≡ heightLeftBy (maxSectionsOf
+        (indexFrom (now (mesh .entry)) (now (measures .entry)) (now (sizes .entry)) (now (starts .entry)) (now (members .entry)))
+        (now (marks .entry)) stamp px py (now (sections .entry))) ⌝ }
+    ensures { λ k. ⌜ SectionsPromise
+        (indexFrom (now (mesh .entry)) (now (measures .entry)) (now (sizes .entry)) (now (starts .entry)) (now (members .entry)))
+        (now (marks .entry)) stamp px py (now (sections .entry))
+        (answerFrom k (now (found .exit)) (now (counts .exit))) ⌝ }
 {
     let a = contact::max_sections(
         mesh,
@@ -219,8 +235,14 @@ pub extern "C" fn mandrikelo_bull_chord_clear(
     lift: f64,
     counts: &mut [u32; 3],
 ) -> u32
-    ensures { λ k. ⌜ verdictLeft k (now (marks .exit)) (now (counts .exit)) ≡ verdictLeftBy (bullChordOf (now (mesh .entry)) (headerFrom (now (measures .entry)) (now (sizes .entry))) (now (starts .entry)) (now (members .entry)) (now (marks .entry)) stamp (record { ax = ax; ay = ay; az = az; bx = bx; by = by; bz = bz; lift = lift }) r rc) ⌝ }
-    ensures { λ k. ⌜ (IndexOf (now (mesh .entry)) (headerFrom (now (measures .entry)) (now (sizes .entry))) (now (starts .entry)) (now (members .entry)) → k ≡ 0 → LookedTo (now (mesh .entry)) (headerFrom (now (measures .entry)) (now (sizes .entry))) (now (starts .entry)) (now (members .entry)) (now (marks .entry)) stamp (patchOf (headerFrom (now (measures .entry)) (now (sizes .entry))) ax ay bx by r) (blockedAtOnce ((headerFrom (now (measures .entry)) (now (sizes .entry))) .floor) (record { ax = ax; ay = ay; az = az; bx = bx; by = by; bz = bz; lift = lift })) (bullBlocksAt (now (mesh .entry)) (record { ax = ax; ay = ay; az = az; bx = bx; by = by; bz = bz; lift = lift }) r rc) (rulingFrom k (now (counts .exit)))) ⌝ }
+    ensures { λ k. ⌜ verdictLeft k (now (marks .exit)) (now (counts .exit))
+        ≡ verdictLeftBy (bullChordOf
+        (indexFrom (now (mesh .entry)) (now (measures .entry)) (now (sizes .entry)) (now (starts .entry)) (now (members .entry)))
+        (now (marks .entry)) stamp (record { ax = ax; ay = ay; az = az; bx = bx; by = by; bz = bz; lift = lift }) r rc) ⌝ }
+    ensures { λ k. ⌜ BullChordPromise
+        (indexFrom (now (mesh .entry)) (now (measures .entry)) (now (sizes .entry)) (now (starts .entry)) (now (members .entry)))
+        (now (marks .entry)) stamp (record { ax = ax; ay = ay; az = az; bx = bx; by = by; bz = bz; lift = lift }) r rc
+        (rulingFrom k (now (counts .exit))) ⌝ }
 {
     let m = Chord {
         ax: ax,
@@ -271,8 +293,14 @@ pub extern "C" fn mandrikelo_sections_chord_clear(
     sections: &[f64],
     counts: &mut [u32; 3],
 ) -> u32
-    ensures { λ k. ⌜ verdictLeft k (now (marks .exit)) (now (counts .exit)) ≡ verdictLeftBy (sectionsChordOf (now (mesh .entry)) (headerFrom (now (measures .entry)) (now (sizes .entry))) (now (starts .entry)) (now (members .entry)) (now (marks .entry)) stamp (record { ax = ax; ay = ay; az = az; bx = bx; by = by; bz = bz; lift = lift }) (now (sections .entry))) ⌝ }
-    ensures { λ k. ⌜ (IndexOf (now (mesh .entry)) (headerFrom (now (measures .entry)) (now (sizes .entry))) (now (starts .entry)) (now (members .entry)) → k ≡ 0 → LookedTo (now (mesh .entry)) (headerFrom (now (measures .entry)) (now (sizes .entry))) (now (starts .entry)) (now (members .entry)) (now (marks .entry)) stamp (patchOf (headerFrom (now (measures .entry)) (now (sizes .entry))) ax ay bx by (widestOf (now (sections .entry)) (sectionsIn (now (sections .entry))))) (blockedAtOnce ((headerFrom (now (measures .entry)) (now (sizes .entry))) .floor) (record { ax = ax; ay = ay; az = az; bx = bx; by = by; bz = bz; lift = lift })) (toolBlocksAt (now (mesh .entry)) (record { ax = ax; ay = ay; az = az; bx = bx; by = by; bz = bz; lift = lift }) (lowestOf (now (sections .entry)) (sectionsIn (now (sections .entry)))) (now (sections .entry))) (rulingFrom k (now (counts .exit)))) ⌝ }
+    ensures { λ k. ⌜ verdictLeft k (now (marks .exit)) (now (counts .exit))
+        ≡ verdictLeftBy (sectionsChordOf
+        (indexFrom (now (mesh .entry)) (now (measures .entry)) (now (sizes .entry)) (now (starts .entry)) (now (members .entry)))
+        (now (marks .entry)) stamp (record { ax = ax; ay = ay; az = az; bx = bx; by = by; bz = bz; lift = lift }) (now (sections .entry))) ⌝ }
+    ensures { λ k. ⌜ SectionsChordPromise
+        (indexFrom (now (mesh .entry)) (now (measures .entry)) (now (sizes .entry)) (now (starts .entry)) (now (members .entry)))
+        (now (marks .entry)) stamp (record { ax = ax; ay = ay; az = az; bx = bx; by = by; bz = bz; lift = lift }) (now (sections .entry))
+        (rulingFrom k (now (counts .exit))) ⌝ }
 {
     let m = Chord {
         ax: ax,
@@ -364,7 +392,9 @@ fn plan_along(
     p: Parameters,
     axis: u32,
 ) -> Planned
-    ensures { λ a. ⌜ outcome a (now (levels .exit)) (now (runs .exit)) (now (marks .exit)) ≡ planAlong (now (mesh .entry)) h (now (starts .entry)) (now (members .entry)) (now (marks .entry)) (now (levels .entry)) (now (runs .entry)) p axis ⌝ }
+    ensures { λ a. ⌜ outcome a (now (levels .exit)) (now (runs .exit)) (now (marks .exit))
+        ≡ planAlong (indexOf (now (mesh .entry)) h (now (starts .entry)) (now (members .entry)))
+        (now (marks .entry)) (now (levels .entry)) (now (runs .entry)) p axis ⌝ }
 {
     if axis == 0 {
         return plan::plan(mesh, h, starts, members, marks, levels, runs, p, Axis::X);
@@ -392,7 +422,12 @@ pub extern "C" fn mandrikelo_plan(
     lengths: &mut [f64; 2],
     counts: &mut [u32; 3],
 ) -> u32
-    ensures { λ k. ⌜ planLeft k (now (levels .exit)) (now (runs .exit)) (now (marks .exit)) (now (lengths .exit)) (now (counts .exit)) ≡ planLeftBy (planAlong (now (mesh .entry)) (headerFrom (now (measures .entry)) (now (sizes .entry))) (now (starts .entry)) (now (members .entry)) (now (marks .entry)) (now (levels .entry)) (now (runs .entry)) (parametersFrom (now (parameters .entry))) axis) ⌝ }
+    ensures { λ k. ⌜ planLeft k (now (levels .exit)) (now (runs .exit)) (now (marks .exit)) (now (lengths .exit)) (now (counts .exit))
+        ≡ planLeftBy (planAlong
+        (indexFrom (now (mesh .entry)) (now (measures .entry)) (now (sizes .entry)) (now (starts .entry)) (now (members .entry)))
+        (now (marks .entry)) (now (levels .entry)) (now (runs .entry)) (parametersFrom (now (parameters .entry))) axis) ⌝ }
+    ensures { λ k. ⌜ NeverSeven
+        (indexFrom (now (mesh .entry)) (now (measures .entry)) (now (sizes .entry)) (now (starts .entry)) (now (members .entry))) k ⌝ }
 {
     let h = header_from(measures, sizes);
     let p = parameters_from(parameters);

@@ -23,7 +23,7 @@ use Rattle.grid.specs.Parts.{Gridded}
 
 -- a stretch of columns and one of rows
 abbrev pub joined : Stretch → Stretch → Cells
-joined x y = record { x0 = x .first; x1 = x .last; y0 = y .first; y1 = y .last }
+joined x y = record { left = x .first; right = x .last; bottom = y .first; top = y .last }
 
 pub cells-are : (mesh : List Float) (g : Grid) (i : ℕ) (b : Bounds) (x y : Stretch) → b ≡ boxOf mesh i
     → x ≡ stretchOf (g .x) (g .size) (g .columns) (b .«low_x») (b .«high_x») → y ≡ stretchOf (g .y) (g .size) (g .rows) (b .«low_y») (b .«high_y») → joined x y ≡ cellsOf mesh g i
@@ -52,7 +52,7 @@ module _ (mesh : List Float) (n : ℕ) (r : Float) (e : Extent) (span size : Flo
   rows-are = ap (λ (g : Grid). g .rows) (grid-is _ _ refl refl)
 
 module _ (mesh : List Float) (g : Grid) where
-  pub within : (i : ℕ) → 0 < g .columns → 0 < g .rows → (cellsOf mesh g i .x1 < g .columns) × (cellsOf mesh g i .y1 < g .rows)
+  pub within : (i : ℕ) → 0 < g .columns → 0 < g .rows → (cellsOf mesh g i .right < g .columns) × (cellsOf mesh g i .top < g .rows)
   unfolding cellsOf stretchOf
   within i a b = (omega arith, omega arith)
 

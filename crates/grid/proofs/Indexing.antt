@@ -20,8 +20,8 @@ use Rattle.cells.specs.Cover.{isFrom, startsOf, membersTable}
 use Rattle.cells.proofs.Reading.{cell-is, starts-room, starts-rise, starts-within, once, member-of}
 use Rattle.grid.specs.Grid.{trianglesIn, gridOf, cellsIn, cellsOf, coverOf}
 use Rattle.grid.specs.Header.{headerOf, inRanges}
-use Rattle.grid.specs.Build.{Outcome, refusedBy, acceptedWith, unless, filledOf, gridded, buildOf}
-use Rattle.grid.specs.Indexed.{InGrid, Indexed}
+use Rattle.grid.specs.Build.{Outcome, outcome, refusedBy, acceptedWith, unless, filledOf, gridded, buildOf}
+use Rattle.grid.specs.Index.{Index, indexOf, InGrid, BuiltFrom, SoundIndex}
 use Rattle.grid.specs.Parts.{NearBox, Gridded}
 use Rattle.grid.proofs.Gridding.{within}
 use Rattle.grid.proofs.Accepting.{Accepted, accepted, Passed, passed}
@@ -106,11 +106,12 @@ module _ (mesh : List Float) (floor r : Float) (a : Accepted mesh floor r) where
 
   -- ---- both tables
   module _ (s m : List ℕ) (p : Passed (gridOf mesh (trianglesIn mesh) r .columns) (gridOf mesh (trianglesIn mesh) r .rows) (length s)) where
-    indexed : Indexed mesh (headerOf mesh (trianglesIn mesh) (gridOf mesh (trianglesIn mesh) r) floor r)
+    sound : SoundIndex
+        (indexOf mesh (headerOf mesh (trianglesIn mesh) (gridOf mesh (trianglesIn mesh) r) floor r)
         (startsOf (coverOf mesh (gridOf mesh (trianglesIn mesh) r)) (trianglesIn mesh) (cellsIn (gridOf mesh (trianglesIn mesh) r)) s)
-        (membersTable (coverOf mesh (gridOf mesh (trianglesIn mesh) r)) (trianglesIn mesh) (cellsIn (gridOf mesh (trianglesIn mesh) r)) m)
+        (membersTable (coverOf mesh (gridOf mesh (trianglesIn mesh) r)) (trianglesIn mesh) (cellsIn (gridOf mesh (trianglesIn mesh) r)) m))
     unfolding headerOf
-    indexed =
+    sound =
         let g = gridOf mesh (trianglesIn mesh) r in
         let n = trianglesIn mesh in
         record {
@@ -136,7 +137,7 @@ unless-then k s m next Q f e =
 
 module _ (mesh : List Float) (floor r : Float) (s m : List ℕ) where
   abbrev Left : Outcome → Type 0
-  Left o = Indexed mesh (o .built .header) (o .starts) (o .members)
+  Left o = SoundIndex (indexOf mesh (o .built .header) (o .starts) (o .members))
 
   whole : buildOf mesh floor r s m .built .refusal ≡ 0 → Left (buildOf mesh floor r s m)
   unfolding buildOf gridded filledOf acceptedWith
@@ -146,7 +147,13 @@ module _ (mesh : List Float) (floor r : Float) (s m : List ℕ) where
       unless-then _ s m _ Left
       (λ y.
       unless-then _ s m _ Left
-      (λ z e. indexed mesh floor r (accepted mesh floor r x) s m (passed _ _ _ y))))
+      (λ z e. sound mesh floor r (accepted mesh floor r x) s m (passed _ _ _ y))))
 
-  pub built-indexed : (o : Outcome) → o ≡ buildOf mesh floor r s m → o .built .refusal ≡ 0 → Left o
-  built-indexed o p = subst (λ (o : Outcome). o .built .refusal ≡ 0 → Left o) (sym p) whole
+  pub built-sound : (o : Outcome) → o ≡ buildOf mesh floor r s m → o .built .refusal ≡ 0 → Left o
+  built-sound o p = subst (λ (o : Outcome). o .built .refusal ≡ 0 → Left o) (sym p) whole
+
+-- the index that `build` makes of its mesh is sound
+pub index-sound : (ix : Index) → BuiltFrom ix → SoundIndex ix
+unfolding acceptedWith
+index-sound ix b =
+    built-sound (ix .mesh) (b .floor) (b .r) (b .oldStarts) (b .oldMembers) (outcome (acceptedWith (ix .header)) (ix .starts) (ix .members)) (sym (b .built)) refl

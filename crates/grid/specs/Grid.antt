@@ -37,7 +37,7 @@ cellsOf mesh g i =
     let b = boxOf mesh i in
     let x = stretchOf (g .x) (g .size) (g .columns) (b .«low_x») (b .«high_x») in
     let y = stretchOf (g .y) (g .size) (g .rows) (b .«low_y») (b .«high_y») in
-    record { x0 = x .first; x1 = x .last; y0 = y .first; y1 = y .last }
+    record { left = x .first; right = x .last; bottom = y .first; top = y .last }
 
 -- Which triangle covers which cell of a grid.
 abbrev pub coverOf : List Float → Grid → Cover

@@ -5,10 +5,9 @@ use Prim.Native.Nat.{ℕ, _*_}
 use lib.Ieee.{Float, lt, le}
 use Rattle.numbers.specs.Reals.{f0, millionth, twoMillion, twoMillionths}
 use Rattle.spans.specs.Mesh.{isCoordinate, isRadius, epsOf}
-use Rattle.cells.specs.Cover.{Cover, isFrom}
+use Rattle.cells.specs.Cover.{isFrom}
 use Rattle.grid.specs.declared.Grid.{Grid}
 use Rattle.grid.specs.declared.Header.{Header}
-use Rattle.grid.specs.Grid.{coverOf}
 
 -- The header of n triangles: n, the grid over them, floor, eps and r.
 unfoldable pub headerOf : List Float → ℕ → Grid → Float → Float → Header
@@ -28,10 +27,6 @@ headerOf mesh n g floor r =
 -- The grid that a header records.
 abbrev pub gridIn : Header → Grid
 gridIn h = record { x = h .«origin_x»; y = h .«origin_y»; size = h .cell; columns = h .columns; rows = h .rows }
-
--- Which triangle of a mesh covers which cell of a header's grid.
-abbrev pub coversOf : List Float → Header → Cover
-coversOf mesh h i c = coverOf mesh (gridIn h) i c
 
 -- The header's ranges: n 1 to 65,536; origin and floor as coordinates; cell size 1e-6 to 2e6; columns, rows and cells at least 1 and within
 -- refusal 5; 0 < eps <= 2e-6; r 0 to 1e6.

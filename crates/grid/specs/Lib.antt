@@ -2,5 +2,5 @@ pub mod Ladder
 pub mod Grid
 pub mod Header
 pub mod Build
-pub mod Indexed
+pub mod Index
 pub mod Parts

@@ -9,7 +9,7 @@ ghost use Rattle.cells.specs.Steps.{Room, CountedAll, Ready, Filled, Fits};
 ghost use Rattle.grid.specs.Grid.{trianglesIn, gridOf, cellsIn, cellsOf, coverOf, totalOf};
 ghost use Rattle.grid.specs.Header.{headerOf};
 ghost use Rattle.grid.specs.Build.{refusalOfNumbers, refusalOfMesh, refusalOfGrid, refusalOfMembers, outcome, refusedBy, filledOf, gridded, buildOf};
-ghost use Rattle.grid.specs.Indexed.{Indexed};
+ghost use Rattle.grid.specs.Index.{SoundIndex, indexOf};
 ghost use Rattle.grid.specs.Parts.{NearBox, Gridded};
 
 // Where a grid begins, how large its cells are, and how many there are.
@@ -42,8 +42,9 @@ pub struct Built {
 
 // The index of a mesh: starts and members hold its tables, and entries that they do not need stay. A refused call changes neither.
 pub fn build(mesh: &[f64], floor: f64, r: f64, starts: &mut [u32], members: &mut [u32]) -> Built
-    ensures { λ b. ⌜ outcome b (now (starts .exit)) (now (members .exit)) ≡ buildOf (now (mesh .entry)) floor r (now (starts .entry)) (now (members .entry)) ⌝ }
-    ensures { λ b. ⌜ (b .refusal ≡ 0 → Indexed (now (mesh .entry)) (b .header) (now (starts .exit)) (now (members .exit))) ⌝ }
+    ensures { λ b. ⌜ outcome b (now (starts .exit)) (now (members .exit))
+        ≡ buildOf (now (mesh .entry)) floor r (now (starts .entry)) (now (members .entry)) ⌝ }
+    ensures { λ b. ⌜ (b .refusal ≡ 0 → SoundIndex (indexOf (now (mesh .entry)) (b .header) (now (starts .exit)) (now (members .exit)))) ⌝ }
 {
     let k = refusal_of_mesh(mesh, floor, r);
     if k != 0 {
@@ -159,7 +160,9 @@ fn refusal_of_members(k: usize, lent: usize) -> u32
 // The index of a mesh that refusals 1 to 4 pass.
 fn build_grid(mesh: &[f64], floor: f64, r: f64, starts: &mut [u32], members: &mut [u32]) -> Built
     requires { ⌜ refusalOfMesh (now mesh) floor r ≡ 0 ⌝ }
-    ensures { λ b. ⌜ outcome b (now (starts .exit)) (now (members .exit)) ≡ gridded (now (mesh .entry)) (trianglesIn (now (mesh .entry))) (gridOf (now (mesh .entry)) (trianglesIn (now (mesh .entry))) r) floor r (now (starts .entry)) (now (members .entry)) ⌝ }
+    ensures { λ b. ⌜ outcome b (now (starts .exit)) (now (members .exit))
+        ≡ gridded (now (mesh .entry)) (trianglesIn (now (mesh .entry))) (gridOf (now (mesh .entry)) (trianglesIn (now (mesh .entry))) r) floor r
+        (now (starts .entry)) (now (members .entry)) ⌝ }
 {
     let n = mesh.len() / 9;
     let g = grid_of(mesh, n, r);
@@ -182,7 +185,8 @@ fn fill_grid(
 ) -> Built
     requires { ⌜ Gridded (now mesh) n g ⌝ }
     requires { ⌜ cellsIn g + 1 ≤ length (now starts) ⌝ }
-    ensures { λ b. ⌜ outcome b (now (starts .exit)) (now (members .exit)) ≡ filledOf (now (mesh .entry)) n g floor r (now (starts .entry)) (now (members .entry)) ⌝ }
+    ensures { λ b. ⌜ outcome b (now (starts .exit)) (now (members .exit))
+        ≡ filledOf (now (mesh .entry)) n g floor r (now (starts .entry)) (now (members .entry)) ⌝ }
 {
     let k = refusal_of_members(total(mesh, n, g), members.len());
     if k != 0 {
@@ -224,10 +228,10 @@ fn cells_of(mesh: &[f64], g: Grid, i: usize) -> cells::Cells
     let x = spans::stretch_of(g.x, g.size, g.columns, b.low_x, b.high_x);
     let y = spans::stretch_of(g.y, g.size, g.rows, b.low_y, b.high_y);
     cells::Cells {
-        x0: x.first,
-        x1: x.last,
-        y0: y.first,
-        y1: y.last,
+        left: x.first,
+        right: x.last,
+        bottom: y.first,
+        top: y.last,
     }
 }
 
@@ -273,7 +277,8 @@ fn count_all(mesh: &[f64], n: usize, g: Grid, starts: &mut [u32])
 fn fill(mesh: &[f64], n: usize, g: Grid, cells: usize, starts: &mut [u32], members: &mut [u32])
     requires { ⌜ Gridded (now mesh) n g ⌝ }
     requires { ⌜ Ready (coverOf (now mesh) g) n cells (now starts) (now members) ⌝ }
-    ensures { λ _. ⌜ Filled (coverOf (now (mesh .entry)) g) n cells 0 (now (starts .entry)) (now (members .entry)) (now (starts .exit)) (now (members .exit)) ⌝ }
+    ensures { λ _. ⌜ Filled (coverOf (now (mesh .entry)) g) n cells 0
+        (now (starts .entry)) (now (members .entry)) (now (starts .exit)) (now (members .exit)) ⌝ }
 {
     let columns = g.columns;
     let mut i = n;

@@ -1,5 +1,6 @@
 // Halving: the pieces of one run, kept or dropped, over a stack of 33 entries.
 ghost use mathlib.Core.Path.{_≡_};
+ghost use Rattle.grid.specs.Index.{indexOf};
 ghost use Rattle.runs.specs.Pieces.{piecesOf};
 ghost use Rattle.runs.specs.Tallies.{work, takenAll};
 ghost use Rattle.probe.specs.Probe.{heightUnder, clear};
@@ -27,8 +28,11 @@ pub fn halve(
     r: Run,
     s: Stand,
 ) -> Stand
-    requires { ⌜ Askable (now mesh) h (now starts) (now members) × Marked (h .n) (s .stamp) (now marks) ⌝ }
-    ensures { λ e. ⌜ (work (now (runs .exit)) (e .tally) ≡ takenAll (work (now (runs .entry)) (s .tally)) (piecesOf (clear (heightUnder (now (mesh .entry)) h (now (starts .entry)) (now (members .entry))) a) (a .least) 32 r)) × Marked (h .n) (e .stamp) (now (marks .exit)) ⌝ }
+    requires { ⌜ Askable (indexOf (now mesh) h (now starts) (now members)) × Marked (h .n) (s .stamp) (now marks) ⌝ }
+    ensures { λ e. ⌜ (work (now (runs .exit)) (e .tally)
+        ≡ takenAll (work (now (runs .entry)) (s .tally))
+        (piecesOf (clear (heightUnder (indexOf (now (mesh .entry)) h (now (starts .entry)) (now (members .entry)))) a) (a .least) 32 r))
+        × Marked (h .n) (e .stamp) (now (marks .exit)) ⌝ }
 {
     let z = r.z;
     let mut bx = [0.0; 33];

@@ -9,49 +9,45 @@ use lib.Ieee.{Float}
 use lib.ListN.{length}
 use Rattle.numbers.proofs.Branches.{taken}
 use Rattle.walk.specs.Walk.{Walk, nextStamp}
-use Rattle.grid.specs.declared.Header.{Header}
+use Rattle.grid.specs.Index.{Index}
 use Rattle.query.specs.declared.Patch.{Patch}
-use Rattle.query.specs.Asked.{isMarked}
-use Rattle.query.specs.Patch.{patchOf}
-use Rattle.query.specs.Usable.{usable}
-use Rattle.query.specs.Looked.{IndexOf}
 use Rattle.query.proofs.Using.{walkable, usable-head}
 use Rattle.capsule.specs.declared.Capsule.{Capsule}
 use Rattle.ask.specs.declared.Answer.{Answer}
-use Rattle.ask.specs.Ask.{refusalOf, ended, refusedBy, answeredBy, answerOf, heightOver}
-use Rattle.ask.proofs.Answers.{passed, marked-is, height-refused}
-use Rattle.height.specs.Sweep.{raised, sweepOf, sweptIn, Sweepable}
+use Rattle.ask.specs.Ask.{refusalOf, ended, refusedBy, answeredBy, answerOf, askedHeight}
+use Rattle.ask.proofs.Answers.{passed, height-refused}
+use Rattle.height.specs.Sweep.{Sweep, patchFor, capsuleFor, diskStep, capsuleWalk, Sweepable}
 use Rattle.height.specs.Height.{isSweep, maxHeightOf}
-use Rattle.height.specs.Demand.{Demand3}
-use Rattle.height.proofs.Demanding.{demand-3}
+use Rattle.height.specs.Demand.{DiskPromise}
+use Rattle.height.proofs.Demanding.{disk-promise}
 
 -- p, a and n are the cells, the test of the numbers and the refusal that the code found
-module _ (mesh : List Float) (h : Header) (starts members marks : List ℕ) (stamp : ℕ) (p : Patch) (a : Bool) (n : ℕ) (e : n ≡ refusalOf (isMarked mesh marks) a true (usable mesh h starts members marks stamp p)) where
+module _ (ix : Index) (marks : List ℕ) (stamp : ℕ) (p : Patch) (a : Bool) (n : ℕ) (e : n ≡ refusalOf a true ix marks stamp p) where
   -- what the walk of an accepted question may rely on
-  pub may-sweep : n ≡ 0 → p .x1 ≤ h .columns → p .y1 ≤ h .rows → (length mesh ≡ length marks * 9) × (length marks ≤ 65536) × Sweepable starts members (length marks) h p
+  pub may-sweep : n ≡ 0 → p .x1 ≤ ix .header .columns → p .y1 ≤ ix .header .rows → (length (ix .mesh) ≡ length marks * 9) × (length marks ≤ 65536) × Sweepable ix (length marks) p
   may-sweep z right top =
-      let b = passed _ _ _ _ (sym e ∙ z) in
-      let k = marked-is mesh marks (b .mesh-fits) in
-      let d : length mesh ≡ h .n * 9 = usable-head mesh h starts members marks stamp p (b .index-stands) .nine in
-      let s : length marks ≡ h .n = omega (arith, k .nine) in
-      (k .nine, k .few, rw s (walkable mesh h starts members marks stamp p (b .index-stands) right top))
+      let b = passed _ _ _ _ _ _ (sym e ∙ z) in
+      let k = b .marked in
+      let d : length (ix .mesh) ≡ ix .header .n * 9 = usable-head ix marks stamp p (b .index-stands) .nine in
+      let s : length marks ≡ ix .header .n = omega (arith, k .nine) in
+      (k .nine, k .few, rw s (walkable ix marks stamp p (b .index-stands) right top))
 
-  module _ (px py qx qy r : Float) (f : p ≡ patchOf h px py qx qy r) (g : a ≡ isSweep px py qx qy r) where
-    -- the answer, and demand 3 beside it
-    tells : (x : Answer) (m : List ℕ) → ended x m ≡ heightOver a true (raised mesh (sweepOf h px py qx qy r)) mesh h starts members marks stamp p → (ended x m ≡ maxHeightOf mesh h starts members marks stamp px py qx qy r) × (IndexOf mesh h starts members → x .refusal ≡ 0 → Demand3 mesh h starts members marks stamp px py qx qy r x)
+  module _ (s : Sweep) (f : p ≡ patchFor (ix .header) s) (g : a ≡ isSweep s) where
+    -- the answer, and what is promised beside it
+    tells : (x : Answer) (m : List ℕ) → ended x m ≡ askedHeight a true (diskStep (ix .mesh) (capsuleFor (ix .header) s)) ix marks stamp p → (ended x m ≡ maxHeightOf ix marks stamp s) × DiskPromise ix marks stamp s x
     tells x m i =
-        let k : ended x m ≡ maxHeightOf mesh h starts members marks stamp px py qx qy r = unfold maxHeightOf in (i ∙ (rw (f, g))) in
-        (k, demand-3 mesh h starts members marks stamp px py qx qy r x m k)
+        let k : ended x m ≡ maxHeightOf ix marks stamp s = unfold maxHeightOf in (i ∙ (rw (f, g))) in
+        (k, disk-promise ix marks stamp s x m k)
 
-    pub refused : (n ≡ 0 → ⊥) → (ended (refusedBy n stamp) marks ≡ maxHeightOf mesh h starts members marks stamp px py qx qy r) × (IndexOf mesh h starts members → n ≡ 0 → Demand3 mesh h starts members marks stamp px py qx qy r (refusedBy n stamp))
-    refused z = tells (refusedBy n stamp) marks (height-refused a true mesh h starts members marks stamp p n e _ z)
+    pub refused : (n ≡ 0 → ⊥) → (ended (refusedBy n stamp) marks ≡ maxHeightOf ix marks stamp s) × DiskPromise ix marks stamp s (refusedBy n stamp)
+    refused z = tells (refusedBy n stamp) marks (height-refused a true ix marks stamp p n e _ z)
 
-    walk-told : n ≡ 0 → (w : Walk Float) → w ≡ sweptIn mesh h starts members marks stamp (sweepOf h px py qx qy r) p → ended (answeredBy w (nextStamp stamp)) (w .marks) ≡ heightOver a true (raised mesh (sweepOf h px py qx qy r)) mesh h starts members marks stamp p
-    unfolding heightOver answerOf sweptIn
+    walk-told : n ≡ 0 → (w : Walk Float) → w ≡ capsuleWalk ix marks stamp (capsuleFor (ix .header) s) p → ended (answeredBy w (nextStamp stamp)) (w .marks) ≡ askedHeight a true (diskStep (ix .mesh) (capsuleFor (ix .header) s)) ix marks stamp p
+    unfolding askedHeight answerOf capsuleWalk
     walk-told z w v =
         taken _ _ _ _ (eq-eqb _ 0 (sym e ∙ z)) (ap (λ (u : Walk Float). ended (answeredBy u (nextStamp stamp)) (u .marks)) v)
 
-    pub answered : n ≡ 0 → (q : Capsule) (w : Walk Float) (next : ℕ) → q ≡ sweepOf h px py qx qy r → w ≡ sweptIn mesh h starts members marks stamp q p → next ≡ nextStamp stamp → (ended (answeredBy w next) (w .marks) ≡ maxHeightOf mesh h starts members marks stamp px py qx qy r) × (IndexOf mesh h starts members → _≡_ {A = ℕ} 0 0 → Demand3 mesh h starts members marks stamp px py qx qy r (answeredBy w next))
+    pub answered : n ≡ 0 → (q : Capsule) (w : Walk Float) (next : ℕ) → q ≡ capsuleFor (ix .header) s → w ≡ capsuleWalk ix marks stamp q p → next ≡ nextStamp stamp → (ended (answeredBy w next) (w .marks) ≡ maxHeightOf ix marks stamp s) × DiskPromise ix marks stamp s (answeredBy w next)
     answered z q w next b c d =
         tells (answeredBy w next) (w .marks)
-        (ap (λ (k : ℕ). ended (answeredBy w k) (w .marks)) d ∙ walk-told z w (c ∙ ap (λ (k : Capsule). sweptIn mesh h starts members marks stamp k p) b))
+        (ap (λ (k : ℕ). ended (answeredBy w k) (w .marks)) d ∙ walk-told z w (c ∙ ap (λ (k : Capsule). capsuleWalk ix marks stamp k p) b))

@@ -19,7 +19,7 @@ use Rattle.plane.specs.Mesh.{triangleOf, topOf}
 use Rattle.walk.specs.Walk.{fold}
 use Rattle.capsule.specs.declared.Capsule.{Capsule}
 use Rattle.ask.specs.Ask.{raisedBy}
-use Rattle.height.specs.Sweep.{heightOf, raised}
+use Rattle.height.specs.Sweep.{heightOf, diskStep}
 
 abbrev pub Real : Float → Type 0
 Real x = isNan x ≡ false
@@ -62,14 +62,14 @@ max-is b z n =
 module _ (mesh : List Float) (q : Capsule) where
   -- a triangle that is skipped, or has no contact, or one that is not above, leaves the best; else the best is its height
   record Skipped (b : Float) (i : ℕ) : Type 0 where
-    same : raised mesh q b i ≡ b
+    same : diskStep mesh q b i ≡ b
     why : (z : Float) → heightOf mesh q i ≡ Height z → (le (topOf (triangleOf mesh i)) b ≡ true) ⊎ (lt b z ≡ false)
 
   record Raised (b : Float) (i : ℕ) : Type 0 where
-    height : heightOf mesh q i ≡ Height (raised mesh q b i)
-    above : lt b (raised mesh q b i) ≡ true
+    height : heightOf mesh q i ≡ Height (diskStep mesh q b i)
+    above : lt b (diskStep mesh q b i) ≡ true
 
-  by-contact : (b : Float) (i : ℕ) (k : Contact) → Real b → heightOf mesh q i ≡ k → raised mesh q b i ≡ raisedBy k b → Skipped b i ⊎ Raised b i
+  by-contact : (b : Float) (i : ℕ) (k : Contact) → Real b → heightOf mesh q i ≡ k → diskStep mesh q b i ≡ raisedBy k b → Skipped b i ⊎ Raised b i
   unfolding raisedBy
   by-contact b i Nothing n e f = inl (record { same = f; why = λ z g. absurd (none z (sym e ∙ g)) })
     where
@@ -82,22 +82,22 @@ module _ (mesh : List Float) (q : Capsule) where
       (max-is b z n)
 
   step-is : (b : Float) (i : ℕ) → Real b → Skipped b i ⊎ Raised b i
-  unfolding raised
+  unfolding diskStep
   step-is b i n =
       by-test (le (topOf (triangleOf mesh i)) b)
       (λ e. inl (record { same = rw e; why = λ z g. inl e }))
       (λ e. by-contact b i (heightOf mesh q i) n refl (rw e))
 
-  step-rises : (b : Float) (i : ℕ) → Real b → Rises b (raised mesh q b i) × Real (raised mesh q b i)
+  step-rises : (b : Float) (i : ℕ) → Real b → Rises b (diskStep mesh q b i) × Real (diskStep mesh q b i)
   step-rises b i n =
       ⊎-elim (λ s. (inl (s .same), rw (s .same) n)) (λ r. (inr (r .above), lt-number b _ (r .above))) (step-is b i n)
 
-  fold-rises : (is : List ℕ) (b : Float) → Real b → Rises b (fold (raised mesh q) b is)
+  fold-rises : (is : List ℕ) (b : Float) → Real b → Rises b (fold (diskStep mesh q) b is)
   unfolding fold
   fold-rises [] b n = inl refl
   fold-rises (i ∷ is) b n =
       let s = step-rises b i n in
-      rises-trans b (raised mesh q b i) _ (s .0) (fold-rises is (raised mesh q b i) (s .1))
+      rises-trans b (diskStep mesh q b i) _ (s .0) (fold-rises is (diskStep mesh q b i) (s .1))
 
   -- where it ends: at the floor, or above it at the height of a triangle of the list
   pub record One (is : List ℕ) (b v : Float) : Type 0 where
@@ -106,7 +106,7 @@ module _ (mesh : List Float) (q : Capsule) where
     pub looked : 0 < times one is
     pub computed : heightOf mesh q one ≡ Height v
 
-  pub fold-is : (is : List ℕ) (b : Float) → Real b → (fold (raised mesh q) b is ≡ b) ⊎ One is b (fold (raised mesh q) b is)
+  pub fold-is : (is : List ℕ) (b : Float) → Real b → (fold (diskStep mesh q) b is ≡ b) ⊎ One is b (fold (diskStep mesh q) b is)
   unfolding fold times
   fold-is [] b n = inl refl
   fold-is (i ∷ is) b n =
@@ -116,14 +116,14 @@ module _ (mesh : List Float) (q : Capsule) where
       ⊎-elim (λ s. inl (e ∙ s .same))
       (λ s. inr (record { above = rw e (s .above); one = i; looked = rw (eq-eqb i i refl) (omega arith); computed = s .height ∙ ap Height (sym e) }))
       (step-is b i n))
-      (λ o. inr (record { above = under b (raised mesh q b i) _ (r .0) (o .above); one = o .one; looked = omega (arith, o .looked); computed = o .computed }))
-      (fold-is is (raised mesh q b i) (r .1))
+      (λ o. inr (record { above = under b (diskStep mesh q b i) _ (r .0) (o .above); one = o .one; looked = omega (arith, o .looked); computed = o .computed }))
+      (fold-is is (diskStep mesh q b i) (r .1))
 
   -- the triangle that was just looked at: its top or its height is not above what the walk ends at
-  last-none : (is : List ℕ) (b : Float) → Real b → (i : ℕ) (z : Float) → heightOf mesh q i ≡ Height z → lt (fold (raised mesh q) (raised mesh q b i) is) (topOf (triangleOf mesh i)) ≡ true → lt (fold (raised mesh q) (raised mesh q b i) is) z ≡ true → ⊥
+  last-none : (is : List ℕ) (b : Float) → Real b → (i : ℕ) (z : Float) → heightOf mesh q i ≡ Height z → lt (fold (diskStep mesh q) (diskStep mesh q b i) is) (topOf (triangleOf mesh i)) ≡ true → lt (fold (diskStep mesh q) (diskStep mesh q b i) is) z ≡ true → ⊥
   last-none is b n i z g above higher =
       let r = step-rises b i n in
-      let f = fold-rises is (raised mesh q b i) (r .1) in
+      let f = fold-rises is (diskStep mesh q b i) (r .1) in
       ⊎-elim
       (λ s.
       ⊎-elim (λ t. le-not-lt _ b t (under b _ _ (r .0) (under _ _ _ f above)))
@@ -132,7 +132,7 @@ module _ (mesh : List Float) (q : Capsule) where
       (λ s. lt-never-same z (rw (height-is _ z (sym (s .height) ∙ g)) at (under _ _ z f higher)))
       (step-is b i n)
 
-  pub fold-none : (is : List ℕ) (b : Float) → Real b → (i : ℕ) → 0 < times i is → (z : Float) → heightOf mesh q i ≡ Height z → lt (fold (raised mesh q) b is) (topOf (triangleOf mesh i)) ≡ true → lt (fold (raised mesh q) b is) z ≡ true → ⊥
+  pub fold-none : (is : List ℕ) (b : Float) → Real b → (i : ℕ) → 0 < times i is → (z : Float) → heightOf mesh q i ≡ Height z → lt (fold (diskStep mesh q) b is) (topOf (triangleOf mesh i)) ≡ true → lt (fold (diskStep mesh q) b is) z ≡ true → ⊥
   unfolding fold times
   fold-none [] b n i t z g above higher = absurd (omega arith)
   fold-none (j ∷ is) b n i t z g above higher =
@@ -140,4 +140,4 @@ module _ (mesh : List Float) (q : Capsule) where
       (λ e.
       let k : j ≡ i = sym (eqb-true i j e) in
       last-none is b n i z g (rw k at above) (rw k at higher))
-      (λ e. fold-none is (raised mesh q b j) (step-rises b j n .1) i (omega (arith, rw e at t)) z g above higher)
+      (λ e. fold-none is (diskStep mesh q b j) (step-rises b j n .1) i (omega (arith, rw e at t)) z g above higher)

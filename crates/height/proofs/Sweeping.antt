@@ -5,22 +5,23 @@ use Prim.Native.Nat.{ℕ, _*_, _≤_}
 use native.Mathlib.Omega.{arith}
 use lib.Ieee.{Float}
 use lib.ListN.{length}
-use Rattle.walk.specs.Walk.{Walk, block, fold, nextStamp, readyMarks}
+use Rattle.walk.specs.Walk.{Walk, fold, nextStamp, readyMarks}
 use Rattle.walk.specs.Steps.{seen, look, Room}
 use Rattle.walk.proofs.Rings.{unmarked-length}
 use Rattle.walk.proofs.Lists.{walk-is}
-use Rattle.grid.specs.declared.Header.{Header}
+use Rattle.grid.specs.Index.{Index}
 use Rattle.query.specs.declared.Patch.{Patch}
+use Rattle.query.specs.Looked.{within}
 use Rattle.query.proofs.Looks.{ready-length}
 use Rattle.capsule.specs.declared.Capsule.{Capsule}
-use Rattle.height.specs.Sweep.{raised, sweptIn, Sweepable}
+use Rattle.height.specs.Sweep.{diskStep, capsuleWalk, Sweepable}
 
-module _ (mesh : List Float) (h : Header) (starts members marks : List ℕ) (stamp : ℕ) (p : Patch) (m : List ℕ) (next : ℕ) (e : m ≡ readyMarks marks stamp) where
-  pub sweep-ready : length mesh ≡ length marks * 9 → length marks ≤ 65536 → Sweepable starts members (length marks) h p → (length mesh ≡ length m * 9) × Sweepable starts members (length m) h p × Room next (seen m (record { count = 0; best = h .floor }))
+module _ (ix : Index) (marks : List ℕ) (stamp : ℕ) (p : Patch) (m : List ℕ) (next : ℕ) (e : m ≡ readyMarks marks stamp) where
+  pub sweep-ready : length (ix .mesh) ≡ length marks * 9 → length marks ≤ 65536 → Sweepable ix (length marks) p → (length (ix .mesh) ≡ length m * 9) × Sweepable ix (length m) p × Room next (seen m (record { count = 0; best = ix .header .floor }))
   sweep-ready nine few walk =
       let l : length m ≡ length marks = ap length e ∙ ready-length marks stamp in
       (omega arith, rw l walk, omega (arith, unmarked-length next m))
 
-  pub sweep-is : (q : Capsule) (w : Walk Float) → next ≡ nextStamp stamp → w ≡ fold (look next (raised mesh q)) (seen m (record { count = 0; best = h .floor })) (block starts members (h .columns) (p .x0) (p .x1) (p .y0) (p .y1)) → w ≡ sweptIn mesh h starts members marks stamp q p
-  unfolding sweptIn
-  sweep-is q w n f = f ∙ walk-is next (raised mesh q) _ _ ∙ (rw (e, n))
+  pub sweep-is : (q : Capsule) (w : Walk Float) → next ≡ nextStamp stamp → w ≡ fold (look next (diskStep (ix .mesh) q)) (seen m (record { count = 0; best = ix .header .floor })) (within ix p) → w ≡ capsuleWalk ix marks stamp q p
+  unfolding capsuleWalk
+  sweep-is q w n f = f ∙ walk-is next (diskStep (ix .mesh) q) _ _ ∙ (rw (e, n))

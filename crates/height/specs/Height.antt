@@ -4,22 +4,20 @@ use mathlib.Core.List.{List}
 use Prim.Native.Nat.{ℕ}
 use lib.Ieee.{Float}
 use Rattle.spans.specs.Mesh.{isRadius}
-use Rattle.grid.specs.declared.Header.{Header}
+use Rattle.grid.specs.Index.{Index}
 use Rattle.query.specs.Asked.{isPoint}
-use Rattle.query.specs.Patch.{patchOf}
 use Rattle.ask.specs.declared.Answer.{Answer}
-use Rattle.ask.specs.Ask.{Outcome, heightOver}
-use Rattle.height.specs.Sweep.{raised, sweepOf}
+use Rattle.ask.specs.Ask.{Outcome, askedHeight}
+use Rattle.height.specs.Sweep.{Sweep, patchFor, capsuleFor, diskStep}
 
 -- 2: the numbers of a sweep in their ranges
 unfoldable pub arePoints : Float → Float → Float → Float → Bool
 arePoints px py qx qy = isPoint px && (isPoint py && (isPoint qx && isPoint qy))
 
-unfoldable pub isSweep : Float → Float → Float → Float → Float → Bool
-isSweep px py qx qy r = arePoints px py qx qy && isRadius r
+unfoldable pub isSweep : Sweep → Bool
+isSweep s = arePoints (s .px) (s .py) (s .qx) (s .qy) && isRadius (s .r)
 
 -- max_height: 1, 2 and 7, since a disk has no corner and no section that 8 could refuse; reach is the radius.
-unfoldable pub maxHeightOf : List Float → Header → List ℕ → List ℕ → List ℕ → ℕ → Float → Float → Float → Float → Float → Outcome Answer
-maxHeightOf mesh h starts members marks stamp px py qx qy r =
-    heightOver (isSweep px py qx qy r) true (raised mesh (sweepOf h px py qx qy r)) mesh h starts members marks stamp
-    (patchOf h px py qx qy r)
+unfoldable pub maxHeightOf : Index → List ℕ → ℕ → Sweep → Outcome Answer
+maxHeightOf ix marks stamp s =
+    askedHeight (isSweep s) true (diskStep (ix .mesh) (capsuleFor (ix .header) s)) ix marks stamp (patchFor (ix .header) s)

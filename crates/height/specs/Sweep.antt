@@ -8,42 +8,58 @@ use Rattle.plane.specs.Mesh.{triangleOf, topOf}
 use Rattle.capsule.specs.declared.Capsule.{Capsule}
 use Rattle.capsule.specs.Region.{capsuleOf}
 use Rattle.capsule.specs.Candidates.{highestIn}
-use Rattle.walk.specs.Walk.{Walk, block, walked, nextStamp, readyMarks}
+use Rattle.walk.specs.Walk.{Walk, walked, nextStamp}
 use Rattle.walk.specs.Steps.{Walkable}
 use Rattle.grid.specs.declared.Header.{Header}
+use Rattle.grid.specs.Index.{Index}
 use Rattle.query.specs.declared.Patch.{Patch}
 use Rattle.query.specs.Patch.{patchOf}
-use Rattle.ask.specs.Ask.{raisedBy}
+use Rattle.query.specs.Looked.{within}
+use Rattle.ask.specs.Ask.{raisedBy, begun}
 use Rattle.height.specs.declared.Swept.{Swept}
 
--- The computed height of triangle i in the capsule that the disk sweeps: none, or a height.
+-- A sweep: a disk of radius r moved from p to q.
+pub record Sweep : Type 0 where
+  pub px : Float
+  pub py : Float
+  pub qx : Float
+  pub qy : Float
+  pub r : Float
+
+abbrev pub sweep : Float → Float → Float → Float → Float → Sweep
+sweep px py qx qy r = record { px = px; py = py; qx = qx; qy = qy; r = r }
+
+-- Its cells: reach is the radius.
+abbrev pub patchFor : Header → Sweep → Patch
+patchFor h s = patchOf h (s .px) (s .py) (s .qx) (s .qy) (s .r)
+
+-- The capsule that the disk sweeps, with the header's eps.
+abbrev pub capsuleFor : Header → Sweep → Capsule
+capsuleFor h s = capsuleOf (s .px) (s .py) (s .qx) (s .qy) (s .r) (h .eps)
+
+-- The computed height of triangle i in a capsule: none, or a height.
 unfoldable pub heightOf : List Float → Capsule → ℕ → Contact
 heightOf mesh q i = highestIn q (triangleOf mesh i)
 
 -- One triangle of the walk: it counts only where its top is above the best so far.
-unfoldable pub raised : List Float → Capsule → Float → ℕ → Float
-raised mesh q best i = cond (le (topOf (triangleOf mesh i)) best) best (raisedBy (heightOf mesh q i) best)
+unfoldable pub diskStep : List Float → Capsule → Float → ℕ → Float
+diskStep mesh q best i = cond (le (topOf (triangleOf mesh i)) best) best (raisedBy (heightOf mesh q i) best)
 
--- The walk of a sweep over the cells p: it begins at the header's floor, with the next stamp.
-unfoldable pub sweptIn : List Float → Header → List ℕ → List ℕ → List ℕ → ℕ → Capsule → Patch → Walk Float
-sweptIn mesh h starts members marks stamp q p =
-    walked (nextStamp stamp) (raised mesh q) (record { marks = readyMarks marks stamp; count = 0; value = h .floor })
-    (block starts members (h .columns) (p .x0) (p .x1) (p .y0) (p .y1))
+-- The walk with a capsule over the cells p: it begins at the header's floor, with the next stamp.
+unfoldable pub capsuleWalk : Index → List ℕ → ℕ → Capsule → Patch → Walk Float
+capsuleWalk ix marks stamp q p =
+    walked (nextStamp stamp) (diskStep (ix .mesh) q) (begun marks stamp (ix .header .floor)) (within ix p)
 
--- The capsule of a sweep from p to q with radius r, with the header's eps; and its walk over its own cells.
-abbrev pub sweepOf : Header → Float → Float → Float → Float → Float → Capsule
-sweepOf h px py qx qy r = capsuleOf px py qx qy r (h .eps)
-
-unfoldable pub sweptOf : List Float → Header → List ℕ → List ℕ → List ℕ → ℕ → Float → Float → Float → Float → Float → Walk Float
-sweptOf mesh h starts members marks stamp px py qx qy r =
-    sweptIn mesh h starts members marks stamp (sweepOf h px py qx qy r) (patchOf h px py qx qy r)
+-- The walk of a sweep.
+unfoldable pub sweepWalk : Index → List ℕ → ℕ → Sweep → Walk Float
+sweepWalk ix marks stamp s = capsuleWalk ix marks stamp (capsuleFor (ix .header) s) (patchFor (ix .header) s)
 
 -- ---- what the parts of the code promise each other
 
 -- what a walk found, with its marks
-abbrev pub swept : Swept → List ℕ → Walk Float
-swept s m = record { marks = m; count = s .count; value = s .height }
+abbrev pub walkLeft : Swept → List ℕ → Walk Float
+walkLeft s m = record { marks = m; count = s .count; value = s .height }
 
--- the cells p of a header's grid can be walked
-abbrev pub Sweepable : List ℕ → List ℕ → ℕ → Header → Patch → Type 0
-Sweepable starts members n h p = Walkable starts members n (h .columns) (p .x0) (p .x1) (p .y0) (p .y1)
+-- the cells p of an index of n triangles can be walked
+abbrev pub Sweepable : Index → ℕ → Patch → Type 0
+Sweepable ix n p = Walkable (ix .starts) (ix .members) n (ix .header .columns) (p .x0) (p .x1) (p .y0) (p .y1)

@@ -4,11 +4,10 @@ ghost use Prim.Native.Nat.{_+_, _*_, _≤_, _<_};
 ghost use lib.ListN.{length};
 ghost use Rattle.walk.specs.Walk.{block, fold, nextStamp};
 ghost use Rattle.walk.specs.Steps.{seen, look, Below, Room, Walkable};
-ghost use Rattle.query.specs.Patch.{patchOf};
-ghost use Rattle.query.specs.Looked.{IndexOf};
+ghost use Rattle.grid.specs.Index.{indexOf};
 ghost use Rattle.ask.specs.Ask.{ended};
-ghost use Rattle.height.specs.Demand.{Demand3};
-ghost use Rattle.height.specs.Sweep.{raised, swept, sweptIn, sweptOf, Sweepable};
+ghost use Rattle.height.specs.Demand.{DiskPromise};
+ghost use Rattle.height.specs.Sweep.{sweep, patchFor, diskStep, capsuleWalk, sweepWalk, walkLeft, Sweepable};
 ghost use Rattle.height.specs.Height.{arePoints, isSweep, maxHeightOf};
 use ask::Answer;
 use capsule::Capsule;
@@ -37,8 +36,10 @@ pub fn max_height(
     qy: f64,
     r: f64,
 ) -> Answer
-    ensures { λ a. ⌜ ended a (now (marks .exit)) ≡ maxHeightOf (now (mesh .entry)) h (now (starts .entry)) (now (members .entry)) (now (marks .entry)) stamp px py qx qy r ⌝ }
-    ensures { λ a. ⌜ (IndexOf (now (mesh .entry)) h (now (starts .entry)) (now (members .entry)) → a .refusal ≡ 0 → Demand3 (now (mesh .entry)) h (now (starts .entry)) (now (members .entry)) (now (marks .entry)) stamp px py qx qy r a) ⌝ }
+    ensures { λ a. ⌜ ended a (now (marks .exit))
+        ≡ maxHeightOf (indexOf (now (mesh .entry)) h (now (starts .entry)) (now (members .entry))) (now (marks .entry)) stamp (sweep px py qx qy r) ⌝ }
+    ensures { λ a. ⌜ DiskPromise (indexOf (now (mesh .entry)) h (now (starts .entry)) (now (members .entry)))
+        (now (marks .entry)) stamp (sweep px py qx qy r) a ⌝ }
 {
     let p = query::patch_of(h, px, py, qx, qy, r);
     let asked = is_sweep(px, py, qx, qy, r);
@@ -83,8 +84,11 @@ pub fn swept_height(
     qy: f64,
     r: f64,
 ) -> Swept
-    requires { ⌜ (length (now mesh) ≡ length (now marks) * 9) × (length (now marks) ≤ 65536) × Sweepable (now starts) (now members) (length (now marks)) h (patchOf h px py qx qy r) ⌝ }
-    ensures { λ s. ⌜ (swept s (now (marks .exit)) ≡ sweptOf (now (mesh .entry)) h (now (starts .entry)) (now (members .entry)) (now (marks .entry)) stamp px py qx qy r) × (s .stamp ≡ nextStamp stamp) ⌝ }
+    requires { ⌜ (length (now mesh) ≡ length (now marks) * 9) × (length (now marks) ≤ 65536)
+        × Sweepable (indexOf (now mesh) h (now starts) (now members)) (length (now marks)) (patchFor h (sweep px py qx qy r)) ⌝ }
+    ensures { λ s. ⌜ (walkLeft s (now (marks .exit))
+        ≡ sweepWalk (indexOf (now (mesh .entry)) h (now (starts .entry)) (now (members .entry))) (now (marks .entry)) stamp (sweep px py qx qy r))
+        × (s .stamp ≡ nextStamp stamp) ⌝ }
 {
     let p = query::patch_of(h, px, py, qx, qy, r);
     sweep_in(
@@ -101,7 +105,7 @@ pub fn swept_height(
 
 // Whether the numbers of a sweep are in their ranges.
 fn is_sweep(px: f64, py: f64, qx: f64, qy: f64, r: f64) -> bool
-    ensures { λ a. ⌜ a ≡ isSweep px py qx qy r ⌝ }
+    ensures { λ a. ⌜ a ≡ isSweep (sweep px py qx qy r) ⌝ }
 {
     if are_points(px, py, qx, qy) {
         spans::is_radius(r)
@@ -140,8 +144,11 @@ fn sweep_in(
     q: Capsule,
     p: Patch,
 ) -> Swept
-    requires { ⌜ (length (now mesh) ≡ length (now marks) * 9) × (length (now marks) ≤ 65536) × Sweepable (now starts) (now members) (length (now marks)) h p ⌝ }
-    ensures { λ s. ⌜ (swept s (now (marks .exit)) ≡ sweptIn (now (mesh .entry)) h (now (starts .entry)) (now (members .entry)) (now (marks .entry)) stamp q p) × (s .stamp ≡ nextStamp stamp) ⌝ }
+    requires { ⌜ (length (now mesh) ≡ length (now marks) * 9) × (length (now marks) ≤ 65536)
+        × Sweepable (indexOf (now mesh) h (now starts) (now members)) (length (now marks)) p ⌝ }
+    ensures { λ s. ⌜ (walkLeft s (now (marks .exit))
+        ≡ capsuleWalk (indexOf (now (mesh .entry)) h (now (starts .entry)) (now (members .entry))) (now (marks .entry)) stamp q p)
+        × (s .stamp ≡ nextStamp stamp) ⌝ }
 {
     let columns = h.columns;
     let first = Seen {
@@ -160,7 +167,7 @@ fn sweep_in(
 // The best so far with triangle i.
 fn raise(mesh: &[f64], q: Capsule, best: f64, i: usize) -> f64
     requires { ⌜ 9 * i + 9 ≤ length (now mesh) ⌝ }
-    ensures { λ r. ⌜ r ≡ raised (now (mesh .entry)) q best i ⌝ }
+    ensures { λ r. ⌜ r ≡ diskStep (now (mesh .entry)) q best i ⌝ }
 {
     let t = plane::triangle_at(mesh, i);
     if plane::top(t) <= best {
@@ -172,7 +179,7 @@ fn raise(mesh: &[f64], q: Capsule, best: f64, i: usize) -> f64
 // Looks at triangle i, unless its mark is the stamp.
 fn look_at(mesh: &[f64], marks: &mut [u32], stamp: u32, q: Capsule, s: Seen, i: usize) -> Seen
     requires { ⌜ (length (now mesh) ≡ length (now marks) * 9) × (i < length (now marks)) × Room stamp (seen (now marks) s) ⌝ }
-    ensures { λ r. ⌜ seen (now (marks .exit)) r ≡ look stamp (raised (now (mesh .entry)) q) (seen (now (marks .entry)) s) i ⌝ }
+    ensures { λ r. ⌜ seen (now (marks .exit)) r ≡ look stamp (diskStep (now (mesh .entry)) q) (seen (now (marks .entry)) s) i ⌝ }
 {
     let count = s.count;
     let best = s.best;
@@ -195,7 +202,7 @@ fn visit_cell(
     s: Seen,
 ) -> Seen
     requires { ⌜ (length (now mesh) ≡ length (now marks) * 9) × Below (length (now marks)) (now part) × Room stamp (seen (now marks) s) ⌝ }
-    ensures { λ r. ⌜ seen (now (marks .exit)) r ≡ fold (look stamp (raised (now (mesh .entry)) q)) (seen (now (marks .entry)) s) (now (part .entry)) ⌝ }
+    ensures { λ r. ⌜ seen (now (marks .exit)) r ≡ fold (look stamp (diskStep (now (mesh .entry)) q)) (seen (now (marks .entry)) s) (now (part .entry)) ⌝ }
 {
     let mut found = s;
     for j in 0..part.len() {
@@ -216,8 +223,12 @@ fn visit(
     q: Capsule,
     s: Seen,
 ) -> Seen
-    requires { ⌜ (length (now mesh) ≡ length (now marks) * 9) × Walkable (now starts) (now members) (length (now marks)) columns (p .x0) (p .x1) (p .y0) (p .y1) × Room stamp (seen (now marks) s) ⌝ }
-    ensures { λ r. ⌜ seen (now (marks .exit)) r ≡ fold (look stamp (raised (now (mesh .entry)) q)) (seen (now (marks .entry)) s) (block (now (starts .entry)) (now (members .entry)) columns (p .x0) (p .x1) (p .y0) (p .y1)) ⌝ }
+    requires { ⌜ (length (now mesh) ≡ length (now marks) * 9)
+        × Walkable (now starts) (now members) (length (now marks)) columns (p .x0) (p .x1) (p .y0) (p .y1)
+        × Room stamp (seen (now marks) s) ⌝ }
+    ensures { λ r. ⌜ seen (now (marks .exit)) r
+        ≡ fold (look stamp (diskStep (now (mesh .entry)) q)) (seen (now (marks .entry)) s)
+        (block (now (starts .entry)) (now (members .entry)) columns (p .x0) (p .x1) (p .y0) (p .y1)) ⌝ }
 {
     let x0 = p.x0;
     let x1 = p.x1;

@@ -4,6 +4,7 @@ ghost use mathlib.Core.List.{[]};
 ghost use mathlib.Core.Path.{_≡_};
 ghost use Prim.Native.Nat.{_*_, _≤_, _<_};
 ghost use lib.ListN.{length};
+ghost use Rattle.grid.specs.Index.{indexOf};
 ghost use Rattle.runs.specs.Tallies.{work};
 ghost use Rattle.terms.specs.Terms.{tooFine, anyOf};
 ghost use Rattle.terms.specs.Tested.{levelsIn};
@@ -34,8 +35,11 @@ pub fn search_levels(
     levels: &[f64],
     count: usize,
 ) -> Tally
-    requires { ⌜ Askable (now mesh) h (now starts) (now members) × Marked (h .n) 0 (now marks) × (count * 5 ≤ length (now levels)) × (count ≤ 65536) × (anyOf (tooFine p axis (h .r)) (levelsIn (now levels) 0 count) ≡ false) ⌝ }
-    ensures { λ y. ⌜ Searched (now (runs .entry)) (levelsFound (heightUnder (now (mesh .entry)) h (now (starts .entry)) (now (members .entry))) p axis (h .r) (record { rows = 0; pieces = [] }) (levelsIn (now (levels .entry)) 0 count)) (now (runs .exit)) y × (length (now (marks .exit)) ≡ h .n) ⌝ }
+    requires { ⌜ Askable (indexOf (now mesh) h (now starts) (now members)) × Marked (h .n) 0 (now marks) × (count * 5 ≤ length (now levels))
+        × (count ≤ 65536) × (anyOf (tooFine p axis (h .r)) (levelsIn (now levels) 0 count) ≡ false) ⌝ }
+    ensures { λ y. ⌜ Searched (now (runs .entry)) (levelsFound
+        (heightUnder (indexOf (now (mesh .entry)) h (now (starts .entry)) (now (members .entry)))) p axis (h .r) (record { rows = 0; pieces = [] })
+        (levelsIn (now (levels .entry)) 0 count)) (now (runs .exit)) y × (length (now (marks .exit)) ≡ h .n) ⌝ }
 {
     let mut stand = Stand {
         tally: runs::begin(),
@@ -72,8 +76,11 @@ fn search_level(
     level: Level,
     s: Stand,
 ) -> Stand
-    requires { ⌜ Askable (now mesh) h (now starts) (now members) × Marked (h .n) (s .stamp) (now marks) × Coarse p axis (h .r) level × (s .tally .rows ≤ 4294967296) ⌝ }
-    ensures { λ e. ⌜ (work (now (runs .exit)) (e .tally) ≡ levelTaken (heightUnder (now (mesh .entry)) h (now (starts .entry)) (now (members .entry))) p axis (h .r) (work (now (runs .entry)) (s .tally)) level) × Marked (h .n) (e .stamp) (now (marks .exit)) ⌝ }
+    requires { ⌜ Askable (indexOf (now mesh) h (now starts) (now members)) × Marked (h .n) (s .stamp) (now marks) × Coarse p axis (h .r) level
+        × (s .tally .rows ≤ 4294967296) ⌝ }
+    ensures { λ e. ⌜ (work (now (runs .exit)) (e .tally)
+        ≡ levelTaken (heightUnder (indexOf (now (mesh .entry)) h (now (starts .entry)) (now (members .entry)))) p axis (h .r)
+        (work (now (runs .entry)) (s .tally)) level) × Marked (h .n) (e .stamp) (now (marks .exit)) ⌝ }
 {
     let r = h.r;
     let a = search::aim_of(p, r, level);
@@ -107,8 +114,11 @@ fn search_row(
     l: Lane,
     s: Stand,
 ) -> Stand
-    requires { ⌜ Askable (now mesh) h (now starts) (now members) × Marked (h .n) (s .stamp) (now marks) × (l .samples ≤ 65535) × (s .tally .rows < 8589934592) ⌝ }
-    ensures { λ e. ⌜ (work (now (runs .exit)) (e .tally) ≡ laneTaken (heightUnder (now (mesh .entry)) h (now (starts .entry)) (now (members .entry))) a l (work (now (runs .entry)) (s .tally))) × Marked (h .n) (e .stamp) (now (marks .exit)) ⌝ }
+    requires { ⌜ Askable (indexOf (now mesh) h (now starts) (now members)) × Marked (h .n) (s .stamp) (now marks) × (l .samples ≤ 65535)
+        × (s .tally .rows < 8589934592) ⌝ }
+    ensures { λ e. ⌜ (work (now (runs .exit)) (e .tally)
+        ≡ laneTaken (heightUnder (indexOf (now (mesh .entry)) h (now (starts .entry)) (now (members .entry)))) a l
+        (work (now (runs .entry)) (s .tally))) × Marked (h .n) (e .stamp) (now (marks .exit)) ⌝ }
 {
     let t = s.tally;
     let n = t.rows + 1;

@@ -14,7 +14,7 @@ use Rattle.job.specs.Reader as job
 use Rattle.job.proofs.Long.{read-cut}
 use Rattle.grid.specs.declared.Built.{Built}
 use Rattle.grid.specs.Build.{outcome, buildOf}
-use Rattle.grid.specs.declared.Header.{Header}
+use Rattle.grid.specs.Index.{Index, indexOf}
 use Rattle.ask.specs.declared.Answer.{Answer}
 use Rattle.ask.specs.Ask.{ended}
 use Rattle.lines.specs.Lines.{headLine, answerLine, refusedLine}
@@ -38,14 +38,14 @@ told-more {o} {p} {q} {at} {end} {end′} {whole} {rest} {line} {rest′} t e w 
 pub told-ends : {o p : List ℕ} {at end : ℕ} {whole rest : List ℕ} → Told o p at end whole rest → rest ≡ [] → Wrote o p at end whole
 told-ends t e = as-well (sym (append-nil (t .text)) ∙ rw (← e) (t .same)) (t .wrote)
 
-module _ (mesh : List Float) (h : Header) (starts members : List ℕ) (qs : List Float) (marks : List ℕ) (stamp m i : ℕ) where
-  pub answers-more : (a : Answer) (marks′ : List ℕ) → i < m → ended a marks′ ≡ askedOf mesh h starts members marks stamp qs i → answersOf mesh h starts members qs marks stamp i (m - i) ≡ answerLine i (a .refusal) (a .height) (a .count) ++ answersOf mesh h starts members qs marks′ (a .stamp) (i + 1) (m - (i + 1))
+module _ (ix : Index) (qs : List Float) (marks : List ℕ) (stamp m i : ℕ) where
+  pub answers-more : (a : Answer) (marks′ : List ℕ) → i < m → ended a marks′ ≡ askedOf ix marks stamp qs i → answersOf ix qs marks stamp i (m - i) ≡ answerLine i (a .refusal) (a .height) (a .count) ++ answersOf ix qs marks′ (a .stamp) (i + 1) (m - (i + 1))
   unfolding answersOf
   answers-more a marks′ l e =
       let s : m - i ≡ suc (m - (i + 1)) = omega arith in
       rw (s, ← e)
 
-  pub answers-end : m ≤ i → answersOf mesh h starts members qs marks stamp i (m - i) ≡ []
+  pub answers-end : m ≤ i → answersOf ix qs marks stamp i (m - i) ≡ []
   unfolding answersOf
   answers-end l = let s : m - i ≡ 0 = omega arith in rw s
 
@@ -60,11 +60,11 @@ module _ (mesh qs : List Float) (floor radius : Float) (n m : ℕ) (b : Built) (
   unfolding listedOf
   built-not h = rw (← e) (left _ _ _ _ (ne-eqb (b .refusal) 0 h) refl)
 
-  built-is : b .refusal ≡ 0 → headLine n m (b .header .columns) (b .header .rows) ++ answersOf mesh (b .header) starts members qs (replicate n 0) 0 0 m ≡ listedOf mesh qs floor radius n m
+  built-is : b .refusal ≡ 0 → headLine n m (b .header .columns) (b .header .rows) ++ answersOf (indexOf mesh (b .header) starts members) qs (replicate n 0) 0 0 m ≡ listedOf mesh qs floor radius n m
   unfolding listedOf
   built-is z = rw (← e) (taken _ _ _ _ (eq-eqb (b .refusal) 0 z) refl)
 
-  pub built-told : (k : ℕ) (o p q : List ℕ) (at r : ℕ) → n ≤ k → b .refusal ≡ 0 → Wrote o p 0 at (headLine n m (b .header .columns) (b .header .rows)) → Wrote p q at r (answersOf mesh (b .header) starts members qs (take n (replicate k 0)) 0 0 m) → Wrote o q 0 r (listedOf mesh qs floor radius n m)
+  pub built-told : (k : ℕ) (o p q : List ℕ) (at r : ℕ) → n ≤ k → b .refusal ≡ 0 → Wrote o p 0 at (headLine n m (b .header .columns) (b .header .rows)) → Wrote p q at r (answersOf (indexOf mesh (b .header) starts members) qs (take n (replicate k 0)) 0 0 m) → Wrote o q 0 r (listedOf mesh qs floor radius n m)
   built-told k o p q at r h z w v = as-well (built-is z) (w then (rw (take-replicate n k h) at v))
 
 -- ---- the listing of a job, refused by the reader and not

@@ -8,10 +8,11 @@ use lib.Ieee.{Float}
 use lib.ListN.{take, replicate}
 use Rattle.numbers.specs.Reals.{f0, num}
 use Rattle.job.specs.Reader.{readOf}
-use Rattle.grid.specs.declared.Header.{Header}
+use Rattle.grid.specs.Index.{Index, indexOf}
 use Rattle.grid.specs.Build.{buildOf}
 use Rattle.ask.specs.declared.Answer.{Answer}
 use Rattle.ask.specs.Ask.{Outcome}
+use Rattle.height.specs.Sweep.{sweep}
 use Rattle.height.specs.Height.{maxHeightOf}
 use Rattle.lines.specs.Lines.{headLine, answerLine, refusedLine}
 
@@ -36,17 +37,18 @@ inputRoom = 28703
 -- ---- the questions
 
 -- question i, five numbers of the table qs: px, py, qx, qy, r
-unfoldable pub askedOf : List Float → Header → List ℕ → List ℕ → List ℕ → ℕ → List Float → ℕ → Outcome Answer
-askedOf mesh h starts members marks stamp qs i =
-    maxHeightOf mesh h starts members marks stamp (num qs (5 * i)) (num qs (5 * i + 1)) (num qs (5 * i + 2)) (num qs (5 * i + 3)) (num qs (5 * i + 4))
+unfoldable pub askedOf : Index → List ℕ → ℕ → List Float → ℕ → Outcome Answer
+askedOf ix marks stamp qs i =
+    maxHeightOf ix marks stamp
+    (sweep (num qs (5 * i)) (num qs (5 * i + 1)) (num qs (5 * i + 2)) (num qs (5 * i + 3)) (num qs (5 * i + 4)))
 
 -- the lines of c questions from question i on: marks and stamp carry on from question to question
-unfoldable pub answersOf : List Float → Header → List ℕ → List ℕ → List Float → List ℕ → ℕ → ℕ → ℕ → List ℕ
-answersOf mesh h starts members qs marks stamp i zero = []
-answersOf mesh h starts members qs marks stamp i (suc c) =
-    let o = askedOf mesh h starts members marks stamp qs i in
+unfoldable pub answersOf : Index → List Float → List ℕ → ℕ → ℕ → ℕ → List ℕ
+answersOf ix qs marks stamp i zero = []
+answersOf ix qs marks stamp i (suc c) =
+    let o = askedOf ix marks stamp qs i in
     answerLine i (o .answer .refusal) (o .answer .height) (o .answer .count)
-    ++ answersOf mesh h starts members qs (o .marks) (o .answer .stamp) (i + 1) c
+    ++ answersOf ix qs (o .marks) (o .answer .stamp) (i + 1) c
 
 -- ---- the listing
 
@@ -56,7 +58,7 @@ listedOf mesh qs floor radius n m =
     let b = buildOf mesh floor radius (replicate startRoom 0) (replicate memberRoom 0) in
     cond (eqb (b .built .refusal) 0)
     (headLine n m (b .built .header .columns) (b .built .header .rows)
-    ++ answersOf mesh (b .built .header) (b .starts) (b .members) qs (replicate n 0) 0 0 m)
+    ++ answersOf (indexOf mesh (b .built .header) (b .starts) (b .members)) qs (replicate n 0) 0 0 m)
     (refusedLine (b .built .refusal))
 
 -- a job refused by reader or builder prints its refusal only

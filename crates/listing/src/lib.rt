@@ -3,6 +3,7 @@ ghost use mathlib.Core.Path.{_≡_};
 ghost use mathlib.Core.List.{_++_};
 ghost use Prim.Native.Nat.{_+_, _*_, _≤_, _<_};
 ghost use lib.ListN.{length, take, drop, replicate};
+ghost use Rattle.grid.specs.Index.{indexOf};
 ghost use Rattle.ask.specs.Ask.{ended};
 ghost use Rattle.lines.specs.Wrote.{Wrote};
 ghost use Rattle.listing.specs.Listing.{askedOf, answersOf, listedOf, listingOf, Enough};
@@ -87,7 +88,9 @@ fn answers(
     at: usize,
 ) -> usize
     requires { ⌜ (length (now questions) ≡ 5 * m) × (at + 80 * m ≤ length (now out)) ⌝ }
-    ensures { λ r. ⌜ Wrote (now (out .entry)) (now (out .exit)) at r (answersOf (now (mesh .entry)) h (now (starts .entry)) (now (members .entry)) (now (questions .entry)) (now (marks .entry)) 0 0 m) × (r ≤ at + 80 * m) ⌝ }
+    ensures { λ r. ⌜ Wrote (now (out .entry)) (now (out .exit)) at r
+        (answersOf (indexOf (now (mesh .entry)) h (now (starts .entry)) (now (members .entry))) (now (questions .entry)) (now (marks .entry)) 0 0 m)
+        × (r ≤ at + 80 * m) ⌝ }
 {
     let mut stamp: u32 = 0;
     let mut end = at;
@@ -111,7 +114,8 @@ fn asked(
     i: usize,
 ) -> Answer
     requires { ⌜ 5 * i + 5 ≤ length (now questions) ⌝ }
-    ensures { λ a. ⌜ ended a (now (marks .exit)) ≡ askedOf (now (mesh .entry)) h (now (starts .entry)) (now (members .entry)) (now (marks .entry)) stamp (now (questions .entry)) i ⌝ }
+    ensures { λ a. ⌜ ended a (now (marks .exit)) ≡ askedOf (indexOf (now (mesh .entry)) h (now (starts .entry)) (now (members .entry)))
+        (now (marks .entry)) stamp (now (questions .entry)) i ⌝ }
 {
     let k = 5 * i;
     let px = questions[k];

@@ -1,5 +1,5 @@
 -- What a plan answers and leaves, refusal by refusal, and where it is accepted.
-use mathlib.Core.Bool.{true, false}
+use mathlib.Core.Bool.{Bool, true, false, cond}
 use mathlib.Core.List.{List, map}
 use mathlib.Core.Logic.{⊎-elim}
 use mathlib.Core.Path.{_≡_, refl, sym, ap, subst, _∙_}
@@ -14,11 +14,13 @@ use Rattle.numbers.proofs.Branches.{taken, left, both-true}
 use Rattle.sort.proofs.Counts.{on-or-off}
 use Rattle.fives.specs.Tables.{roomOf, written, zeroed}
 use Rattle.fives.proofs.Writing.{written-length}
-use Rattle.grid.specs.declared.Header.{Header}
+use Rattle.grid.specs.Index.{Index, BuiltFrom}
+use Rattle.grid.specs.Ladder.{refuse, demand}
+use Rattle.grid.proofs.Indexing.{index-sound}
 use Rattle.grid.proofs.Ladder.{demanded, refuse-here, refuse-next}
 use Rattle.query.specs.Asked.{isMarked}
 use Rattle.query.specs.Usable.{usableWhole}
-use Rattle.whole.proofs.Wholly.{whole-head, whole-walkable}
+use Rattle.whole.proofs.Wholly.{whole-head, whole-walkable, sound-whole}
 use Rattle.levels.specs.declared.Level.{Level}
 use Rattle.levels.specs.Levels.{levelsOf, fiveOf as levelFive}
 use Rattle.runs.specs.declared.Run.{Run}
@@ -35,38 +37,98 @@ use Rattle.search.specs.Search.{Found}
 use Rattle.lanes.specs.Searched.{Searched}
 use Rattle.plan.specs.declared.Planned.{Planned}
 use Rattle.plan.specs.declared.Surveyed.{Surveyed}
-use Rattle.plan.specs.Plan.{refusalOfInput, refusalOfTables, levelsUnder, foundOn, Outcome, outcome, refusedBy, wiped, workedOf, planOf}
+use Rattle.plan.specs.Plan.{refusalOfInput, refusalOfTables, levelsUnder, foundOn, Outcome, outcome, refusedBy, acceptedWith, wiped, workedOf, planOf, NeverSeven}
 use Rattle.plan.specs.Stages.{Ready, Surveys, Settled, settled, givenUp, settledOf, finishedOf}
 use Rattle.plan.proofs.Counting.{levels-few}
 use Rattle.plan.proofs.Surveying.{Taken, survey-taken}
 
 -- ---- 1, 9 and 7
 
-module _ (mesh : List Float) (h : Header) (starts members marks : List ℕ) (p : Parameters) where
-  pub passed : refusalOfInput mesh h starts members marks p ≡ 0 → Ready mesh h starts members marks
+module _ (ix : Index) (marks : List ℕ) (p : Parameters) where
+  pub passed : refusalOfInput ix marks p ≡ 0 → Ready ix marks
   unfolding refusalOfInput isMarked
   passed z =
-      let a = demanded (isMarked mesh marks) 1 _ (lit< tt) z in
-      let b = demanded (areTerms p (h .r) (h .floor)) 9 _ (lit< tt) (a .1) in
-      let u = demanded (usableWhole mesh h starts members) 7 0 (lit< tt) (b .1) .0 in
-      let m = both-true (leb (length marks) 65536) (eqb (length mesh) (length marks * 9)) (a .0) in
-      let w = whole-head mesh h starts members u in
-      let e : length mesh ≡ length marks * 9 = eqb-true _ _ (m .1) in
+      let a = demanded (isMarked (ix .mesh) marks) 1 _ (lit< tt) z in
+      let b = demanded (areTerms p (ix .header .r) (ix .header .floor)) 9 _ (lit< tt) (a .1) in
+      let u = demanded (usableWhole ix) 7 0 (lit< tt) (b .1) .0 in
+      let m = both-true (leb (length marks) 65536) (eqb (length (ix .mesh)) (length marks * 9)) (a .0) in
+      let w = whole-head ix u in
+      let e : length (ix .mesh) ≡ length marks * 9 = eqb-true _ _ (m .1) in
       record {
-        askable = record { nine = w .nine; few = w .ranged .few; walkable = whole-walkable mesh h starts members u };
+        askable = record { nine = w .nine; few = w .ranged .few; walkable = whole-walkable ix u };
         size = omega (arith, w .nine);
       }
 
-  module _ (levels runs : List Float) (axis : Axis) (k : ℕ) (e : k ≡ refusalOfInput mesh h starts members marks p) where
-    pub input-refused : (a : Planned) → (k ≡ 0 → ⊥) → a ≡ refusedBy k → outcome a levels runs marks ≡ planOf mesh h starts members marks levels runs p axis
+  module _ (levels runs : List Float) (axis : Axis) (k : ℕ) (e : k ≡ refusalOfInput ix marks p) where
+    pub input-refused : (a : Planned) → (k ≡ 0 → ⊥) → a ≡ refusedBy k → outcome a levels runs marks ≡ planOf ix marks levels runs p axis
     unfolding planOf
     input-refused a n f =
         left _ _ _ _ (ne-eqb _ 0 (λ z. n (e ∙ z)))
         (ap (λ (b : Planned). outcome b levels runs marks) f ∙ ap (λ (j : ℕ). outcome (refusedBy j) levels runs marks) e)
 
-    pub input-passed : (o : Outcome) → k ≡ 0 → o ≡ workedOf mesh h starts members marks levels runs p axis → o ≡ planOf mesh h starts members marks levels runs p axis
+    pub input-passed : (o : Outcome) → k ≡ 0 → o ≡ workedOf ix marks levels runs p axis → o ≡ planOf ix marks levels runs p axis
     unfolding planOf
     input-passed o z f = taken _ _ _ _ (eq-eqb _ 0 (sym e ∙ z)) f
+
+-- ---- never 7 over the index built from its mesh
+
+-- a rung whose number is not 7 gives 7 only where the next does
+pub rung : (b : Bool) (k next : ℕ) → (k ≡ 7 → ⊥) → demand b k next ≡ 7 → next ≡ 7
+unfolding demand
+rung true k next n e = e
+rung false k next n e = absurd (n e)
+
+last-rung : (b : Bool) → b ≡ true → demand b 7 0 ≡ 7 → ⊥
+unfolding demand
+last-rung b t e = let z : _≡_ {A = ℕ} 0 7 = rw t at e in omega arith
+
+step : (b : Bool) (k next : ℕ) → (k ≡ 7 → ⊥) → refuse b k next ≡ 7 → next ≡ 7
+unfolding refuse
+step true k next n e = absurd (n e)
+step false k next n e = e
+
+by-zero : (b : Bool) (k l : ℕ) → (k ≡ 7 → ⊥) → (l ≡ 7 → ⊥) → cond b k l ≡ 7 → ⊥
+by-zero true k l p q = p
+by-zero false k l p q = q
+
+pub either-way : (b : Bool) (x y : Outcome) → (x .answer .refusal ≡ 7 → ⊥) → (y .answer .refusal ≡ 7 → ⊥) → cond b x y .answer .refusal ≡ 7 → ⊥
+either-way true x y p q = p
+either-way false x y p q = q
+
+module _ (ix : Index) (marks : List ℕ) (levels runs : List Float) (p : Parameters) (axis : Axis) where
+  input-seven : BuiltFrom ix → refusalOfInput ix marks p ≡ 7 → ⊥
+  unfolding refusalOfInput
+  input-seven b e =
+      let f = rung _ 9 _ (λ z. omega arith) (rung _ 1 _ (λ z. omega arith) e) in
+      last-rung (usableWhole ix) (sound-whole ix (index-sound ix b)) f
+
+  tables-seven : (lr rr : ℕ) (r : Float) (ls : List Level) (rs : List Run) → refusalOfTables lr rr p axis r ls rs ≡ 7 → ⊥
+  unfolding refusalOfTables refusalOfLevels
+  tables-seven lr rr r ls rs =
+      by-zero (eqb (refusalOfLevels lr p axis r ls) 0) (refuse (ltb rr (length rs)) 13 0) (refusalOfLevels lr p axis r ls)
+      (λ e. let z = step (ltb rr (length rs)) 13 0 (λ z. omega arith) e in omega arith)
+      (λ e. let z = step _ 12 _ (λ z. omega arith) (step _ 10 _ (λ z. omega arith) (step _ 11 _ (λ z. omega arith) e)) in omega arith)
+
+  worked-seven : workedOf ix marks levels runs p axis .answer .refusal ≡ 7 → ⊥
+  unfolding workedOf
+  worked-seven =
+      let ls = levelsUnder ix p in
+      let f = foundOn ix p axis ls in
+      let rs = joinedOf (keptOf (f .pieces)) in
+      let k = refusalOfTables (roomOf levels) (roomOf runs) p axis (ix .header .r) ls rs in
+      either-way (eqb k 0)
+      (outcome (acceptedWith ls f rs) (written (map levelFive ls) (zeroed levels)) (written (map runFive rs) (zeroed runs)) (wiped marks))
+      (outcome (refusedBy k) (zeroed levels) (zeroed runs) (wiped marks))
+      (λ e. omega arith) (tables-seven (roomOf levels) (roomOf runs) (ix .header .r) ls rs)
+
+  pub planned-seven : BuiltFrom ix → planOf ix marks levels runs p axis .answer .refusal ≡ 7 → ⊥
+  unfolding planOf
+  planned-seven b =
+      either-way (eqb (refusalOfInput ix marks p) 0) (workedOf ix marks levels runs p axis) (outcome (refusedBy (refusalOfInput ix marks p)) levels runs marks)
+      worked-seven (input-seven b)
+
+  pub never-seven : (a : Planned) (l r : List Float) (m : List ℕ) → outcome a l r m ≡ planOf ix marks levels runs p axis → NeverSeven ix (a .refusal)
+  never-seven a l r m e b s = planned-seven b (sym (ap (λ (o : Outcome). o .answer .refusal) e) ∙ s)
 
 -- ---- 11, 10, 12 and 13
 
@@ -107,21 +169,21 @@ wiped-marked n marks m size w =
 zeroed-length : (t : List Float) → length (zeroed t) ≡ length t
 zeroed-length t = length-replicate (length t) f0
 
-module _ (mesh : List Float) (h : Header) (starts members marks : List ℕ) (levels runs : List Float) (p : Parameters) (axis : Axis) where
+module _ (ix : Index) (marks : List ℕ) (levels runs : List Float) (p : Parameters) (axis : Axis) where
   abbrev ls : List Level
-  ls = levelsUnder mesh h p
+  ls = levelsUnder ix p
 
   abbrev found : Found
-  found = foundOn mesh h starts members p axis ls
+  found = foundOn ix p axis ls
 
   abbrev joined : List Run
   joined = joinedOf (keptOf (found .pieces))
 
   abbrev refusal : ℕ
-  refusal = refusalOfTables (roomOf levels) (roomOf runs) p axis (h .r) ls joined
+  refusal = refusalOfTables (roomOf levels) (roomOf runs) p axis (ix .header .r) ls joined
 
   abbrev answer : Outcome
-  answer = workedOf mesh h starts members marks levels runs p axis
+  answer = workedOf ix marks levels runs p axis
 
   -- a late refusal, over tables that are as long as they were
   late : (k : ℕ) → k ≡ refusal → (k ≡ 0 → ⊥) → (s : Settled) (t u : List Float) (m : List ℕ) → length t ≡ length levels → length u ≡ length runs → s ≡ givenUp k t u → m ≡ wiped marks →
@@ -134,10 +196,10 @@ module _ (mesh : List Float) (h : Header) (starts members marks : List ℕ) (lev
       ∙ (rw (a, b, w)))
 
   -- where the tables are zero and the levels are written
-  module _ (t₀ u₀ t : List Float) (m : List ℕ) (s : Surveyed) (size : length marks ≡ h .n) (zt : t₀ ≡ zeroed levels) (zu : u₀ ≡ zeroed runs) (v₀ : Surveys (levelsOf mesh (length marks) (p .tolerance) (p .«level_tolerance») (h .floor)) p axis (h .r) t₀ marks t m s) where
-    v : Surveys ls p axis (h .r) t₀ marks t m s
+  module _ (t₀ u₀ t : List Float) (m : List ℕ) (s : Surveyed) (size : length marks ≡ ix .header .n) (zt : t₀ ≡ zeroed levels) (zu : u₀ ≡ zeroed runs) (v₀ : Surveys (levelsOf (ix .mesh) (length marks) (p .tolerance) (p .«level_tolerance») (ix .header .floor)) p axis (ix .header .r) t₀ marks t m s) where
+    v : Surveys ls p axis (ix .header .r) t₀ marks t m s
     unfolding levelsUnder
-    v = subst (λ (n : ℕ). Surveys (levelsOf mesh n (p .tolerance) (p .«level_tolerance») (h .floor)) p axis (h .r) t₀ marks t m s) size v₀
+    v = subst (λ (n : ℕ). Surveys (levelsOf (ix .mesh) n (p .tolerance) (p .«level_tolerance») (ix .header .floor)) p axis (ix .header .r) t₀ marks t m s) size v₀
 
     levels-room : length t₀ ≡ length levels
     levels-room = ap length zt ∙ zeroed-length levels
@@ -148,8 +210,8 @@ module _ (mesh : List Float) (h : Header) (starts members marks : List ℕ) (lev
     runs-room : length u₀ ≡ length runs
     runs-room = ap length zu ∙ zeroed-length runs
 
-    tested : s .refusal ≡ refusalOfLevels (roomOf levels) p axis (h .r) ls
-    tested = v .refusal ∙ ap (λ (n : ℕ). refusalOfLevels (n / 5) p axis (h .r) ls) levels-room
+    tested : s .refusal ≡ refusalOfLevels (roomOf levels) p axis (ix .header .r) ls
+    tested = v .refusal ∙ ap (λ (n : ℕ). refusalOfLevels (n / 5) p axis (ix .header .r) ls) levels-room
 
     -- 11, 10 or 12
     pub levels-refused : (s .refusal ≡ 0 → ⊥) → (a : Settled) → a ≡ givenUp (s .refusal) t u₀ → outcome (a .answer) (a .levels) (a .runs) m ≡ answer
@@ -157,25 +219,25 @@ module _ (mesh : List Float) (h : Header) (starts members marks : List ℕ) (lev
     levels-refused n a e = late (s .refusal) (left _ _ _ _ (ne-eqb _ 0 (λ z. n (tested ∙ z))) tested) n a t u₀ m table-room runs-room e (v .clean)
 
     module _ (z : s .refusal ≡ 0) where
-      taken-levels : Taken t₀ ls p axis (h .r)
-      taken-levels = survey-taken t₀ ls p axis (h .r) (sym (v .refusal) ∙ z)
+      taken-levels : Taken t₀ ls p axis (ix .header .r)
+      taken-levels = survey-taken t₀ ls p axis (ix .header .r) (sym (v .refusal) ∙ z)
 
       read : levelsIn t 0 (s .count) ≡ ls
       read = ap (λ (x : List Float). levelsIn x 0 (s .count)) (v .table) ∙ ap (levelsIn (written (map levelFive ls) t₀) 0) (v .count) ∙ levels-read t₀ ls (taken-levels .room)
 
       -- what the search asks for
-      pub search-asks : Askable mesh h starts members → Askable mesh h starts members × Marked (h .n) 0 m × (s .count * 5 ≤ length t) × (s .count ≤ 65536) × (anyOf (tooFine p axis (h .r)) (levelsIn t 0 (s .count)) ≡ false)
+      pub search-asks : Askable ix → Askable ix × Marked (ix .header .n) 0 m × (s .count * 5 ≤ length t) × (s .count ≤ 65536) × (anyOf (tooFine p axis (ix .header .r)) (levelsIn t 0 (s .count)) ≡ false)
       unfolding levelsUnder
       search-asks q = (
         q,
-        wiped-marked (h .n) marks m size (v .clean),
+        wiped-marked (ix .header .n) marks m size (v .clean),
         omega (arith, taken-levels .room, v .count, table-room, levels-room),
-        omega (arith, v .count, q .few, levels-few mesh (h .n) (p .tolerance) (p .«level_tolerance») (h .floor)),
+        omega (arith, v .count, q .few, levels-few (ix .mesh) (ix .header .n) (p .tolerance) (p .«level_tolerance») (ix .header .floor)),
         rw read (taken-levels .coarse),
       )
 
       -- 13, or accepted
-      pub found-settled : (a : Settled) (m′ : List ℕ) → a ≡ finishedOf t u₀ (s .count) (foundOn mesh h starts members p axis (levelsIn t 0 (s .count))) → m′ ≡ replicate (h .n) 0 → outcome (a .answer) (a .levels) (a .runs) m′ ≡ answer
+      pub found-settled : (a : Settled) (m′ : List ℕ) → a ≡ finishedOf t u₀ (s .count) (foundOn ix p axis (levelsIn t 0 (s .count))) → m′ ≡ replicate (ix .header .n) 0 → outcome (a .answer) (a .levels) (a .runs) m′ ≡ answer
       unfolding finishedOf refusalOfTables workedOf
       found-settled a m′ e w =
           ⊎-elim

@@ -1,12 +1,13 @@
 -- Document 01, "Levels and runs" and "Refusal numbers": what `plan` answers, and what it leaves in levels, runs and marks.
 use mathlib.Core.Bool.{cond}
 use mathlib.Core.List.{List, [], map}
+use mathlib.Core.Path.{_≡_}
 use Prim.Native.Nat.{ℕ}
 use lib.Dec.{eqb, ltb}
 use lib.Ieee.{Float}
 use lib.ListN.{length, replicate}
 use Rattle.numbers.specs.Reals.{f0}
-use Rattle.grid.specs.declared.Header.{Header}
+use Rattle.grid.specs.Index.{Index, BuiltFrom}
 use Rattle.grid.specs.Ladder.{refuse, demand}
 use Rattle.query.specs.Asked.{isMarked}
 use Rattle.query.specs.Usable.{usableWhole}
@@ -27,11 +28,11 @@ use Rattle.plan.specs.declared.Planned.{Planned}
 
 -- 1, 9 and 7 in this order: marks, parameters with the header's radius and floor, then the index, every cell and every triangle and no mark.
 -- 0 where none is given.
-unfoldable pub refusalOfInput : List Float → Header → List ℕ → List ℕ → List ℕ → Parameters → ℕ
-refusalOfInput mesh h starts members marks p =
-    demand (isMarked mesh marks) 1
-    (demand (areTerms p (h .r) (h .floor)) 9
-    (demand (usableWhole mesh h starts members) 7
+unfoldable pub refusalOfInput : Index → List ℕ → Parameters → ℕ
+refusalOfInput ix marks p =
+    demand (isMarked (ix .mesh) marks) 1
+    (demand (areTerms p (ix .header .r) (ix .header .floor)) 9
+    (demand (usableWhole ix) 7
     0))
 
 -- 11, 10 and 12 of the levels, and then 13: more joined runs than room. 0 where none is given.
@@ -43,12 +44,12 @@ refusalOfTables levelRoom runRoom p axis r ls rs =
 -- ---- what is planned
 
 -- The levels of the mesh over the header's floor.
-unfoldable pub levelsUnder : List Float → Header → Parameters → List Level
-levelsUnder mesh h p = levelsOf mesh (h .n) (p .tolerance) (p .«level_tolerance») (h .floor)
+unfoldable pub levelsUnder : Index → Parameters → List Level
+levelsUnder ix p = levelsOf (ix .mesh) (ix .header .n) (p .tolerance) (p .«level_tolerance») (ix .header .floor)
 
 -- What the search finds on them: how many rows have a stretch, and all pieces in the order made.
-unfoldable pub foundOn : List Float → Header → List ℕ → List ℕ → Parameters → Axis → List Level → Found
-foundOn mesh h starts members p axis ls = levelsFound (heightUnder mesh h starts members) p axis (h .r) (record { rows = 0; pieces = [] }) ls
+unfoldable pub foundOn : Index → Parameters → Axis → List Level → Found
+foundOn ix p axis ls = levelsFound (heightUnder ix) p axis (ix .header .r) (record { rows = 0; pieces = [] }) ls
 
 -- ---- what is left
 
@@ -76,18 +77,22 @@ abbrev pub wiped : List ℕ → List ℕ
 wiped marks = replicate (length marks) 0
 
 -- Accepted, both tables hold what was found, and their unused entries are zero; refused with 11, 10, 12 or 13 both are zero. The marks are zero either way.
-unfoldable pub workedOf : List Float → Header → List ℕ → List ℕ → List ℕ → List Float → List Float → Parameters → Axis → Outcome
-workedOf mesh h starts members marks levels runs p axis =
-    let ls = levelsUnder mesh h p in
-    let f = foundOn mesh h starts members p axis ls in
+unfoldable pub workedOf : Index → List ℕ → List Float → List Float → Parameters → Axis → Outcome
+workedOf ix marks levels runs p axis =
+    let ls = levelsUnder ix p in
+    let f = foundOn ix p axis ls in
     let rs = joinedOf (keptOf (f .pieces)) in
-    let k = refusalOfTables (roomOf levels) (roomOf runs) p axis (h .r) ls rs in
+    let k = refusalOfTables (roomOf levels) (roomOf runs) p axis (ix .header .r) ls rs in
     cond (eqb k 0)
     (outcome (acceptedWith ls f rs) (written (map levelFive ls) (zeroed levels)) (written (map runFive rs) (zeroed runs)) (wiped marks))
     (outcome (refusedBy k) (zeroed levels) (zeroed runs) (wiped marks))
 
 -- The plan. Refusals 1, 9 and 7 touch nothing.
-unfoldable pub planOf : List Float → Header → List ℕ → List ℕ → List ℕ → List Float → List Float → Parameters → Axis → Outcome
-planOf mesh h starts members marks levels runs p axis =
-    let k = refusalOfInput mesh h starts members marks p in
-    cond (eqb k 0) (workedOf mesh h starts members marks levels runs p axis) (outcome (refusedBy k) levels runs marks)
+unfoldable pub planOf : Index → List ℕ → List Float → List Float → Parameters → Axis → Outcome
+planOf ix marks levels runs p axis =
+    let k = refusalOfInput ix marks p in
+    cond (eqb k 0) (workedOf ix marks levels runs p axis) (outcome (refusedBy k) levels runs marks)
+
+-- What the plan promises of its refusal over the index built from its mesh: it is not 7.
+abbrev pub NeverSeven : Index → ℕ → Type 0
+NeverSeven ix k = BuiltFrom ix → k ≡ 7 → ⊥

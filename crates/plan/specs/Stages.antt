@@ -7,7 +7,7 @@ use lib.Dec.{ltb}
 use lib.Ieee.{Float}
 use lib.ListN.{length}
 use Rattle.numbers.specs.Reals.{f0}
-use Rattle.grid.specs.declared.Header.{Header}
+use Rattle.grid.specs.Index.{Index}
 use Rattle.fives.specs.Tables.{roomOf, written, zeroed}
 use Rattle.levels.specs.declared.Level.{Level}
 use Rattle.levels.specs.Levels.{fiveOf as levelFive}
@@ -24,9 +24,9 @@ use Rattle.plan.specs.declared.Surveyed.{Surveyed}
 use Rattle.plan.specs.Plan.{refusedBy, wiped}
 
 -- What 1 and 7 let pass: a mark for each triangle, and every question over the mesh can be walked.
-pub record Ready (mesh : List Float) (h : Header) (starts members marks : List ℕ) : Type 0 where
-  pub askable : Askable mesh h starts members
-  pub size : length marks ≡ h .n
+pub record Ready (ix : Index) (marks : List ℕ) : Type 0 where
+  pub askable : Askable ix
+  pub size : length marks ≡ ix .header .n
 
 -- The levels ls stand in their table, the marks are wiped, and it is known how many levels there are and whether they are refused.
 pub record Surveys (ls : List Level) (p : Parameters) (axis : Axis) (r : Float) (levels₀ : List Float) (marks₀ : List ℕ) (levels : List Float) (marks : List ℕ) (s : Surveyed) : Type 0 where

@@ -3,12 +3,13 @@ ghost use mathlib.Core.Bool.{false};
 ghost use mathlib.Core.Path.{_≡_};
 ghost use Prim.Native.Nat.{_*_, _≤_};
 ghost use lib.ListN.{length, replicate};
+ghost use Rattle.grid.specs.Index.{indexOf};
 ghost use Rattle.fives.specs.Tables.{zeroed};
 ghost use Rattle.levels.specs.Levels.{levelsOf};
 ghost use Rattle.terms.specs.Terms.{tooFine, anyOf};
 ghost use Rattle.terms.specs.Tested.{levelsIn};
 ghost use Rattle.probe.specs.Asked.{Askable, Marked};
-ghost use Rattle.plan.specs.Plan.{refusalOfInput, foundOn, outcome, refusedBy, workedOf, planOf};
+ghost use Rattle.plan.specs.Plan.{refusalOfInput, foundOn, outcome, refusedBy, workedOf, planOf, NeverSeven};
 ghost use Rattle.plan.specs.Stages.{Ready, Surveys, settled, givenUp, settledOf, finishedOf};
 use grid::Header;
 use rows::Axis;
@@ -43,7 +44,10 @@ pub fn plan(
     p: Parameters,
     axis: Axis,
 ) -> Planned
-    ensures { λ a. ⌜ outcome a (now (levels .exit)) (now (runs .exit)) (now (marks .exit)) ≡ planOf (now (mesh .entry)) h (now (starts .entry)) (now (members .entry)) (now (marks .entry)) (now (levels .entry)) (now (runs .entry)) p axis ⌝ }
+    ensures { λ a. ⌜ outcome a (now (levels .exit)) (now (runs .exit)) (now (marks .exit))
+        ≡ planOf (indexOf (now (mesh .entry)) h (now (starts .entry)) (now (members .entry))) (now (marks .entry)) (now (levels .entry))
+        (now (runs .entry)) p axis ⌝ }
+    ensures { λ a. ⌜ NeverSeven (indexOf (now (mesh .entry)) h (now (starts .entry)) (now (members .entry))) (a .refusal) ⌝ }
 {
     let k = refusal(mesh, h, starts, members, marks, p);
     if k != 0 {
@@ -61,7 +65,7 @@ fn refusal(
     marks: &[u32],
     p: Parameters,
 ) -> u32
-    ensures { λ k. ⌜ k ≡ refusalOfInput (now (mesh .entry)) h (now (starts .entry)) (now (members .entry)) (now (marks .entry)) p ⌝ }
+    ensures { λ k. ⌜ k ≡ refusalOfInput (indexOf (now (mesh .entry)) h (now (starts .entry)) (now (members .entry))) (now (marks .entry)) p ⌝ }
 {
     if !query::is_marked(mesh, marks) {
         return 1;
@@ -101,8 +105,10 @@ fn work(
     p: Parameters,
     axis: Axis,
 ) -> Planned
-    requires { ⌜ Ready (now mesh) h (now starts) (now members) (now marks) ⌝ }
-    ensures { λ a. ⌜ outcome a (now (levels .exit)) (now (runs .exit)) (now (marks .exit)) ≡ workedOf (now (mesh .entry)) h (now (starts .entry)) (now (members .entry)) (now (marks .entry)) (now (levels .entry)) (now (runs .entry)) p axis ⌝ }
+    requires { ⌜ Ready (indexOf (now mesh) h (now starts) (now members)) (now marks) ⌝ }
+    ensures { λ a. ⌜ outcome a (now (levels .exit)) (now (runs .exit)) (now (marks .exit))
+        ≡ workedOf (indexOf (now (mesh .entry)) h (now (starts .entry)) (now (members .entry))) (now (marks .entry)) (now (levels .entry))
+        (now (runs .entry)) p axis ⌝ }
 {
     zero(levels, runs);
     let s = survey(mesh, marks, levels, p, axis, h.r, h.floor);
@@ -138,8 +144,12 @@ fn finish(
     axis: Axis,
     count: usize,
 ) -> Planned
-    requires { ⌜ Askable (now mesh) h (now starts) (now members) × Marked (h .n) 0 (now marks) × (count * 5 ≤ length (now levels)) × (count ≤ 65536) × (anyOf (tooFine p axis (h .r)) (levelsIn (now levels) 0 count) ≡ false) ⌝ }
-    ensures { λ a. ⌜ (settled a (now (levels .exit)) (now (runs .exit)) ≡ finishedOf (now (levels .entry)) (now (runs .entry)) count (foundOn (now (mesh .entry)) h (now (starts .entry)) (now (members .entry)) p axis (levelsIn (now (levels .entry)) 0 count))) × (now (marks .exit) ≡ replicate (h .n) 0) ⌝ }
+    requires { ⌜ Askable (indexOf (now mesh) h (now starts) (now members)) × Marked (h .n) 0 (now marks) × (count * 5 ≤ length (now levels))
+        × (count ≤ 65536) × (anyOf (tooFine p axis (h .r)) (levelsIn (now levels) 0 count) ≡ false) ⌝ }
+    ensures { λ a. ⌜ (settled a (now (levels .exit)) (now (runs .exit))
+        ≡ finishedOf (now (levels .entry)) (now (runs .entry)) count
+        (foundOn (indexOf (now (mesh .entry)) h (now (starts .entry)) (now (members .entry))) p axis (levelsIn (now (levels .entry)) 0 count)))
+        × (now (marks .exit) ≡ replicate (h .n) 0) ⌝ }
 {
     let y = lanes::search_levels(
         mesh,
@@ -176,7 +186,8 @@ fn survey(
     floor: f64,
 ) -> Surveyed
     requires { ⌜ (length (now mesh) ≡ length (now marks) * 9) × (length (now marks) ≤ 65536) ⌝ }
-    ensures { λ s. ⌜ Surveys (levelsOf (now (mesh .entry)) (length (now (marks .entry))) (p .tolerance) (p .«level_tolerance») floor) p axis r (now (levels .entry)) (now (marks .entry)) (now (levels .exit)) (now (marks .exit)) s ⌝ }
+    ensures { λ s. ⌜ Surveys (levelsOf (now (mesh .entry)) (length (now (marks .entry))) (p .tolerance) (p .«level_tolerance») floor) p axis r
+        (now (levels .entry)) (now (marks .entry)) (now (levels .exit)) (now (marks .exit)) s ⌝ }
 {
     let count = levels::find_levels(mesh, marks, p.tolerance, p.level_tolerance, floor, levels);
     walk::wipe(marks);

@@ -7,13 +7,11 @@ use Prim.Native.Nat.{ℕ, zero, suc, _+_, _≤_, _<_}
 use native.Mathlib.Omega.{arith}
 use borrow.Author.Tests.{eqb-true, eqb-false, eq-eqb, ne-eqb, ltb-true, ltb-false}
 use lib.Dec.{eqb, ltb}
-use lib.Ieee.{Float}
 use lib.ListN.{length, getD, set, replicate, length-set, length-replicate, getD-replicate, List·getD-eq-default}
 use lib.Seq.{getD-set-same, getD-set-other, set-out}
-use Rattle.walk.specs.Walk.{Walk, looked, marked, fold, walked, nextStamp, readyMarks, block}
-use Rattle.grid.specs.declared.Header.{Header}
-use Rattle.query.specs.Patch.{patchOf}
-use Rattle.height.specs.Sweep.{sweptIn, sweptOf, sweepOf, raised}
+use Rattle.walk.specs.Walk.{Walk, looked, marked, fold, walked, nextStamp, readyMarks}
+use Rattle.grid.specs.Index.{Index}
+use Rattle.height.specs.Sweep.{Sweep, sweep, capsuleFor, diskStep, capsuleWalk, sweepWalk}
 use Rattle.runs.specs.declared.Run.{Run}
 use Rattle.probe.specs.Probe.{heightUnder}
 use Rattle.probe.specs.Asked.{Marked}
@@ -109,15 +107,18 @@ ready-below n stamp marks m = by (eqb stamp 4294967295)
 
 -- ---- a sweep
 
-module _ (mesh : List Float) (h : Header) (starts members : List ℕ) (stamp : ℕ) (marks : List ℕ) (m : Marked (h .n) stamp marks) (r : Run) where
-  pub swept-value : sweptOf mesh h starts members marks stamp (r .ax) (r .ay) (r .bx) (r .by) (h .r) .value ≡ heightUnder mesh h starts members r
-  unfolding heightUnder sweptOf sweptIn walked
-  swept-value =
-      ap (fold (raised mesh (sweepOf h (r .ax) (r .ay) (r .bx) (r .by) (h .r))) (h .floor)) (looked-same _ _ _ _ _ (ready-alike (h .n) stamp marks m))
+module _ (ix : Index) (stamp : ℕ) (marks : List ℕ) (m : Marked (ix .header .n) stamp marks) (r : Run) where
+  abbrev under : Sweep
+  under = sweep (r .ax) (r .ay) (r .bx) (r .by) (ix .header .r)
 
-  pub swept-marks : Marked (h .n) (nextStamp stamp) (sweptOf mesh h starts members marks stamp (r .ax) (r .ay) (r .bx) (r .by) (h .r) .marks)
-  unfolding sweptOf sweptIn walked
-  swept-marks = let b = ready-below (h .n) stamp marks m in marked-below (nextStamp stamp) (h .n) _ (readyMarks marks stamp) (b .0) (b .1)
+  pub swept-value : sweepWalk ix marks stamp under .value ≡ heightUnder ix r
+  unfolding heightUnder sweepWalk capsuleWalk walked
+  swept-value =
+      ap (fold (diskStep (ix .mesh) (capsuleFor (ix .header) under)) (ix .header .floor)) (looked-same _ _ _ _ _ (ready-alike (ix .header .n) stamp marks m))
+
+  pub swept-marks : Marked (ix .header .n) (nextStamp stamp) (sweepWalk ix marks stamp under .marks)
+  unfolding sweepWalk capsuleWalk walked
+  swept-marks = let b = ready-below (ix .header .n) stamp marks m in marked-below (nextStamp stamp) (ix .header .n) _ (readyMarks marks stamp) (b .0) (b .1)
 
 pub marked-is : (n s t : ℕ) (m k : List ℕ) → s ≡ t → m ≡ k → Marked n t k → Marked n s m
 marked-is n s t m k p q g = rw (p, q) g

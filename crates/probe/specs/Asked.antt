@@ -6,16 +6,16 @@ use Prim.Native.Nat.{ℕ, _*_, _≤_}
 use lib.Dec.{eqb}
 use lib.Ieee.{Float, le}
 use lib.ListN.{length, getD}
-use Rattle.grid.specs.declared.Header.{Header}
+use Rattle.grid.specs.Index.{Index}
 use Rattle.walk.specs.Steps.{Walkable}
 use Rattle.runs.specs.declared.Run.{Run}
 use Rattle.runs.specs.Runs.{lengthOf}
 
 -- Every question over the mesh can be walked.
-pub record Askable (mesh : List Float) (h : Header) (starts members : List ℕ) : Type 0 where
-  pub nine : length mesh ≡ h .n * 9
-  pub few : h .n ≤ 65536
-  pub walkable : (x0 x1 y0 y1 : ℕ) → x1 ≤ h .columns → y1 ≤ h .rows → Walkable starts members (h .n) (h .columns) x0 x1 y0 y1
+pub record Askable (ix : Index) : Type 0 where
+  pub nine : length (ix .mesh) ≡ ix .header .n * 9
+  pub few : ix .header .n ≤ 65536
+  pub walkable : (x0 x1 y0 y1 : ℕ) → x1 ≤ ix .header .columns → y1 ≤ ix .header .rows → Walkable (ix .starts) (ix .members) (ix .header .n) (ix .header .columns) x0 x1 y0 y1
 
 -- The search's own marks: none is above its stamp.
 pub record Marked (n stamp : ℕ) (marks : List ℕ) : Type 0 where

@@ -5,16 +5,16 @@ use Prim.Native.Nat.{ℕ}
 use lib.Ieee.{Float, le}
 use lib.ListN.{replicate}
 use Rattle.numbers.specs.Reals.{_⊕_, _⊖_, absOf}
-use Rattle.grid.specs.declared.Header.{Header}
-use Rattle.height.specs.Sweep.{sweptOf}
+use Rattle.grid.specs.Index.{Index}
+use Rattle.height.specs.Sweep.{sweep, sweepWalk}
 use Rattle.runs.specs.declared.Run.{Run}
 use Rattle.rows.specs.declared.Lane.{Lane}
 use Rattle.rows.specs.Lanes.{between}
 use Rattle.probe.specs.declared.Aim.{Aim}
 
 -- The swept-disk height under a run, at the header's radius, asked with wiped marks.
-unfoldable pub heightUnder : List Float → Header → List ℕ → List ℕ → Run → Float
-heightUnder mesh h starts members r = sweptOf mesh h starts members (replicate (h .n) 0) 0 (r .ax) (r .ay) (r .bx) (r .by) (h .r) .value
+unfoldable pub heightUnder : Index → Run → Float
+heightUnder ix r = sweepWalk ix (replicate (ix .header .n) 0) 0 (sweep (r .ax) (r .ay) (r .bx) (r .by) (ix .header .r)) .value
 
 -- ---- over any height under a run
 module _ (under : Run → Float) where

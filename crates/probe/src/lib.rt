@@ -1,5 +1,6 @@
 // Heights asked along rows, with the search's own marks: whether a sample is on the level, and what becomes of a piece of a run.
 ghost use mathlib.Core.Path.{_≡_};
+ghost use Rattle.grid.specs.Index.{indexOf};
 ghost use Rattle.probe.specs.Probe.{heightUnder, onLevel, clear};
 ghost use Rattle.probe.specs.Asked.{Askable, Marked, splitsOf};
 use grid::Header;
@@ -43,8 +44,9 @@ fn ask(
     stamp: u32,
     r: Run,
 ) -> Asked
-    requires { ⌜ Askable (now mesh) h (now starts) (now members) × Marked (h .n) stamp (now marks) ⌝ }
-    ensures { λ a. ⌜ (a .height ≡ heightUnder (now (mesh .entry)) h (now (starts .entry)) (now (members .entry)) r) × Marked (h .n) (a .stamp) (now (marks .exit)) ⌝ }
+    requires { ⌜ Askable (indexOf (now mesh) h (now starts) (now members)) × Marked (h .n) stamp (now marks) ⌝ }
+    ensures { λ a. ⌜ (a .height ≡ heightUnder (indexOf (now (mesh .entry)) h (now (starts .entry)) (now (members .entry))) r)
+        × Marked (h .n) (a .stamp) (now (marks .exit)) ⌝ }
 {
     let s = height::swept_height(
         mesh,
@@ -77,8 +79,9 @@ pub fn sample(
     l: Lane,
     k: usize,
 ) -> Reading
-    requires { ⌜ Askable (now mesh) h (now starts) (now members) × Marked (h .n) stamp (now marks) ⌝ }
-    ensures { λ o. ⌜ (o .on ≡ onLevel (heightUnder (now (mesh .entry)) h (now (starts .entry)) (now (members .entry))) a l k) × Marked (h .n) (o .stamp) (now (marks .exit)) ⌝ }
+    requires { ⌜ Askable (indexOf (now mesh) h (now starts) (now members)) × Marked (h .n) stamp (now marks) ⌝ }
+    ensures { λ o. ⌜ (o .on ≡ onLevel (heightUnder (indexOf (now (mesh .entry)) h (now (starts .entry)) (now (members .entry)))) a l k)
+        × Marked (h .n) (o .stamp) (now (marks .exit)) ⌝ }
 {
     let t = ask(
         mesh,
@@ -107,8 +110,9 @@ pub fn judge(
     r: Run,
     left: u32,
 ) -> Judged
-    requires { ⌜ Askable (now mesh) h (now starts) (now members) × Marked (h .n) stamp (now marks) ⌝ }
-    ensures { λ j. ⌜ (j .kept ≡ clear (heightUnder (now (mesh .entry)) h (now (starts .entry)) (now (members .entry))) a r) × (j .split ≡ splitsOf (j .kept) (a .least) left r) × Marked (h .n) (j .stamp) (now (marks .exit)) ⌝ }
+    requires { ⌜ Askable (indexOf (now mesh) h (now starts) (now members)) × Marked (h .n) stamp (now marks) ⌝ }
+    ensures { λ j. ⌜ (j .kept ≡ clear (heightUnder (indexOf (now (mesh .entry)) h (now (starts .entry)) (now (members .entry)))) a r)
+        × (j .split ≡ splitsOf (j .kept) (a .least) left r) × Marked (h .n) (j .stamp) (now (marks .exit)) ⌝ }
 {
     let t = ask(mesh, h, starts, members, marks, stamp, r);
     let kept = t.height <= r.z + a.tolerance;

@@ -15,14 +15,10 @@ use Rattle.numbers.proofs.Branches.{either, by-test}
 use Rattle.cells.specs.Cover.{times, weight}
 use Rattle.cells.proofs.Reading.{once}
 use Rattle.walk.specs.Walk.{over, cell, row, block, looked, nextStamp, readyMarks}
-use Rattle.grid.specs.declared.Header.{Header}
-use Rattle.grid.specs.Header.{coversOf}
-use Rattle.grid.specs.Build.{outcome}
-use Rattle.grid.specs.Indexed.{Indexed}
-use Rattle.grid.proofs.Indexing.{built-indexed}
+use Rattle.grid.specs.Index.{Index, coversOf, SoundIndex}
 use Rattle.query.specs.declared.Patch.{Patch}
 use Rattle.query.specs.Usable.{usable}
-use Rattle.query.specs.Looked.{IndexOf, lookedIn, Shares, LooksOnce}
+use Rattle.query.specs.Looked.{within, lookedIn, Shares, LooksOnce}
 use Rattle.query.proofs.Testing.{in-rows}
 use Rattle.query.proofs.Using.{usable-member}
 
@@ -131,41 +127,41 @@ ready-fresh marks stamp i l h =
     (λ e. rw e (λ z. omega (arith, z, h)))
 
 -- ---- demand 3, first half
-module _ (mesh : List Float) (h : Header) (starts members marks : List ℕ) (stamp : ℕ) (p : Patch) (d : Indexed mesh h starts members) (u : usable mesh h starts members marks stamp p ≡ true) (nine : length mesh ≡ length marks * 9) (right : p .x1 ≤ h .columns) (top : p .y1 ≤ h .rows) where
+module _ (ix : Index) (marks : List ℕ) (stamp : ℕ) (p : Patch) (d : SoundIndex ix) (u : usable ix marks stamp p ≡ true) (nine : length (ix .mesh) ≡ length marks * 9) (right : p .x1 ≤ ix .header .columns) (top : p .y1 ≤ ix .header .rows) where
   abbrev numbers : List ℕ
-  numbers = block starts members (h .columns) (p .x0) (p .x1) (p .y0) (p .y1)
+  numbers = within ix p
 
-  in-cells : (x y : ℕ) → x < p .x1 → y < p .y1 → y * h .columns + x < h .rows * h .columns
-  in-cells x y a b = omega (arith, in-rows (h .columns) (x + 1) y (h .rows) (omega arith) (omega arith))
+  in-cells : (x y : ℕ) → x < p .x1 → y < p .y1 → y * ix .header .columns + x < ix .header .rows * ix .header .columns
+  in-cells x y a b = omega (arith, in-rows (ix .header .columns) (x + 1) y (ix .header .rows) (omega arith) (omega arith))
 
   -- in a cell of the question a triangle stands once if it covers the cell, and else not
-  in-cell : (i x y : ℕ) → x < p .x1 → y < p .y1 → i < h .n → times i (cell starts members (y * h .columns + x)) ≡ weight (coversOf mesh h i (y * h .columns + x))
+  in-cell : (i x y : ℕ) → x < p .x1 → y < p .y1 → i < ix .header .n → times i (cell (ix .starts) (ix .members) (y * ix .header .columns + x)) ≡ weight (coversOf ix i (y * ix .header .columns + x))
   in-cell i x y a b l =
-      ap (times i) (d .cell (y * h .columns + x) (in-cells x y a b)) ∙ once (coversOf mesh h) (y * h .columns + x) (h .n) i l
+      ap (times i) (d .cell (y * ix .header .columns + x) (in-cells x y a b)) ∙ once (coversOf ix) (y * ix .header .columns + x) (ix .header .n) i l
 
-  stands : (i : ℕ) → Shares mesh h p i → 0 < times i numbers
+  stands : (i : ℕ) → Shares ix p i → 0 < times i numbers
   stands i s =
-      let t : times i (cell starts members (s .y * h .columns + s .x)) ≡ 1 = rw (in-cell i (s .x) (s .y) (s .column .1) (s .row .1) (s .triangle), s .covers) in
-      over-has (row starts members (h .columns) (p .x0) (p .x1)) (p .y0) (p .y1 - p .y0) i (s .y) (s .row .0) (omega arith)
-      (over-has (λ x. cell starts members (s .y * h .columns + x)) (p .x0) (p .x1 - p .x0) i (s .x) (s .column .0) (omega arith) (omega arith))
+      let t : times i (cell (ix .starts) (ix .members) (s .y * ix .header .columns + s .x)) ≡ 1 = rw (in-cell i (s .x) (s .y) (s .column .1) (s .row .1) (s .triangle), s .covers) in
+      over-has (row (ix .starts) (ix .members) (ix .header .columns) (p .x0) (p .x1)) (p .y0) (p .y1 - p .y0) i (s .y) (s .row .0) (omega arith)
+      (over-has (λ x. cell (ix .starts) (ix .members) (s .y * ix .header .columns + x)) (p .x0) (p .x1 - p .x0) i (s .x) (s .column .0) (omega arith) (omega arith))
 
   -- and where it stands, the two share that cell
-  shares : (i : ℕ) → 0 < times i numbers → Shares mesh h p i
+  shares : (i : ℕ) → 0 < times i numbers → Shares ix p i
   shares i t =
-      let b = over-in (row starts members (h .columns) (p .x0) (p .x1)) (p .y0) (p .y1 - p .y0) i t in
-      let a = over-in (λ x. cell starts members (b .at * h .columns + x)) (p .x0) (p .x1 - p .x0) i (b .stands) in
-      let k = place-of i (cell starts members (b .at * h .columns + a .at)) (a .stands) in
+      let b = over-in (row (ix .starts) (ix .members) (ix .header .columns) (p .x0) (p .x1)) (p .y0) (p .y1 - p .y0) i t in
+      let a = over-in (λ x. cell (ix .starts) (ix .members) (b .at * ix .header .columns + x)) (p .x0) (p .x1 - p .x0) i (b .stands) in
+      let k = place-of i (cell (ix .starts) (ix .members) (b .at * ix .header .columns + a .at)) (a .stands) in
       let x1 : a .at < p .x1 = omega arith in
       let y1 : b .at < p .y1 = omega arith in
-      let m = usable-member mesh h starts members marks stamp p u (a .at) (b .at) (k .at) (a .from) x1 (b .from) y1 (k .inside) .below in
-      let l : i < h .n = rw (k .is) at m in
+      let m = usable-member ix marks stamp p u (a .at) (b .at) (k .at) (a .from) x1 (b .from) y1 (k .inside) .below in
+      let l : i < ix .header .n = rw (k .is) at m in
       record {
         triangle = l;
         x = a .at;
         y = b .at;
         column = (a .from, x1);
         row = (b .from, y1);
-        covers = some (coversOf mesh h i (b .at * h .columns + a .at)) (rw (in-cell i (a .at) (b .at) x1 y1 l) at (a .stands));
+        covers = some (coversOf ix i (b .at * ix .header .columns + a .at)) (rw (in-cell i (a .at) (b .at) x1 y1 l) at (a .stands));
       }
     where
       some : (b : Bool) → 0 < weight b → b ≡ true
@@ -176,12 +172,12 @@ module _ (mesh : List Float) (h : Header) (starts members marks : List ℕ) (sta
   not-marked : (i : ℕ) → 0 < times i numbers → (i < length marks) × (getD (readyMarks marks stamp) i 0 ≡ nextStamp stamp → ⊥)
   not-marked i t =
       let s = shares i t in
-      let k = place-of i (cell starts members (s .y * h .columns + s .x)) (omega (arith, rw (s .covers) at (in-cell i (s .x) (s .y) (s .column .1) (s .row .1) (s .triangle)))) in
-      let m = usable-member mesh h starts members marks stamp p u (s .x) (s .y) (k .at) (s .column .0) (s .column .1) (s .row .0) (s .row .1) (k .inside) .mark in
+      let k = place-of i (cell (ix .starts) (ix .members) (s .y * ix .header .columns + s .x)) (omega (arith, rw (s .covers) at (in-cell i (s .x) (s .y) (s .column .1) (s .row .1) (s .triangle)))) in
+      let m = usable-member ix marks stamp p u (s .x) (s .y) (k .at) (s .column .0) (s .column .1) (s .row .0) (s .row .1) (k .inside) .mark in
       let l : i < length marks = omega (arith, s .triangle, d .nine) in
       (l, ready-fresh marks stamp i l (rw (k .is) at m))
 
-  pub looks-once : LooksOnce mesh h p (lookedIn h starts members marks stamp p)
+  pub looks-once : LooksOnce ix p (lookedIn ix marks stamp p)
   unfolding lookedIn
   looks-once =
       record {
@@ -194,15 +190,10 @@ module _ (mesh : List Float) (h : Header) (starts members marks : List ℕ) (sta
             (by-test (eqb (times i numbers) 0) (λ e. eqb-true _ _ e) (λ e. absurd (n (shares i (positive (times i numbers) (eqb-false _ _ e))))));
       }
 
-  -- so one that stands in the list stands there once
-  pub looks-one : (i : ℕ) → 0 < times i (lookedIn h starts members marks stamp p) → times i (lookedIn h starts members marks stamp p) ≡ 1
+  -- and one that stands in the list is one of those that share a cell
+  pub looks-shared : (i : ℕ) → 0 < times i (lookedIn ix marks stamp p) → Shares ix p i
   unfolding lookedIn
-  looks-one i t =
+  looks-shared i t =
       by-test (eqb (times i numbers) 0)
       (λ e. absurd (omega (arith, t, looked-none (nextStamp stamp) i numbers (readyMarks marks stamp) (eqb-true _ _ e))))
-      (λ e. looks-once .each i (shares i (positive (times i numbers) (eqb-false _ _ e))))
-
--- the index that `build` makes is one
-pub index-of : (mesh : List Float) (h : Header) (starts members : List ℕ) → IndexOf mesh h starts members → Indexed mesh h starts members
-index-of mesh h starts members x =
-    built-indexed mesh (x .floor) (x .r) (x .oldStarts) (x .oldMembers) (outcome (record { refusal = 0; header = h }) starts members) (sym (x .built)) refl
+      (λ e. shares i (positive (times i numbers) (eqb-false _ _ e)))

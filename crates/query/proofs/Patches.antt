@@ -12,7 +12,7 @@ use Rattle.numbers.proofs.Branches.{either, taken, left}
 use Rattle.spans.specs.Axis.{truncated}
 use Rattle.grid.specs.declared.Header.{Header}
 use Rattle.query.specs.declared.Span.{Span}
-use Rattle.query.specs.Patch.{heldTo, spanOf, patchOf, nowhere}
+use Rattle.query.specs.Patch.{heldTo, axisSpan, patchOf, nowhere}
 
 module _ (count first : ℕ) (lo hi : Float) (f : first ≡ truncated lo) (right : lt hi f0 ≡ false) where
   pub held-none : count ≤ first → nowhere ≡ heldTo count lo hi
@@ -32,5 +32,5 @@ held-inside count lo hi =
     (λ _. either (λ (s : Span). s .past ≤ count) (leb count (truncated lo)) _ _ (λ _. omega arith) (λ _. min-le-right (truncated hi + 1) count))
 
 pub patch-inside : (h : Header) (px py qx qy reach : Float) → (patchOf h px py qx qy reach .x1 ≤ h .columns) × (patchOf h px py qx qy reach .y1 ≤ h .rows)
-unfolding patchOf spanOf
+unfolding patchOf axisSpan
 patch-inside h px py qx qy reach = (held-inside (h .columns) _ _, held-inside (h .rows) _ _)

@@ -14,6 +14,7 @@ use Rattle.numbers.specs.Reals.{num}
 use Rattle.numbers.proofs.Branches.{both-true}
 use Rattle.spans.specs.Mesh.{isCoordinate}
 use Rattle.grid.specs.declared.Header.{Header}
+use Rattle.grid.specs.Index.{Index}
 use Rattle.header.specs.Head.{headUsable}
 use Rattle.header.proofs.Ranges.{Headed, headed-is}
 use Rattle.walk.specs.Walk.{cell}
@@ -55,42 +56,42 @@ member-is mesh n marks stamp i e =
     let b = both-true (triangleUsable mesh i) (leb (getD marks i 0) stamp) (a .1) in
     record { below = ltb-true i n (a .0); numbers = λ k. every-at (λ m. isCoordinate (num mesh m)) (9 * i) 9 k (b .0); mark = leb-true (getD marks i 0) stamp (b .1) }
 
-module _ (mesh : List Float) (h : Header) (starts members marks : List ℕ) (stamp : ℕ) (p : Patch) (e : usable mesh h starts members marks stamp p ≡ true) where
+module _ (ix : Index) (marks : List ℕ) (stamp : ℕ) (p : Patch) (e : usable ix marks stamp p ≡ true) where
   abbrev test : ℕ → Bool
-  test = memberUsable mesh (h .n) marks stamp
+  test = memberUsable (ix .mesh) (ix .header .n) marks stamp
 
-  parts : (headUsable mesh h starts ≡ true) × (cellsUsable test starts members (h .columns) p ≡ true)
+  parts : (headUsable (ix .mesh) (ix .header) (ix .starts) ≡ true) × (cellsUsable test (ix .starts) (ix .members) (ix .header .columns) p ≡ true)
   unfolding usable
-  parts = both-true (headUsable mesh h starts) (cellsUsable test starts members (h .columns) p) e
+  parts = both-true (headUsable (ix .mesh) (ix .header) (ix .starts)) (cellsUsable test (ix .starts) (ix .members) (ix .header .columns) p) e
 
-  pub usable-head : Headed mesh h starts
-  usable-head = headed-is mesh h starts (parts .0)
+  pub usable-head : Headed (ix .mesh) (ix .header) (ix .starts)
+  usable-head = headed-is (ix .mesh) (ix .header) (ix .starts) (parts .0)
 
-  usable-cell : (x y : ℕ) → p .x0 ≤ x → x < p .x1 → p .y0 ≤ y → y < p .y1 → cellUsable test starts members (y * h .columns + x) ≡ true
+  usable-cell : (x y : ℕ) → p .x0 ≤ x → x < p .x1 → p .y0 ≤ y → y < p .y1 → cellUsable test (ix .starts) (ix .members) (y * ix .header .columns + x) ≡ true
   unfolding cellsUsable rowUsable
   usable-cell x y a b c d =
-      every-at (λ k. cellUsable test starts members (y * h .columns + k)) (p .x0) (p .x1 - p .x0) x
-      (every-at (rowUsable test starts members (h .columns) (p .x0) (p .x1)) (p .y0) (p .y1 - p .y0) y (parts .1) c (omega arith)) a (omega arith)
+      every-at (λ k. cellUsable test (ix .starts) (ix .members) (y * ix .header .columns + k)) (p .x0) (p .x1 - p .x0) x
+      (every-at (rowUsable test (ix .starts) (ix .members) (ix .header .columns) (p .x0) (p .x1)) (p .y0) (p .y1 - p .y0) y (parts .1) c (omega arith)) a (omega arith)
 
   -- each member of each of the question's cells
-  pub usable-member : (x y k : ℕ) → p .x0 ≤ x → x < p .x1 → p .y0 ≤ y → y < p .y1 → k < length (cell starts members (y * h .columns + x)) → Member mesh (h .n) marks stamp (getD (cell starts members (y * h .columns + x)) k 0)
+  pub usable-member : (x y k : ℕ) → p .x0 ≤ x → x < p .x1 → p .y0 ≤ y → y < p .y1 → k < length (cell (ix .starts) (ix .members) (y * ix .header .columns + x)) → Member (ix .mesh) (ix .header .n) marks stamp (getD (cell (ix .starts) (ix .members) (y * ix .header .columns + x)) k 0)
   unfolding cellUsable
   usable-member x y k a b c d l =
-      let i : ℕ = y * h .columns + x in
-      let u = both-true (leb (getD starts i 0) (getD starts (i + 1) 0)) (leb (getD starts (i + 1) 0) (length members) && each test (cell starts members i)) (usable-cell x y a b c d) in
-      let v = both-true (leb (getD starts (i + 1) 0) (length members)) (each test (cell starts members i)) (u .1) in
-      member-is mesh (h .n) marks stamp _ (each-at test (cell starts members i) k (v .1) l)
+      let i : ℕ = y * ix .header .columns + x in
+      let u = both-true (leb (getD (ix .starts) i 0) (getD (ix .starts) (i + 1) 0)) (leb (getD (ix .starts) (i + 1) 0) (length (ix .members)) && each test (cell (ix .starts) (ix .members) i)) (usable-cell x y a b c d) in
+      let v = both-true (leb (getD (ix .starts) (i + 1) 0) (length (ix .members))) (each test (cell (ix .starts) (ix .members) i)) (u .1) in
+      member-is (ix .mesh) (ix .header .n) marks stamp _ (each-at test (cell (ix .starts) (ix .members) i) k (v .1) l)
 
-  pub walkable : p .x1 ≤ h .columns → p .y1 ≤ h .rows → Walkable starts members (h .n) (h .columns) (p .x0) (p .x1) (p .y0) (p .y1)
+  pub walkable : p .x1 ≤ ix .header .columns → p .y1 ≤ ix .header .rows → Walkable (ix .starts) (ix .members) (ix .header .n) (ix .header .columns) (p .x0) (p .x1) (p .y0) (p .y1)
   unfolding cellUsable
   walkable right top =
       record {
         stretch = λ x y a b c d.
-            let i : ℕ = y * h .columns + x in
-            let u = both-true (leb (getD starts i 0) (getD starts (i + 1) 0)) (leb (getD starts (i + 1) 0) (length members) && each test (cell starts members i)) (usable-cell x y a b c d) in
-            let v = both-true (leb (getD starts (i + 1) 0) (length members)) (each test (cell starts members i)) (u .1) in
+            let i : ℕ = y * ix .header .columns + x in
+            let u = both-true (leb (getD (ix .starts) i 0) (getD (ix .starts) (i + 1) 0)) (leb (getD (ix .starts) (i + 1) 0) (length (ix .members)) && each test (cell (ix .starts) (ix .members) i)) (usable-cell x y a b c d) in
+            let v = both-true (leb (getD (ix .starts) (i + 1) 0) (length (ix .members))) (each test (cell (ix .starts) (ix .members) i)) (u .1) in
             record {
-              inside = omega (arith, in-rows (h .columns) (p .x1) y (p .y1) right d, rows-room mesh h starts (p .y1) usable-head top);
+              inside = omega (arith, in-rows (ix .header .columns) (p .x1) y (p .y1) right d, rows-room (ix .mesh) (ix .header) (ix .starts) (p .y1) usable-head top);
               rises = leb-true _ _ (u .0);
               within = leb-true _ _ (v .0);
             };

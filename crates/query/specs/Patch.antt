@@ -22,13 +22,13 @@ heldTo count lo hi =
     (record { first = truncated lo; past = min (truncated hi + 1) count }))
 
 -- On an axis: round down of (min of its ends - reach - origin)/cell to round down of (max + reach - origin)/cell.
-unfoldable pub spanOf : Float → Float → Float → Float → Float → ℕ → Span
-spanOf a b reach origin cell count =
+unfoldable pub axisSpan : Float → Float → Float → Float → Float → ℕ → Span
+axisSpan a b reach origin cell count =
     heldTo count (roundDownOf ((minOf a b ⊖ reach ⊖ origin) ⊘ cell)) (roundDownOf ((maxOf a b ⊕ reach ⊖ origin) ⊘ cell))
 
 -- The cells of a question from p to q: columns x0 up to x1 of rows y0 up to y1. Reach is the radius or the largest r1.
 unfoldable pub patchOf : Header → Float → Float → Float → Float → Float → Patch
 patchOf h px py qx qy reach =
-    let x = spanOf px qx reach (h .«origin_x») (h .cell) (h .columns) in
-    let y = spanOf py qy reach (h .«origin_y») (h .cell) (h .rows) in
+    let x = axisSpan px qx reach (h .«origin_x») (h .cell) (h .columns) in
+    let y = axisSpan py qy reach (h .«origin_y») (h .cell) (h .rows) in
     record { x0 = x .first; x1 = x .past; y0 = y .first; y1 = y .past }

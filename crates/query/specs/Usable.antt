@@ -8,7 +8,7 @@ use lib.ListN.{length, getD}
 use Rattle.numbers.specs.Reals.{num}
 use Rattle.spans.specs.Mesh.{isCoordinate}
 use Rattle.walk.specs.Walk.{cell}
-use Rattle.grid.specs.declared.Header.{Header}
+use Rattle.grid.specs.Index.{Index}
 use Rattle.header.specs.Head.{headUsable}
 use Rattle.query.specs.declared.Patch.{Patch}
 
@@ -44,12 +44,14 @@ unfoldable pub cellsUsable : (ℕ → Bool) → List ℕ → List ℕ → ℕ �
 cellsUsable test starts members columns p = every (rowUsable test starts members columns (p .x0) (p .x1)) (p .y0) (p .y1 - p .y0)
 
 -- What refusal 7 tests of a question with the cells p.
-unfoldable pub usable : List Float → Header → List ℕ → List ℕ → List ℕ → ℕ → Patch → Bool
-usable mesh h starts members marks stamp p =
-    headUsable mesh h starts && cellsUsable (memberUsable mesh (h .n) marks stamp) starts members (h .columns) p
+unfoldable pub usable : Index → List ℕ → ℕ → Patch → Bool
+usable ix marks stamp p =
+    headUsable (ix .mesh) (ix .header) (ix .starts)
+    && cellsUsable (memberUsable (ix .mesh) (ix .header .n) marks stamp) (ix .starts) (ix .members) (ix .header .columns) p
 
 -- What it tests of the plan: every cell and every triangle, and no mark.
-unfoldable pub usableWhole : List Float → Header → List ℕ → List ℕ → Bool
-usableWhole mesh h starts members =
-    headUsable mesh h starts
-    && (every (triangleUsable mesh) 0 (h .n) && every (cellUsable (λ i. ltb i (h .n)) starts members) 0 (h .rows * h .columns))
+unfoldable pub usableWhole : Index → Bool
+usableWhole ix =
+    headUsable (ix .mesh) (ix .header) (ix .starts)
+    && (every (triangleUsable (ix .mesh)) 0 (ix .header .n)
+    && every (cellUsable (λ i. ltb i (ix .header .n)) (ix .starts) (ix .members)) 0 (ix .header .rows * ix .header .columns))

@@ -2,8 +2,9 @@
 ghost use mathlib.Core.Path.{_≡_};
 ghost use Prim.Native.Nat.{_+_, _*_, _≤_, _<_, min};
 ghost use lib.ListN.{length};
+ghost use Rattle.grid.specs.Index.{indexOf};
 ghost use Rattle.query.specs.Asked.{isMarked, isPoint};
-ghost use Rattle.query.specs.Patch.{heldTo, spanOf, patchOf};
+ghost use Rattle.query.specs.Patch.{heldTo, axisSpan, patchOf};
 ghost use Rattle.query.specs.Near.{squaresOf};
 ghost use Rattle.query.specs.Usable.{each, triangleUsable, memberUsable, cellUsable, rowUsable, cellsUsable, usable};
 use grid::Header;
@@ -67,7 +68,7 @@ fn one_past(count: usize, last: usize) -> usize
 
 // The cells on an axis of a question from a to b.
 fn span_of(a: f64, b: f64, reach: f64, origin: f64, cell: f64, count: usize) -> Span
-    ensures { λ s. ⌜ s ≡ spanOf a b reach origin cell count ⌝ }
+    ensures { λ s. ⌜ s ≡ axisSpan a b reach origin cell count ⌝ }
 {
     let lo = numbers::round_down((numbers::min(a, b) - reach - origin) / cell);
     let hi = numbers::round_down((numbers::max(a, b) + reach - origin) / cell);
@@ -99,7 +100,8 @@ pub fn usable(
     p: Patch,
 ) -> bool
     requires { ⌜ (length (now mesh) ≡ length (now marks) * 9) × (p .x1 ≤ h .columns) × (p .y1 ≤ h .rows) ⌝ }
-    ensures { λ r. ⌜ r ≡ usable (now (mesh .entry)) h (now (starts .entry)) (now (members .entry)) (now (marks .entry)) stamp p ⌝ }
+    ensures { λ r. ⌜ r
+        ≡ usable (indexOf (now (mesh .entry)) h (now (starts .entry)) (now (members .entry))) (now (marks .entry)) stamp p ⌝ }
 {
     let n = h.n;
     let columns = h.columns;
@@ -185,7 +187,8 @@ fn cell_usable(
     c: usize,
 ) -> bool
     requires { ⌜ (length (now mesh) ≡ n * 9) × (length (now marks) ≡ n) × (c + 1 < length (now starts)) ⌝ }
-    ensures { λ r. ⌜ r ≡ cellUsable (memberUsable (now (mesh .entry)) n (now (marks .entry)) stamp) (now (starts .entry)) (now (members .entry)) c ⌝ }
+    ensures { λ r. ⌜ r
+        ≡ cellUsable (memberUsable (now (mesh .entry)) n (now (marks .entry)) stamp) (now (starts .entry)) (now (members .entry)) c ⌝ }
 {
     let a = starts[c] as usize;
     let e = starts[c + 1] as usize;
@@ -214,7 +217,8 @@ fn row_usable(
     y: usize,
 ) -> bool
     requires { ⌜ (length (now mesh) ≡ n * 9) × (length (now marks) ≡ n) × (y * columns + x1 < length (now starts)) ⌝ }
-    ensures { λ r. ⌜ r ≡ rowUsable (memberUsable (now (mesh .entry)) n (now (marks .entry)) stamp) (now (starts .entry)) (now (members .entry)) columns x0 x1 y ⌝ }
+    ensures { λ r. ⌜ r
+        ≡ rowUsable (memberUsable (now (mesh .entry)) n (now (marks .entry)) stamp) (now (starts .entry)) (now (members .entry)) columns x0 x1 y ⌝ }
 {
     for x in x0..x1 {
         if !cell_usable(mesh, n, starts, members, marks, stamp, y * columns + x) {
@@ -236,7 +240,8 @@ fn cells_usable(
     p: Patch,
 ) -> bool
     requires { ⌜ (length (now mesh) ≡ n * 9) × (length (now marks) ≡ n) × (p .x1 ≤ columns) × (p .y1 * columns < length (now starts)) ⌝ }
-    ensures { λ r. ⌜ r ≡ cellsUsable (memberUsable (now (mesh .entry)) n (now (marks .entry)) stamp) (now (starts .entry)) (now (members .entry)) columns p ⌝ }
+    ensures { λ r. ⌜ r
+        ≡ cellsUsable (memberUsable (now (mesh .entry)) n (now (marks .entry)) stamp) (now (starts .entry)) (now (members .entry)) columns p ⌝ }
 {
     let x0 = p.x0;
     let x1 = p.x1;

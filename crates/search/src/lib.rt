@@ -4,6 +4,7 @@ ghost use mathlib.Core.List.{map};
 ghost use mathlib.Core.Bool.{true, false};
 ghost use Prim.Native.Nat.{_+_, _*_, _≤_, _<_};
 ghost use lib.ListN.{length};
+ghost use Rattle.grid.specs.Index.{indexOf};
 ghost use Rattle.rows.specs.Stretches.{endedAt, stretchesFrom, stretchesOf, sampled};
 ghost use Rattle.runs.specs.Pieces.{piecesOf};
 ghost use Rattle.runs.specs.Tallies.{work, takenAll};
@@ -51,8 +52,10 @@ fn end_stretch(
     k: usize,
     s: Stand,
 ) -> Stand
-    requires { ⌜ Askable (now mesh) h (now starts) (now members) × Marked (h .n) (s .stamp) (now marks) × (k ≤ j) × (j ≤ l .samples + 1) ⌝ }
-    ensures { λ e. ⌜ (work (now (runs .exit)) (e .tally) ≡ rowTaken (heightUnder (now (mesh .entry)) h (now (starts .entry)) (now (members .entry))) a l n (work (now (runs .entry)) (s .tally)) (map (numbered forward (l .samples)) (endedAt k j))) × Marked (h .n) (e .stamp) (now (marks .exit)) ⌝ }
+    requires { ⌜ Askable (indexOf (now mesh) h (now starts) (now members)) × Marked (h .n) (s .stamp) (now marks) × (k ≤ j) × (j ≤ l .samples + 1) ⌝ }
+    ensures { λ e. ⌜ (work (now (runs .exit)) (e .tally)
+        ≡ rowTaken (heightUnder (indexOf (now (mesh .entry)) h (now (starts .entry)) (now (members .entry)))) a l n
+        (work (now (runs .entry)) (s .tally)) (map (numbered forward (l .samples)) (endedAt k j))) × Marked (h .n) (e .stamp) (now (marks .exit)) ⌝ }
 {
     if k <= 1 {
         return s;
@@ -75,7 +78,17 @@ fn end_stretch(
 
 // The number of rows with a stretch becomes n.
 fn counted(s: Stand, n: usize) -> Stand
-    ensures { λ e. ⌜ e ≡ record { tally = record { some = s .tally .some; last = s .tally .last; count = s .tally .count; cut = s .tally .cut; dropped = s .tally .dropped; rows = n }; stamp = s .stamp } ⌝ }
+    ensures { λ e. ⌜ e ≡ record {
+      tally = record {
+        some = s .tally .some;
+        last = s .tally .last;
+        count = s .tally .count;
+        cut = s .tally .cut;
+        dropped = s .tally .dropped;
+        rows = n;
+      };
+      stamp = s .stamp;
+    } ⌝ }
 {
     let t = s.tally;
     let last = t.last;
@@ -108,8 +121,10 @@ fn advance(
     j: usize,
     w: Walked,
 ) -> Walked
-    requires { ⌜ Askable (now mesh) h (now starts) (now members) × Marked (h .n) (w .stand .stamp) (now marks) × (w .k ≤ j) × (j ≤ l .samples) × (l .samples ≤ 65535) ⌝ }
-    ensures { λ e. ⌜ Advanced (heightUnder (now (mesh .entry)) h (now (starts .entry)) (now (members .entry))) a l forward n j w (now (runs .entry)) e (now (runs .exit)) × Marked (h .n) (e .stand .stamp) (now (marks .exit)) ⌝ }
+    requires { ⌜ Askable (indexOf (now mesh) h (now starts) (now members)) × Marked (h .n) (w .stand .stamp) (now marks) × (w .k ≤ j)
+        × (j ≤ l .samples) × (l .samples ≤ 65535) ⌝ }
+    ensures { λ e. ⌜ Advanced (heightUnder (indexOf (now (mesh .entry)) h (now (starts .entry)) (now (members .entry)))) a l forward n j w
+        (now (runs .entry)) e (now (runs .exit)) × Marked (h .n) (e .stand .stamp) (now (marks .exit)) ⌝ }
 {
     let s = w.stand;
     let k = w.k;
@@ -168,8 +183,12 @@ pub fn walk_row(
     n: usize,
     s: Stand,
 ) -> Stand
-    requires { ⌜ Askable (now mesh) h (now starts) (now members) × Marked (h .n) (s .stamp) (now marks) × (l .samples ≤ 65535) ⌝ }
-    ensures { λ e. ⌜ (work (now (runs .exit)) (e .tally) ≡ rowTaken (heightUnder (now (mesh .entry)) h (now (starts .entry)) (now (members .entry))) a l n (work (now (runs .entry)) (s .tally)) (map (numbered forward (l .samples)) (stretchesOf (λ j. onLevel (heightUnder (now (mesh .entry)) h (now (starts .entry)) (now (members .entry))) a l (numberOf forward (l .samples) j)) (l .samples)))) × Marked (h .n) (e .stamp) (now (marks .exit)) ⌝ }
+    requires { ⌜ Askable (indexOf (now mesh) h (now starts) (now members)) × Marked (h .n) (s .stamp) (now marks) × (l .samples ≤ 65535) ⌝ }
+    ensures { λ e. ⌜ (work (now (runs .exit)) (e .tally)
+        ≡ rowTaken (heightUnder (indexOf (now (mesh .entry)) h (now (starts .entry)) (now (members .entry)))) a l n
+        (work (now (runs .entry)) (s .tally)) (map (numbered forward (l .samples))
+        (stretchesOf (λ j. onLevel (heightUnder (indexOf (now (mesh .entry)) h (now (starts .entry)) (now (members .entry)))) a l
+        (numberOf forward (l .samples) j)) (l .samples)))) × Marked (h .n) (e .stamp) (now (marks .exit)) ⌝ }
 {
     let samples = l.samples;
     let mut w = Walked { k: 0, stand: s };

@@ -11,7 +11,7 @@ use lib.Ieee.{Float}
 use lib.ListN.{length, take}
 use lib.Seq.{take-length}
 use Rattle.numbers.proofs.Branches.{left}
-use Rattle.grid.specs.declared.Header.{Header}
+use Rattle.grid.specs.Index.{Index}
 use Rattle.grid.specs.Ladder.{demand}
 use Rattle.cells.specs.Cover.{isFrom}
 use Rattle.query.specs.declared.Patch.{Patch}
@@ -20,7 +20,7 @@ use Rattle.query.specs.Usable.{every, usable}
 use Rattle.reach.specs.declared.Chord.{Chord}
 use Rattle.section.specs.declared.Section.{Section}
 use Rattle.section.specs.Section.{validSection}
-use Rattle.ask.specs.Ask.{refusalOf, answerOf, heightOver, rulingOf, chordOver}
+use Rattle.ask.specs.Ask.{refusalOf, answerOf, askedHeight, rulingOf, askedChord}
 use Rattle.tool.specs.Tool.{sectionOf, isTool}
 use Rattle.contact.specs.Contact.{maxSectionsOf}
 use Rattle.chords.specs.Chords.{sectionsChordOf}
@@ -55,24 +55,24 @@ unfolding isTool isFrom
 none = refl
 
 -- a question of no tool is refused, whatever its cells are
-refused : (mesh numbers index : Bool) → eqb (refusalOf mesh numbers false index) 0 ≡ false
-unfolding refusalOf demand
-refused true true index = refl
-refused true false index = refl
-refused false numbers index = refl
+no-rung : (mesh numbers index : Bool) → eqb (demand mesh 1 (demand numbers 2 (demand false 8 (demand index 7 0)))) 0 ≡ false
+unfolding demand
+no-rung true true index = refl
+no-rung true false index = refl
+no-rung false numbers index = refl
 
-module _ (mesh : List Float) (h : Header) (starts members marks : List ℕ) (stamp : ℕ) (numbers : Bool) (p q : Patch) where
-  heights-alike : (f g : Float → ℕ → Float) → heightOver numbers false f mesh h starts members marks stamp p ≡ heightOver numbers false g mesh h starts members marks stamp q
-  unfolding heightOver answerOf refusalOf demand
-  heights-alike f g =
-      let z = refused (isMarked mesh marks) numbers (usable mesh h starts members marks stamp p) in
-      sym (left _ _ _ _ z refl) ∙ left _ _ _ _ z refl
+module _ (ix : Index) (marks : List ℕ) (stamp : ℕ) (numbers : Bool) (p q : Patch) where
+  refused : eqb (refusalOf numbers false ix marks stamp p) 0 ≡ false
+  unfolding refusalOf
+  refused = no-rung (isMarked (ix .mesh) marks) numbers (usable ix marks stamp p)
 
-  chords-alike : (early : Bool) (f g : ℕ → Bool) → chordOver numbers false early f mesh h starts members marks stamp p ≡ chordOver numbers false early g mesh h starts members marks stamp q
-  unfolding chordOver rulingOf refusalOf demand
-  chords-alike early f g =
-      let z = refused (isMarked mesh marks) numbers (usable mesh h starts members marks stamp p) in
-      sym (left _ _ _ _ z refl) ∙ left _ _ _ _ z refl
+  heights-alike : (f g : Float → ℕ → Float) → askedHeight numbers false f ix marks stamp p ≡ askedHeight numbers false g ix marks stamp q
+  unfolding askedHeight answerOf refusalOf demand
+  heights-alike f g = sym (left _ _ _ _ refused refl) ∙ left _ _ _ _ refused refl
+
+  chords-alike : (early : Bool) (f g : ℕ → Bool) → askedChord numbers false early f ix marks stamp p ≡ askedChord numbers false early g ix marks stamp q
+  unfolding askedChord rulingOf refusalOf demand
+  chords-alike early f g = sym (left _ _ _ _ refused refl) ∙ left _ _ _ _ refused refl
 
 -- what is copied of a list is the list, or both are no tool
 on-or-off : (b : Bool) → (b ≡ true) ⊎ (b ≡ false)
@@ -87,9 +87,9 @@ copied-alike f same ss =
     (λ (e : leb (length ss) 32 ≡ false). rw e (same _ _ none (too-many ss (leb-false (length ss) 32 e))))
     (on-or-off (leb (length ss) 32))
 
-module _ (mesh : List Float) (h : Header) (starts members marks : List ℕ) (stamp : ℕ) (ss : List Section) where
-  pub max-copied : (x y : Float) → maxSectionsOf mesh h starts members marks stamp x y (flatOf (take (copiedOf (length ss)) ss)) ≡ maxSectionsOf mesh h starts members marks stamp x y (flatOf ss)
-  max-copied x y = copied-alike (maxSectionsOf mesh h starts members marks stamp x y) (λ s t e f. unfold maxSectionsOf in rw (e, f) (heights-alike mesh h starts members marks stamp _ _ _ _ _)) ss
+module _ (ix : Index) (marks : List ℕ) (stamp : ℕ) (ss : List Section) where
+  pub max-copied : (x y : Float) → maxSectionsOf ix marks stamp x y (flatOf (take (copiedOf (length ss)) ss)) ≡ maxSectionsOf ix marks stamp x y (flatOf ss)
+  max-copied x y = copied-alike (maxSectionsOf ix marks stamp x y) (λ s t e f. unfold maxSectionsOf in rw (e, f) (heights-alike ix marks stamp _ _ _ _ _)) ss
 
-  pub chord-copied : (m : Chord) → sectionsChordOf mesh h starts members marks stamp m (flatOf (take (copiedOf (length ss)) ss)) ≡ sectionsChordOf mesh h starts members marks stamp m (flatOf ss)
-  chord-copied m = copied-alike (sectionsChordOf mesh h starts members marks stamp m) (λ s t e f. unfold sectionsChordOf in rw (e, f) (chords-alike mesh h starts members marks stamp _ _ _ _ _ _)) ss
+  pub chord-copied : (m : Chord) → sectionsChordOf ix marks stamp m (flatOf (take (copiedOf (length ss)) ss)) ≡ sectionsChordOf ix marks stamp m (flatOf ss)
+  chord-copied m = copied-alike (sectionsChordOf ix marks stamp m) (λ s t e f. unfold sectionsChordOf in rw (e, f) (chords-alike ix marks stamp _ _ _ _ _ _)) ss

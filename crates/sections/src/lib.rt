@@ -3,13 +3,10 @@
 ghost use mathlib.Core.Path.{_≡_};
 ghost use Prim.Native.Nat.{_≤_};
 ghost use lib.ListN.{length};
-ghost use Rattle.query.specs.Patch.{patchOf};
-ghost use Rattle.query.specs.Looked.{IndexOf};
+ghost use Rattle.grid.specs.Index.{indexOf};
 ghost use Rattle.ask.specs.Ask.{ended};
-ghost use Rattle.ask.specs.Demand.{LookedAll, LookedTo};
-ghost use Rattle.tool.specs.Tool.{sectionsIn, widestOf, lowestOf};
-ghost use Rattle.contact.specs.Contact.{maxSectionsOf};
-ghost use Rattle.chords.specs.Chords.{blockedAtOnce, toolBlocksAt, sectionsChordOf};
+ghost use Rattle.contact.specs.Contact.{maxSectionsOf, SectionsPromise};
+ghost use Rattle.chords.specs.Chords.{sectionsChordOf, SectionsChordPromise};
 ghost use Rattle.flatten.specs.Flat.{flatOf, heldIn};
 use ask::Answer;
 use ask::Ruling;
@@ -30,8 +27,11 @@ pub fn max_sections(
     py: f64,
     sections: &[Section],
 ) -> Answer
-    ensures { λ a. ⌜ ended a (now (marks .exit)) ≡ maxSectionsOf (now (mesh .entry)) h (now (starts .entry)) (now (members .entry)) (now (marks .entry)) stamp px py (flatOf (now (sections .entry))) ⌝ }
-    ensures { λ a. ⌜ (IndexOf (now (mesh .entry)) h (now (starts .entry)) (now (members .entry)) → a .refusal ≡ 0 → LookedAll (now (mesh .entry)) h (now (starts .entry)) (now (members .entry)) (now (marks .entry)) stamp (patchOf h px py px py (widestOf (flatOf (now (sections .entry))) (sectionsIn (flatOf (now (sections .entry)))))) (a .count)) ⌝ }
+    ensures { λ a. ⌜ ended a (now (marks .exit))
+        ≡ maxSectionsOf (indexOf (now (mesh .entry)) h (now (starts .entry)) (now (members .entry)))
+        (now (marks .entry)) stamp px py (flatOf (now (sections .entry))) ⌝ }
+    ensures { λ a. ⌜ SectionsPromise (indexOf (now (mesh .entry)) h (now (starts .entry)) (now (members .entry)))
+        (now (marks .entry)) stamp px py (flatOf (now (sections .entry))) a ⌝ }
 {
     let t = flatten::flat(sections);
     max_over(mesh, h, starts, members, marks, stamp, px, py, t)
@@ -48,8 +48,11 @@ pub fn sections_chord_clear(
     m: Chord,
     sections: &[Section],
 ) -> Ruling
-    ensures { λ a. ⌜ ended a (now (marks .exit)) ≡ sectionsChordOf (now (mesh .entry)) h (now (starts .entry)) (now (members .entry)) (now (marks .entry)) stamp m (flatOf (now (sections .entry))) ⌝ }
-    ensures { λ a. ⌜ (IndexOf (now (mesh .entry)) h (now (starts .entry)) (now (members .entry)) → a .refusal ≡ 0 → LookedTo (now (mesh .entry)) h (now (starts .entry)) (now (members .entry)) (now (marks .entry)) stamp (patchOf h (m .ax) (m .ay) (m .bx) (m .by) (widestOf (flatOf (now (sections .entry))) (sectionsIn (flatOf (now (sections .entry)))))) (blockedAtOnce (h .floor) m) (toolBlocksAt (now (mesh .entry)) m (lowestOf (flatOf (now (sections .entry))) (sectionsIn (flatOf (now (sections .entry))))) (flatOf (now (sections .entry)))) a) ⌝ }
+    ensures { λ a. ⌜ ended a (now (marks .exit))
+        ≡ sectionsChordOf (indexOf (now (mesh .entry)) h (now (starts .entry)) (now (members .entry)))
+        (now (marks .entry)) stamp m (flatOf (now (sections .entry))) ⌝ }
+    ensures { λ a. ⌜ SectionsChordPromise (indexOf (now (mesh .entry)) h (now (starts .entry)) (now (members .entry)))
+        (now (marks .entry)) stamp m (flatOf (now (sections .entry))) a ⌝ }
 {
     let t = flatten::flat(sections);
     chord_over(mesh, h, starts, members, marks, stamp, m, t)
@@ -68,7 +71,9 @@ fn max_over(
     t: Table,
 ) -> Answer
     requires { ⌜ t .count ≤ length (t .numbers) ⌝ }
-    ensures { λ a. ⌜ ended a (now (marks .exit)) ≡ maxSectionsOf (now (mesh .entry)) h (now (starts .entry)) (now (members .entry)) (now (marks .entry)) stamp px py (heldIn t) ⌝ }
+    ensures { λ a. ⌜ ended a (now (marks .exit))
+        ≡ maxSectionsOf (indexOf (now (mesh .entry)) h (now (starts .entry)) (now (members .entry)))
+        (now (marks .entry)) stamp px py (heldIn t) ⌝ }
 {
     let numbers = t.numbers;
     let n = t.count;
@@ -97,7 +102,9 @@ fn chord_over(
     t: Table,
 ) -> Ruling
     requires { ⌜ t .count ≤ length (t .numbers) ⌝ }
-    ensures { λ a. ⌜ ended a (now (marks .exit)) ≡ sectionsChordOf (now (mesh .entry)) h (now (starts .entry)) (now (members .entry)) (now (marks .entry)) stamp m (heldIn t) ⌝ }
+    ensures { λ a. ⌜ ended a (now (marks .exit))
+        ≡ sectionsChordOf (indexOf (now (mesh .entry)) h (now (starts .entry)) (now (members .entry)))
+        (now (marks .entry)) stamp m (heldIn t) ⌝ }
 {
     let numbers = t.numbers;
     let n = t.count;

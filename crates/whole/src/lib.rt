@@ -3,12 +3,13 @@ ghost use mathlib.Core.Path.{_≡_};
 ghost use Prim.Native.Nat.{_+_, _*_, _≤_, _<_};
 ghost use lib.Dec.{ltb};
 ghost use lib.ListN.{length};
+ghost use Rattle.grid.specs.Index.{indexOf};
 ghost use Rattle.query.specs.Usable.{every, each, triangleUsable, cellUsable, usableWhole};
 use grid::Header;
 
 // Whether header and tables can be used for any question over the mesh.
 pub fn usable_whole(mesh: &[f64], h: Header, starts: &[u32], members: &[u32]) -> bool
-    ensures { λ r. ⌜ r ≡ usableWhole (now (mesh .entry)) h (now (starts .entry)) (now (members .entry)) ⌝ }
+    ensures { λ r. ⌜ r ≡ usableWhole (indexOf (now (mesh .entry)) h (now (starts .entry)) (now (members .entry))) ⌝ }
 {
     let n = h.n;
     let columns = h.columns;

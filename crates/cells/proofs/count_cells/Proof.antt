@@ -10,7 +10,7 @@ use Rattle.cells.proofs.count_cells.Tie as tie
 
 abbrev Inv-loop : tie.InvT-loop
 Inv-loop starts₀ columns x0 x1 y0 y1 y₀ y-end starts y =
-    Counted (rowsUnder columns (record { x0 = x0; x1 = x1; y0 = y0; y1 = y1 }) y) starts₀ starts × (y-end ≡ y1 + 1) × (y0 ≤ y) × (y ≤ max y0 y-end)
+    Counted (rowsUnder columns (record { left = x0; right = x1; bottom = y0; top = y1 }) y) starts₀ starts × (y-end ≡ y1 + 1) × (y0 ≤ y) × (y ≤ max y0 y-end)
 
 abbrev μ-loop : tie.MeasureT-loop
 μ-loop starts₀ columns x0 x1 y0 y1 y₀ y-end starts y = y-end - y

@@ -10,7 +10,7 @@ use Rattle.cells.proofs.place_cells.Tie as tie
 
 abbrev Inv-loop : tie.InvT-loop
 Inv-loop starts₀ members₀ columns i x0 x1 y0 y1 y₀ y-end starts members y =
-    Placed (rowsUnder columns (record { x0 = x0; x1 = x1; y0 = y0; y1 = y1 }) y) i starts₀ members₀ starts members × (y-end ≡ y1 + 1) × (y0 ≤ y) × (y ≤ max y0 y-end)
+    Placed (rowsUnder columns (record { left = x0; right = x1; bottom = y0; top = y1 }) y) i starts₀ members₀ starts members × (y-end ≡ y1 + 1) × (y0 ≤ y) × (y ≤ max y0 y-end)
 
 abbrev μ-loop : tie.MeasureT-loop
 μ-loop starts₀ members₀ columns i x0 x1 y0 y1 y₀ y-end starts members y = y-end - y
@@ -42,7 +42,7 @@ place-row-requires c κs =
     let s = c .before .before .before .before .before .before .before in
     let l = c .before .before .before .loop in
     let b = s .args .b in
-    let h : l .y ≤ b .y1 = omega (arith, l .inv) in
+    let h : l .y ≤ b .top = omega (arith, l .inv) in
     open-part _ _ _ _ _ _ _ _ (λ k e. (row-covered _ b _ k (s .pre .0 .right) (l .inv .2) h e, row-new _ b _ k (s .pre .0 .right) (l .inv .2) h e)) (s .pre .1) (l .inv .0)
 
 loop-again : tie.Need-loop-again Inv-loop μ-loop

@@ -1,7 +1,7 @@
 use borrow.Author.Needs.{needs}
 use mathlib.Core.Path.{ap, sym, _∙_}
 use Prim.Native.Nat.{ℕ}
-use Rattle.grid.specs.Build.{outcome}
+use Rattle.grid.specs.Build.{outcome, acceptedWith}
 use Rattle.desk.specs.Doors.{builtLeftBy, headerFrom}
 use Rattle.desk.proofs.Left.{narrow, refused-left, accepted-left}
 use Rattle.desk.proofs.mandrikelo_build.Statement.{statement}
@@ -11,7 +11,7 @@ returns : tie.Need-returns
 returns c =
     let b = c .before .before .before .before .before .before .before .build in
     let some = c .before .before .if1 .taken in
-    (refused-left (outcome (b .result) (b .last .1 .1 .1 .0) (b .last .1 .1 .1 .1 .0)) some ∙ ap builtLeftBy (b .ensures .0), (λ none. absurd (some none), λ none. absurd (some none)))
+    (refused-left (outcome (b .result) (b .last .1 .1 .1 .0) (b .last .1 .1 .1 .1 .0)) some ∙ ap builtLeftBy (b .ensures .0), record { sound = λ none. absurd (some none); built = λ none. absurd (some none) })
 
 cast-t16 : tie.Need-cast-t16
 cast-t16 c =
@@ -29,7 +29,7 @@ cast-t18 c =
     record { fits = narrow (b .result .header) (b .ensures .1 (c .before .before .before .before .before .if1 .left) .ranges) .rows }
 
 returns-2 : tie.Need-returns-2
-unfolding headerFrom
+unfolding headerFrom acceptedWith
 returns-2 c =
     let b = c .before .before .before .before .before .before .before .before .before .before .before .build in
     let a = c .before .before .before .before .before .before .before .before .before .before .before .before .before .before .before .before .before .args in
@@ -37,10 +37,10 @@ returns-2 c =
     let s = b .last .1 .1 .1 .0 in
     let m = b .last .1 .1 .1 .1 .0 in (
       accepted-left (outcome (b .result) s m) zero ∙ ap builtLeftBy (b .ensures .0),
-      (
-        b .ensures .1,
-        λ none. record { floor = a .floor; r = a .r; oldStarts = a .starts .now; oldMembers = a .members .now; built = sym (b .ensures .0) ∙ ap (λ (k : ℕ). outcome (record { refusal = k; header = b .result .header }) s m) zero },
-      ),
+      record {
+        sound = b .ensures .1;
+        built = λ none. record { floor = a .floor; r = a .r; oldStarts = a .starts .now; oldMembers = a .members .now; built = sym (b .ensures .0) ∙ ap (λ (k : ℕ). outcome (record { refusal = k; header = b .result .header }) s m) zero };
+      },
     )
 
 pub mandrikelo-build-spec : {M : Type 1} → statement M

@@ -1,8 +1,6 @@
 use borrow.Author.Needs.{needs}
-use Rattle.query.specs.Patch.{patchOf}
-use Rattle.query.specs.Looked.{IndexOf}
-use Rattle.ask.specs.Demand.{LookedAll}
-use Rattle.contact.specs.Contact.{maxBullOf}
+use Rattle.grid.specs.Index.{indexOf}
+use Rattle.contact.specs.Contact.{maxBullOf, BullPromise}
 use Rattle.desk.specs.Doors.{headerFrom}
 use Rattle.desk.proofs.Asked.{height-told}
 use Rattle.desk.proofs.mandrikelo_max_bull.Statement.{statement}
@@ -13,9 +11,9 @@ returns c =
     let b = c .before .before .before .before .before .before in
     let a = b .before .before .before .before .before .args in
     let q = c .before .before .before .before .max-bull in
-    height-told (λ h. IndexOf (a .mesh .now) h (a .starts .now) (a .members .now)) (b .header-from .result) (headerFrom (a .measures .now) (a .sizes .now)) (b .header-from .ensures)
-    (λ h. maxBullOf (a .mesh .now) h (a .starts .now) (a .members .now) (a .marks .now) (a .stamp) (record { x = a .px; y = a .py; r = a .r; rc = a .rc }))
-    (λ h w. LookedAll (a .mesh .now) h (a .starts .now) (a .members .now) (a .marks .now) (a .stamp) (patchOf h (a .px) (a .py) (a .px) (a .py) (a .r)) (w .count))
+    height-told (b .header-from .result) (headerFrom (a .measures .now) (a .sizes .now)) (b .header-from .ensures)
+    (λ h. maxBullOf (indexOf (a .mesh .now) h (a .starts .now) (a .members .now)) (a .marks .now) (a .stamp) (record { x = a .px; y = a .py; r = a .r; rc = a .rc }))
+    (λ h w. BullPromise (indexOf (a .mesh .now) h (a .starts .now) (a .members .now)) (a .marks .now) (a .stamp) (record { x = a .px; y = a .py; r = a .r; rc = a .rc }) w)
     (q .result) _ (q .ensures .0) (q .ensures .1)
 
 pub mandrikelo-max-bull-spec : {M : Type 1} → statement M

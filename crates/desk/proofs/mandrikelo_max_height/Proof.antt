@@ -1,7 +1,8 @@
 use borrow.Author.Needs.{needs}
-use Rattle.query.specs.Looked.{IndexOf}
+use Rattle.grid.specs.Index.{indexOf}
+use Rattle.height.specs.Sweep.{sweep}
 use Rattle.height.specs.Height.{maxHeightOf}
-use Rattle.height.specs.Demand.{Demand3}
+use Rattle.height.specs.Demand.{DiskPromise}
 use Rattle.desk.specs.Doors.{headerFrom}
 use Rattle.desk.proofs.Asked.{height-told}
 use Rattle.desk.proofs.mandrikelo_max_height.Statement.{statement}
@@ -12,9 +13,9 @@ returns c =
     let b = c .before .before .before .before .before .before in
     let a = b .before .before .before .before .before .args in
     let q = c .before .before .before .before .max-height in
-    height-told (λ h. IndexOf (a .mesh .now) h (a .starts .now) (a .members .now)) (b .header-from .result) (headerFrom (a .measures .now) (a .sizes .now)) (b .header-from .ensures)
-    (λ h. maxHeightOf (a .mesh .now) h (a .starts .now) (a .members .now) (a .marks .now) (a .stamp) (a .px) (a .py) (a .qx) (a .qy) (a .r))
-    (λ h w. Demand3 (a .mesh .now) h (a .starts .now) (a .members .now) (a .marks .now) (a .stamp) (a .px) (a .py) (a .qx) (a .qy) (a .r) w)
+    height-told (b .header-from .result) (headerFrom (a .measures .now) (a .sizes .now)) (b .header-from .ensures)
+    (λ h. maxHeightOf (indexOf (a .mesh .now) h (a .starts .now) (a .members .now)) (a .marks .now) (a .stamp) (sweep (a .px) (a .py) (a .qx) (a .qy) (a .r)))
+    (λ h w. DiskPromise (indexOf (a .mesh .now) h (a .starts .now) (a .members .now)) (a .marks .now) (a .stamp) (sweep (a .px) (a .py) (a .qx) (a .qy) (a .r)) w)
     (q .result) _ (q .ensures .0) (q .ensures .1)
 
 pub mandrikelo-max-height-spec : {M : Type 1} → statement M

@@ -1,9 +1,6 @@
 use borrow.Author.Needs.{needs}
-use Rattle.query.specs.Patch.{patchOf}
-use Rattle.query.specs.Looked.{IndexOf}
-use Rattle.ask.specs.Demand.{LookedAll}
-use Rattle.tool.specs.Tool.{widestOf, sectionsIn}
-use Rattle.contact.specs.Contact.{maxSectionsOf}
+use Rattle.grid.specs.Index.{indexOf}
+use Rattle.contact.specs.Contact.{maxSectionsOf, SectionsPromise}
 use Rattle.desk.specs.Doors.{headerFrom}
 use Rattle.desk.proofs.Asked.{height-told}
 use Rattle.desk.proofs.mandrikelo_max_sections.Statement.{statement}
@@ -14,9 +11,9 @@ returns c =
     let b = c .before .before .before .before .before .before in
     let a = b .before .before .before .before .before .before .args in
     let q = c .before .before .before .before .max-sections in
-    height-told (λ h. IndexOf (a .mesh .now) h (a .starts .now) (a .members .now)) (b .header-from .result) (headerFrom (a .measures .now) (a .sizes .now)) (b .header-from .ensures)
-    (λ h. maxSectionsOf (a .mesh .now) h (a .starts .now) (a .members .now) (a .marks .now) (a .stamp) (a .px) (a .py) (a .sections .now))
-    (λ h w. LookedAll (a .mesh .now) h (a .starts .now) (a .members .now) (a .marks .now) (a .stamp) (patchOf h (a .px) (a .py) (a .px) (a .py) (widestOf (a .sections .now) (sectionsIn (a .sections .now)))) (w .count))
+    height-told (b .header-from .result) (headerFrom (a .measures .now) (a .sizes .now)) (b .header-from .ensures)
+    (λ h. maxSectionsOf (indexOf (a .mesh .now) h (a .starts .now) (a .members .now)) (a .marks .now) (a .stamp) (a .px) (a .py) (a .sections .now))
+    (λ h w. SectionsPromise (indexOf (a .mesh .now) h (a .starts .now) (a .members .now)) (a .marks .now) (a .stamp) (a .px) (a .py) (a .sections .now) w)
     (q .result) _ (q .ensures .0) (q .ensures .1)
 
 pub mandrikelo-max-sections-spec : {M : Type 1} → statement M

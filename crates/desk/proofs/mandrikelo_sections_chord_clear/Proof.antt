@@ -1,10 +1,7 @@
 use borrow.Author.Needs.{needs}
 use Rattle.reach.specs.declared.Chord.{Chord}
-use Rattle.query.specs.Patch.{patchOf}
-use Rattle.query.specs.Looked.{IndexOf}
-use Rattle.ask.specs.Demand.{LookedTo}
-use Rattle.tool.specs.Tool.{widestOf, lowestOf, sectionsIn}
-use Rattle.chords.specs.Chords.{sectionsChordOf, blockedAtOnce, toolBlocksAt}
+use Rattle.grid.specs.Index.{indexOf}
+use Rattle.chords.specs.Chords.{sectionsChordOf, SectionsChordPromise}
 use Rattle.desk.specs.Doors.{headerFrom}
 use Rattle.desk.proofs.Asked.{verdict-told}
 use Rattle.desk.proofs.mandrikelo_sections_chord_clear.Statement.{statement}
@@ -16,9 +13,9 @@ returns c =
     let a = b .before .before .before .before .before .before .args in
     let q = c .before .before .before .before .sections-chord-clear in
     let m : Chord = record { ax = a .ax; ay = a .ay; az = a .az; bx = a .bx; by = a .by; bz = a .bz; lift = a .lift } in
-    verdict-told (λ h. IndexOf (a .mesh .now) h (a .starts .now) (a .members .now)) (b .header-from .result) (headerFrom (a .measures .now) (a .sizes .now)) (b .header-from .ensures)
-    (λ h. sectionsChordOf (a .mesh .now) h (a .starts .now) (a .members .now) (a .marks .now) (a .stamp) m (a .sections .now))
-    (λ h w. LookedTo (a .mesh .now) h (a .starts .now) (a .members .now) (a .marks .now) (a .stamp) (patchOf h (a .ax) (a .ay) (a .bx) (a .by) (widestOf (a .sections .now) (sectionsIn (a .sections .now)))) (blockedAtOnce (h .floor) m) (toolBlocksAt (a .mesh .now) m (lowestOf (a .sections .now) (sectionsIn (a .sections .now))) (a .sections .now)) w)
+    verdict-told (b .header-from .result) (headerFrom (a .measures .now) (a .sizes .now)) (b .header-from .ensures)
+    (λ h. sectionsChordOf (indexOf (a .mesh .now) h (a .starts .now) (a .members .now)) (a .marks .now) (a .stamp) m (a .sections .now))
+    (λ h w. SectionsChordPromise (indexOf (a .mesh .now) h (a .starts .now) (a .members .now)) (a .marks .now) (a .stamp) m (a .sections .now) w)
     (q .result) _ (c .before .finding-number .result) (c .before .finding-number .ensures) (q .ensures .0) (q .ensures .1)
 
 pub mandrikelo-sections-chord-clear-spec : {M : Type 1} → statement M

@@ -6,18 +6,18 @@ use Rattle.desk.proofs.plan_along.Tie as tie
 returns : tie.Need-returns
 returns c =
     let d = c .before .before .before .before .before .before in
-    along-x _ _ _ _ _ _ _ _ _ _ (d .before .before .before .before .if1 .taken) (d .plan .ensures)
+    along-x _ _ _ _ _ _ _ (d .before .before .before .before .if1 .taken) (d .plan .ensures .0)
 
 returns-2 : tie.Need-returns-2
 returns-2 c =
     let d = c .before .before .before .before .before .before in
     let e = d .before .before .before .before in
-    along-y _ _ _ _ _ _ _ _ _ _ (e .before .if1 .left) (e .if2 .taken) (d .plan2 .ensures)
+    along-y _ _ _ _ _ _ _ (e .before .if1 .left) (e .if2 .taken) (d .plan2 .ensures .0)
 
 returns-3 : tie.Need-returns-3
 returns-3 c =
     let e = c .before .before .before in
-    along-none _ _ _ _ _ _ _ _ _ _ _ (e .before .if1 .left) (e .if2 .left) (c .before .no-axis .ensures) (c .refused .ensures)
+    along-none _ _ _ _ _ _ _ _ (e .before .if1 .left) (e .if2 .left) (c .before .no-axis .ensures) (c .refused .ensures)
 
 pub plan-along-spec : {M : Type 1} → statement M
 plan-along-spec =

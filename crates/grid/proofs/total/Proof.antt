@@ -23,7 +23,7 @@ area-requires : tie.Need-area-requires Inv-loop μ-loop
 area-requires c κs =
     let s = c .before .before .before .before in
     let f = fitting _ (s .args .g) _ (s .pre) (c .before .before .loop .i) in
-    subst⁻¹ (λ (b : Cells). (b .x1 < 65536) × (b .y1 < 65536)) (c .cells-of .ensures) (omega (arith, f))
+    subst⁻¹ (λ (b : Cells). (b .right < 65536) × (b .top < 65536)) (c .cells-of .ensures) (omega (arith, f))
 
 add-t : tie.Need-add-t Inv-loop μ-loop
 add-t c = omega (arith, c .before .before .before .before .before .pre .few)

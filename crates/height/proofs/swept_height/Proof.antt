@@ -1,6 +1,6 @@
 use borrow.Author.Needs.{needs}
 use mathlib.Core.Path.{_∙_}
-use Rattle.height.specs.Sweep.{sweptOf}
+use Rattle.height.specs.Sweep.{sweepWalk}
 use Rattle.height.proofs.swept_height.Statement.{statement}
 use Rattle.height.proofs.swept_height.Tie as tie
 
@@ -10,7 +10,7 @@ sweep-in-requires c κs =
     (s .pre .0, s .pre .1, rw (c .before .before .patch-of .ensures) (s .pre .2))
 
 returns : tie.Need-returns
-unfolding sweptOf
+unfolding sweepWalk
 returns c =
     let d = c .before .before in
     (d .sweep-in .ensures .0 ∙ (rw (d .before .capsule-of .ensures, d .before .before .before .patch-of .ensures)), d .sweep-in .ensures .1)

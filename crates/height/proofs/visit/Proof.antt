@@ -7,21 +7,21 @@ use denote.Ref.{now}
 use Rattle.walk.specs.Walk.{over, cell, row, block, fold}
 use Rattle.walk.specs.Steps.{seen, look}
 use Rattle.walk.proofs.Rings.{Going, going-starts, ring-turns, ring-ends, kept-trans, kept-room}
-use Rattle.height.specs.Sweep.{raised}
+use Rattle.height.specs.Sweep.{diskStep}
 use Rattle.ask.proofs.Answers.{cell-keeps}
 use Rattle.height.proofs.visit.Statement.{statement}
 use Rattle.height.proofs.visit.Tie as tie
 
 abbrev Inv-loop2 : tie.InvT-loop2
 Inv-loop2 mesh starts members marks₀ stamp columns q x0 x1 y0 y1 found₀ y x₀ marks found x =
-    Going stamp (look stamp (raised mesh q)) (seen marks₀ found₀) (row starts members columns x0 x1 y) (seen marks found) (over (λ k. cell starts members (y * columns + k)) x (x1 - x)) × (x0 ≤ x)
+    Going stamp (look stamp (diskStep mesh q)) (seen marks₀ found₀) (row starts members columns x0 x1 y) (seen marks found) (over (λ k. cell starts members (y * columns + k)) x (x1 - x)) × (x0 ≤ x)
 
 abbrev μ-loop2 : tie.MeasureT-loop2
 μ-loop2 mesh starts members marks₀ stamp columns q x0 x1 y0 y1 found₀ y x₀ marks found x = x1 - x
 
 abbrev Inv-loop : tie.InvT-loop
 Inv-loop mesh starts members marks₀ stamp columns q x0 x1 y0 y1 found₀ y₀ marks found y =
-    Going stamp (look stamp (raised mesh q)) (seen marks₀ found₀) (block starts members columns x0 x1 y0 y1) (seen marks found) (block starts members columns x0 x1 y y1) × (y0 ≤ y)
+    Going stamp (look stamp (diskStep mesh q)) (seen marks₀ found₀) (block starts members columns x0 x1 y0 y1) (seen marks found) (block starts members columns x0 x1 y y1) × (y0 ≤ y)
 
 abbrev μ-loop : tie.MeasureT-loop
 μ-loop mesh starts members marks₀ stamp columns q x0 x1 y0 y1 found₀ y₀ marks found y = y1 - y

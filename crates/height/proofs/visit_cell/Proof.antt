@@ -6,13 +6,13 @@ use borrow.Author.Needs.{needs}
 use lib.ListN.{length, drop}
 use Rattle.walk.specs.Steps.{seen, look}
 use Rattle.walk.proofs.Rings.{Going, going-starts, member-turns, members-end, kept-room, look-keeps}
-use Rattle.height.specs.Sweep.{raised}
+use Rattle.height.specs.Sweep.{diskStep}
 use Rattle.height.proofs.visit_cell.Statement.{statement}
 use Rattle.height.proofs.visit_cell.Tie as tie
 
 abbrev Inv-loop : tie.InvT-loop
 Inv-loop mesh part marks₀ stamp q found₀ j₀ j-end marks found j =
-    Going stamp (look stamp (raised mesh q)) (seen marks₀ found₀) part (seen marks found) (drop j part) × (j-end ≡ length part) × (j ≤ j-end)
+    Going stamp (look stamp (diskStep mesh q)) (seen marks₀ found₀) part (seen marks found) (drop j part) × (j-end ≡ length part) × (j ≤ j-end)
 
 abbrev μ-loop : tie.MeasureT-loop
 μ-loop mesh part marks₀ stamp q found₀ j₀ j-end marks found j = j-end - j

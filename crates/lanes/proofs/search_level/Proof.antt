@@ -4,6 +4,7 @@ use mathlib.Core.Path.{_≡_, refl}
 use native.Mathlib.Omega.{arith}
 use borrow.Author.Needs.{needs}
 use lib.ListN.{length}
+use Rattle.grid.specs.Index.{indexOf}
 use Rattle.runs.specs.Tallies.{work}
 use Rattle.probe.specs.Probe.{heightUnder}
 use Rattle.probe.specs.Asked.{Marked}
@@ -14,7 +15,7 @@ use Rattle.lanes.proofs.search_level.Tie as tie
 
 abbrev Inv-loop : tie.InvT-loop
 Inv-loop mesh h starts members marks₀ runs₀ p axis level r a rows stand₀ row₀ marks runs stand row =
-    Laning (heightUnder mesh h starts members) a (laneOf p axis r level) (work runs₀ (stand₀ .tally)) (work runs (stand .tally)) row rows
+    Laning (heightUnder (indexOf mesh h starts members)) a (laneOf p axis r level) (work runs₀ (stand₀ .tally)) (work runs (stand .tally)) row rows
     × Marked (h .n) (stand .stamp) marks
     × (row ≤ rows)
     × (length marks ≡ length marks₀)

@@ -4,6 +4,7 @@ use mathlib.Core.Path.{_≡_, refl, ap}
 use native.Mathlib.Omega.{arith}
 use borrow.Author.Needs.{needs}
 use lib.ListN.{length}
+use Rattle.grid.specs.Index.{indexOf}
 use Rattle.runs.specs.declared.Tally.{Tally}
 use Rattle.runs.specs.Tallies.{work}
 use Rattle.probe.specs.Probe.{heightUnder}
@@ -15,7 +16,7 @@ use Rattle.lanes.proofs.search_levels.Tie as tie
 
 abbrev Inv-loop : tie.InvT-loop
 Inv-loop mesh h starts members marks₀ runs₀ p axis levels count stand₀ m₀ marks runs stand m =
-    Sweeping (heightUnder mesh h starts members) p axis (h .r) levels (work runs₀ (stand₀ .tally)) (work runs (stand .tally)) m count
+    Sweeping (heightUnder (indexOf mesh h starts members)) p axis (h .r) levels (work runs₀ (stand₀ .tally)) (work runs (stand .tally)) m count
     × Marked (h .n) (stand .stamp) marks
     × (m ≤ count)
     × (length marks ≡ length marks₀)

@@ -1,5 +1,6 @@
 -- `plan::work` meets its contract. In its places z both tables are zeroed, in v the levels are surveyed, in i they are refused or not.
 use native.Mathlib.Omega.{arith}
+use Rattle.grid.specs.Index.{indexOf}
 use Rattle.plan.proofs.Answering.{levels-refused, search-asks, found-settled}
 use Rattle.plan.proofs.work.Statement.{statement}
 use Rattle.plan.proofs.work.Tie as tie
@@ -16,7 +17,7 @@ returns c =
     let v = i .before .before .before .before .before in
     let z = v .before .before .before .before .before .before .before in
     let s = z .before .before .before .before .before .before .before .before .before in
-    levels-refused (s .args .mesh .now) (s .args .h) (s .args .starts .now) (s .args .members .now) (s .args .marks .now) (s .args .levels .now) (s .args .runs .now) (s .args .p) (s .args .axis)
+    levels-refused (indexOf (s .args .mesh .now) (s .args .h) (s .args .starts .now) (s .args .members .now)) (s .args .marks .now) (s .args .levels .now) (s .args .runs .now) (s .args .p) (s .args .axis)
     _ _ _ _ _ (s .pre .size) (z .zero .ensures .0) (z .zero .ensures .1) (v .survey .ensures) (i .if1 .taken) _ (d .give-up .ensures)
 
 finish-requires : tie.Need-finish-requires
@@ -25,7 +26,7 @@ finish-requires c κs =
     let v = i .before .before .before .before .before in
     let z = v .before .before .before .before .before .before .before in
     let s = z .before .before .before .before .before .before .before .before .before in
-    search-asks (s .args .mesh .now) (s .args .h) (s .args .starts .now) (s .args .members .now) (s .args .marks .now) (s .args .levels .now) (s .args .runs .now) (s .args .p) (s .args .axis)
+    search-asks (indexOf (s .args .mesh .now) (s .args .h) (s .args .starts .now) (s .args .members .now)) (s .args .marks .now) (s .args .levels .now) (s .args .runs .now) (s .args .p) (s .args .axis)
     _ _ _ _ _ (s .pre .size) (z .zero .ensures .0) (z .zero .ensures .1) (v .survey .ensures) (i .if1 .left) (s .pre .askable)
 
 returns-2 : tie.Need-returns-2
@@ -35,7 +36,7 @@ returns-2 c =
     let v = i .before .before .before .before .before in
     let z = v .before .before .before .before .before .before .before in
     let s = z .before .before .before .before .before .before .before .before .before in
-    found-settled (s .args .mesh .now) (s .args .h) (s .args .starts .now) (s .args .members .now) (s .args .marks .now) (s .args .levels .now) (s .args .runs .now) (s .args .p) (s .args .axis)
+    found-settled (indexOf (s .args .mesh .now) (s .args .h) (s .args .starts .now) (s .args .members .now)) (s .args .marks .now) (s .args .levels .now) (s .args .runs .now) (s .args .p) (s .args .axis)
     _ _ _ _ _ (s .pre .size) (z .zero .ensures .0) (z .zero .ensures .1) (v .survey .ensures) (i .if1 .left) _ _ (d .finish .ensures .0) (d .finish .ensures .1)
 
 pub work-spec : {M : Type 1} → statement M

@@ -21,8 +21,8 @@ returns : tie.Need-returns
 returns c =
     let s = c .before .before .before .before .before .before .before .before in
     let e = c .before .before .swept-height .ensures in (
-      ap (λ (w : Walk Float). w .value) (e .0) ∙ swept-value _ _ _ _ _ _ (s .pre .1) (s .args .r),
-      marked-is _ _ _ _ _ (e .1) (ap (λ (w : Walk Float). w .marks) (e .0)) (swept-marks _ _ _ _ _ _ (s .pre .1) (s .args .r)),
+      ap (λ (w : Walk Float). w .value) (e .0) ∙ swept-value _ _ _ (s .pre .1) (s .args .r),
+      marked-is _ _ _ _ _ (e .1) (ap (λ (w : Walk Float). w .marks) (e .0)) (swept-marks _ _ _ (s .pre .1) (s .args .r)),
     )
 
 pub ask-spec : {M : Type 1} → statement M

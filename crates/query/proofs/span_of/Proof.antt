@@ -1,9 +1,9 @@
-use Rattle.query.specs.Patch.{spanOf}
+use Rattle.query.specs.Patch.{axisSpan}
 use Rattle.query.proofs.span_of.Statement.{statement}
 use Rattle.query.proofs.span_of.Tie as tie
 
 returns : tie.Need-returns
-unfolding spanOf
+unfolding axisSpan
 returns c = cc
 
 pub span-of-spec : {M : Type 1} → statement M

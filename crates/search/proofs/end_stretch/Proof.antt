@@ -1,6 +1,7 @@
 use mathlib.Core.Path.{_≡_, ap, _∙_}
 use native.Mathlib.Omega.{arith}
 use borrow.Author.Needs.{needs}
+use Rattle.grid.specs.Index.{indexOf}
 use Rattle.halving.specs.declared.Stand.{Stand}
 use Rattle.runs.specs.Pieces.{piecesOf}
 use Rattle.runs.specs.Tallies.{work, takenAll}
@@ -19,8 +20,8 @@ returns-2 : tie.Need-returns-2
 returns-2 c =
     let s = c .before .before .before .before .before .before .before .before .before .before .before .before .before .before .before .before .before in
     let e = c .before .before .before .before .halve .ensures in (
-      long-row (heightUnder (s .args .mesh .now) (s .args .h) (s .args .starts .now) (s .args .members .now)) (s .args .a) (s .args .l) (s .args .n) (s .args .forward) (s .args .k) (s .args .j) (c .before .before .before .before .before .before .before .before .before .before .number .result) (c .before .before .before .before .before .before .before .before .before .number2 .result) (c .before .before .before .before .before .before .run-between .result) (work (s .args .runs .now) (s .args .s .tally)) _ (c .before .before .before .before .before .before .before .before .before .before .before .if1 .left) (c .before .before .before .before .before .before .before .before .before .before .number .ensures) (c .before .before .before .before .before .before .before .before .before .number2 .ensures) (c .before .before .before .before .before .before .run-between .ensures)
-          (e .0 ∙ ap (λ (x : Stand). takenAll (work (s .args .runs .now) (x .tally)) (piecesOf (clear (heightUnder (s .args .mesh .now) (s .args .h) (s .args .starts .now) (s .args .members .now)) (s .args .a)) (s .args .a .least) 32 (c .before .before .before .before .before .before .run-between .result))) (c .before .before .before .before .before .counted .ensures)),
+      long-row (heightUnder (indexOf (s .args .mesh .now) (s .args .h) (s .args .starts .now) (s .args .members .now))) (s .args .a) (s .args .l) (s .args .n) (s .args .forward) (s .args .k) (s .args .j) (c .before .before .before .before .before .before .before .before .before .before .number .result) (c .before .before .before .before .before .before .before .before .before .number2 .result) (c .before .before .before .before .before .before .run-between .result) (work (s .args .runs .now) (s .args .s .tally)) _ (c .before .before .before .before .before .before .before .before .before .before .before .if1 .left) (c .before .before .before .before .before .before .before .before .before .before .number .ensures) (c .before .before .before .before .before .before .before .before .before .number2 .ensures) (c .before .before .before .before .before .before .run-between .ensures)
+          (e .0 ∙ ap (λ (x : Stand). takenAll (work (s .args .runs .now) (x .tally)) (piecesOf (clear (heightUnder (indexOf (s .args .mesh .now) (s .args .h) (s .args .starts .now) (s .args .members .now))) (s .args .a)) (s .args .a .least) 32 (c .before .before .before .before .before .before .run-between .result))) (c .before .before .before .before .before .counted .ensures)),
       e .1,
     )
 

@@ -4,6 +4,7 @@ use mathlib.Core.Path.{_≡_, refl}
 use native.Mathlib.Omega.{arith}
 use borrow.Author.Needs.{needs}
 use lib.ListN.{length}
+use Rattle.grid.specs.Index.{indexOf}
 use Rattle.runs.specs.Tallies.{work}
 use Rattle.probe.specs.Probe.{heightUnder}
 use Rattle.probe.specs.Asked.{Marked}
@@ -13,7 +14,7 @@ use Rattle.search.proofs.walk_row.Tie as tie
 
 abbrev Inv-loop : tie.InvT-loop
 Inv-loop mesh h starts members marks₀ runs₀ a l forward n samples w₀ j₀ j-end marks runs w j =
-    Rowing (heightUnder mesh h starts members) a l n forward (work runs₀ (w₀ .stand .tally)) (work runs (w .stand .tally)) (w .k) j
+    Rowing (heightUnder (indexOf mesh h starts members)) a l n forward (work runs₀ (w₀ .stand .tally)) (work runs (w .stand .tally)) (w .k) j
     × Marked (h .n) (w .stand .stamp) marks
     × (j ≤ j-end)
     × (j-end ≡ l .samples + 1)

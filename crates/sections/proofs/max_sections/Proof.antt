@@ -40,13 +40,14 @@ use denote.Triple.Clauses.{ensured, lasts}
 use denote.Exit.{yes}
 use Rattle.grid.proofs.Header as Hd
 use Rattle.grid.proofs.Header.Laws as Hd′
+use Rattle.grid.specs.Index.{indexOf}
 use Rattle.section.proofs.Section as T
 use Rattle.ask.specs.Ask.{ended}
 use Rattle.ask.specs.declared.Answer.{Answer}
 use Rattle.ask.proofs.Answer as R
 use Rattle.ask.proofs.Answer.Laws as R′
 use Rattle.contact.specs.Contact.{maxSectionsOf}
-use Rattle.contact.proofs.Asking.{tool-looks}
+use Rattle.contact.proofs.Asking.{tool-promise}
 use Rattle.flatten.specs.declared.Table.{Table}
 use Rattle.flatten.specs.Flat.{flatOf, copiedOf, heldIn}
 use Rattle.flatten.proofs.Table as B
@@ -117,12 +118,12 @@ module _ {M : Type 1} (𝓤 : URA M) (H : Heap 𝓤) (A : Atoms 𝓤) (W : Given
         move ! (1 ∷ 0 ∷ []) $ fjoin ! $ move ! (2 ∷ 0 ∷ []) $ fjoin ! $ move ! (2 ∷ 0 ∷ []) $ fjoin ! $ owned ! Hd.the-row (Is Hd.the-row) ((LL.makes Hd.the-type Hd′.the-plain) 𝓤 H A) h _ ok-h $ fjoin ! $ move ! (2 ∷ 0 ∷ []) $ fjoin ! $ move ! (2 ∷ 0 ∷ []) $
         use2 W (raw (Over 𝓤 H A mem run .pre (to-over t w))) (qed W (Tokens₄ g 𝓤 ∷ ‵ (owns (ShrSlice (named 0) (κs .0) f64 ∷ Hd.the-row ∷ ShrSlice (named 1) (κs .1 .0) u32 ∷ ShrSlice (named 2) (κs .1 .1 .0) u32 ∷ MutSlice (named 3) (κs .1 .1 .1 .0) u32 ∷ u32 ∷ f64 ∷ f64 ∷ B.the-row ∷ []) (mesh, (h, (starts, (members, (marks, (stamp, (px, (py, (t, tt))))))))) (passed w)) ∷ []) ∵ says ! within $ frame ! $ done !) $ frame ! $ done !
 
-    exits : (r : Answer) (u : Val) (zs : List ℕ) → ended r zs ≡ maxSectionsOf (now mesh) h (now starts) (now members) (now marks) stamp px py (flatOf (now sections)) → length zs ≡ length (now marks)
+    exits : (r : Answer) (u : Val) (zs : List ℕ) → ended r zs ≡ maxSectionsOf (indexOf (now mesh) h (now starts) (now members)) (now marks) stamp px py (flatOf (now sections)) → length zs ≡ length (now marks)
         → ent 𝓤 (⋆ 𝓤 H A (Tokens₄ g 𝓤 ∷ ‵ (finally u32 (marks .name) zs) ∷ Left g 𝓤 ∷ ‵ (R.the-row .own r (u ∷ [])) ∷ [])) (Post u)
     exits r u zs e l =
         qed W (Tokens₄ g 𝓤 ∷ ‵ (finally u32 (marks .name) zs) ∷ Left g 𝓤 ∷ ‵ (R.the-row .own r (u ∷ [])) ∷ []) ∵
         suffices ! _ (ends-at 𝓤 H A f.ended stayed (f.clauses 𝓤 H A mem run) W bound u r (tt, (tt, (tt, (tt, (zs, (tt, (tt, (tt, (tt, tt))))))))) (tt, (tt, (tt, (tt, (l, (tt, (tt, (tt, (tt, tt)))))))))) $
-        says-both ! e (tool-looks (now mesh) h (now starts) (now members) (now marks) stamp r zs px py _ e) $
+        says-both ! e (tool-promise (indexOf (now mesh) h (now starts) (now members)) (now marks) stamp r zs px py _ e) $
         move ! (0 ∷ 2 ∷ []) $ use2 W (Had g 𝓤) (gets-back g 𝓤 H A W) $ split ! $ frame ! $ split ! $ move ! (1 ∷ []) $ split ! $ move ! (1 ∷ []) $ split ! $
         -- [members; sections; starts; mesh; the last marks; the result]
         nothing ! $ move ! (2 ∷ 0 ∷ []) $ fjoin ! $ owned ! f64 (Is f64) (float-makes 𝓤 H A W binary64) py _ (refl, ok-py) $ fjoin ! $ owned ! f64 (Is f64) (float-makes 𝓤 H A W binary64) px _ (refl, ok-px) $ fjoin ! $ owned ! u32 (Is u32) (uint-makes 𝓤 H A W w32) stamp _ (refl, ok-stamp) $ fjoin ! $ move ! (4 ∷ 0 ∷ []) $ fjoin ! $ move ! (1 ∷ 0 ∷ []) $ fjoin ! $ move ! (1 ∷ 0 ∷ []) $ fjoin ! $
@@ -155,7 +156,7 @@ module _ {M : Type 1} (𝓤 : URA M) (H : Heap 𝓤) (A : Atoms 𝓤) (W : Given
           calls-at ! fm (Over 𝓤 H A mem run) known-over (to-over t w) (and-then ! (load ! (from ! (stop !)) (look ! 24 refl)) (and-then ! (load ! (from ! (stop !)) (look ! 22 refl)) (and-then ! (load ! (from ! (stop !)) (look ! 20 refl)) (and-then ! (load ! (from ! (stop !)) (look ! 18 refl)) (and-then ! (load ! (from ! (stop !)) (look ! 2 refl)) (and-then ! (load ! (from ! (stop !)) (look ! 14 refl)) (and-then ! (load ! (from ! (stop !)) (look ! 12 refl)) (and-then ! (load ! (from ! (stop !)) (look ! 10 refl)) (and-then ! (load ! (from ! (stop !)) (look ! 6 refl)) (no-more !)))))))))) (λ u.
           use1 W (later (some (λ (r : Answer). (Tokens₄ g 𝓤 ⊛ ‵ (R.the-row .own r (u ∷ []))) ⊛ raw (ensured 𝓤 H A over.ended (over.clauses 𝓤 H A mem run) (four κs) (mesh, (h, (starts, (members, (marks, (stamp, (px, (py, (t, tt))))))))) tt r)))) (id⊢ 𝓤 _) $ await ! tt $ pick ! (λ r.
           -- what `max_over` ensures, at some last marks
-          split ! $ move ! (1 ∷ []) $ use1 W (some (λ (zs : Unit {0} × (Unit {0} × (Unit {0} × (Unit {0} × (List ℕ × (Unit {0} × (Unit {0} × (Unit {0} × (Unit {0} × Unit {0}))))))))). ‵ (lasts over.ended (four κs) (mesh, (h, (starts, (members, (marks, (stamp, (px, (py, (t, tt))))))))) zs) ⊛ raw (fact 𝓤 (ended r (zs .1 .1 .1 .1 .0) ≡ maxSectionsOf (now mesh) h (now starts) (now members) (now marks) stamp px py (heldIn t))))) (id⊢ 𝓤 _) $ pick ! (λ zs.
+          split ! $ move ! (1 ∷ []) $ use1 W (some (λ (zs : Unit {0} × (Unit {0} × (Unit {0} × (Unit {0} × (List ℕ × (Unit {0} × (Unit {0} × (Unit {0} × (Unit {0} × Unit {0}))))))))). ‵ (lasts over.ended (four κs) (mesh, (h, (starts, (members, (marks, (stamp, (px, (py, (t, tt))))))))) zs) ⊛ raw (fact 𝓤 (ended r (zs .1 .1 .1 .1 .0) ≡ maxSectionsOf (indexOf (now mesh) h (now starts) (now members)) (now marks) stamp px py (heldIn t))))) (id⊢ 𝓤 _) $ pick ! (λ zs.
           split ! $ move ! (1 ∷ []) $ heard ! _ (λ k. fsplit ! $ drop ! $ fsplit ! $ drop ! $ fsplit ! $ drop ! $ fsplit ! $ drop ! $ fsplit ! $ fsplit ! $ move ! (1 ∷ []) $ feqL ! (λ l.
           move ! (1 ∷ []) $ drop ! $ move ! (1 ∷ []) $ split ! $ move ! (1 ∷ []) $
           -- [the result; the tokens; the last marks; what is kept; the locals]
@@ -163,7 +164,7 @@ module _ {M : Type 1} (𝓤 : URA M) (H : Heap 𝓤) (A : Atoms 𝓤) (W : Given
           land ! (from ! (stop !)) (init ! 28 refl (LL.lawful R.the-type R′.the-laws 𝓤 H A W .typed r _ is .0)) $ returns ! (look ! 28 refl) $
           forget ! 4 refl $ forget ! 6 refl $ forget ! 8 refl $ forget ! 10 refl $ forget ! 12 refl $ forget ! 14 refl $ forget ! 16 refl $ forget ! 18 refl $ forget ! 20 refl $ forget ! 22 refl $ forget ! 24 refl $ forget ! 26 refl $ forget ! 28 refl $
           move ! (28 ∷ 29 ∷ []) $ free1 ! $ move ! (26 ∷ 27 ∷ []) $ free1 ! $ move ! (24 ∷ 25 ∷ []) $ free1 ! $ move ! (22 ∷ 23 ∷ []) $ free1 ! $ move ! (20 ∷ 21 ∷ []) $ free1 ! $ move ! (18 ∷ 19 ∷ []) $ free1 ! $ move ! (16 ∷ 17 ∷ []) $ free1 ! $ move ! (14 ∷ 15 ∷ []) $ free1 ! $ move ! (12 ∷ 13 ∷ []) $ free1 ! $ move ! (10 ∷ 11 ∷ []) $ free1 ! $ move ! (8 ∷ 9 ∷ []) $ free1 ! $ move ! (6 ∷ 7 ∷ []) $ free1 ! $ move ! (4 ∷ 5 ∷ []) $ free1 ! $ free0 ! $
-          move ! (1 ∷ 2 ∷ 3 ∷ []) $ by ! (exits r u (zs .1 .1 .1 .1 .0) (k ∙ (ap (maxSectionsOf (now mesh) h (now starts) (now members) (now marks) stamp px py) (e .1) ∙ max-copied (now mesh) h (now starts) (now members) (now marks) stamp (now sections) px py)) l))))))))))))))))))))))))
+          move ! (1 ∷ 2 ∷ 3 ∷ []) $ by ! (exits r u (zs .1 .1 .1 .1 .0) (k ∙ (ap (maxSectionsOf (indexOf (now mesh) h (now starts) (now members)) (now marks) stamp px py) (e .1) ∙ max-copied (indexOf (now mesh) h (now starts) (now members)) (now marks) stamp (now sections) px py)) l))))))))))))))))))))))))
 
 module _ {M : Type 1} (𝓤 : URA M) (H : Heap 𝓤) (A : Atoms 𝓤) (W : Given 𝓤 H A) (mem : Memory → SProp 𝓤) (run : Routine → Fun 𝓤) (𝓣 : Tables 𝓤 H) (known-flat : Triple 𝓤 (𝓣 .C flat-def.name) (Flat 𝓤 H A mem run)) (known-over : Triple 𝓤 (𝓣 .C over-def.name) (Over 𝓤 H A mem run)) where
   walks : Walks 𝓤 H A f.ended stayed (WpFn 𝓤 H (𝓣 .C) (𝓣 .Λ) code.function) (f.clauses 𝓤 H A mem run)
