@@ -3,6 +3,7 @@ ghost use mathlib.Core.Path.{_≡_};
 ghost use Prim.Native.Nat.{_≤_};
 ghost use Rattle.grid.specs.Index.{indexOf};
 ghost use Rattle.ask.specs.Ask.{isCorner, refusalOf, raisedBy, findingNumber};
+ghost use Rattle.ask.specs.Demand.{GoodAccepted};
 use grid::Header;
 use plane::Contact;
 use query::Patch;
@@ -45,6 +46,8 @@ pub fn refusal(
     requires { ⌜ (p .x1 ≤ h .columns) × (p .y1 ≤ h .rows) ⌝ }
     ensures { λ k. ⌜ k
         ≡ refusalOf numbers tool (indexOf (now (mesh .entry)) h (now (starts .entry)) (now (members .entry))) (now (marks .entry)) stamp p ⌝ }
+    ensures { λ k. ⌜ GoodAccepted numbers tool (indexOf (now (mesh .entry)) h (now (starts .entry)) (now (members .entry)))
+        (now (marks .entry)) stamp k ⌝ }
 {
     if !query::is_marked(mesh, marks) {
         return 1;

@@ -14,8 +14,8 @@ use Rattle.query.specs.Patch.{patchOf}
 use Rattle.reach.specs.declared.Chord.{Chord}
 use Rattle.ask.specs.declared.Ruling.{Ruling}
 use Rattle.ask.specs.Ask.{isCorner, Outcome, ended, askedChord}
-use Rattle.ask.proofs.Demands.{chord-demand, chord-told}
 use Rattle.tool.specs.Tool.{sectionsIn, isTool, widestOf, lowestOf}
+use Rattle.chords.proofs.Ruling.{chord-demand, chord-told}
 use Rattle.chords.specs.Chords.{isChord, blockedAtOnce, bullBlocksAt, isRide, bullChordOf, BullChordPromise, toolBlocksAt, sectionsChordOf, SectionsChordPromise}
 
 -- what one member keeps

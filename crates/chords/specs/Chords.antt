@@ -14,8 +14,8 @@ use Rattle.reach.specs.declared.Chord.{Chord}
 use Rattle.bull_gap.specs.Blocks.{bullBlocks}
 use Rattle.ask.specs.declared.Ruling.{Ruling}
 use Rattle.ask.specs.Ask.{isCorner, Outcome, askedChord}
-use Rattle.ask.specs.Demand.{ChordPromise}
 use Rattle.tool.specs.Tool.{sectionsIn, isTool, widestOf, lowestOf, passesAll}
+use Rattle.chords.specs.Demand.{ChordPromise}
 
 -- ---- what both share
 
@@ -65,8 +65,7 @@ toolBlocksAt mesh m low table i = toolBlocks (triangleOf mesh i) m low table
 -- sections_chord_clear: 1, 2, 8 (the sections) and 7; reach is the largest r1.
 unfoldable pub sectionsChordOf : Index → List ℕ → ℕ → Chord → List Float → Outcome Ruling
 sectionsChordOf ix marks stamp m table =
-    askedChord (isChord m) (isTool table) (blockedAtOnce (ix .header .floor) m)
-    (toolBlocksAt (ix .mesh) m (lowestOf table (sectionsIn table)) table)
+    askedChord (isChord m) (isTool table) (blockedAtOnce (ix .header .floor) m) (toolBlocksAt (ix .mesh) m (lowestOf table (sectionsIn table)) table)
     ix marks stamp (patchOf (ix .header) (m .ax) (m .ay) (m .bx) (m .by) (widestOf table (sectionsIn table)))
 
 -- What `sections_chord_clear` promises of its verdict over the index built from its mesh.

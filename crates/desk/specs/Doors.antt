@@ -1,7 +1,6 @@
 -- What a C function leaves behind: its answer, the lent tables, and the fixed arrays with the rest of the library's answer.
 use mathlib.Core.Bool.{cond}
 use mathlib.Core.List.{List, [], _∷_}
-use mathlib.Core.Path.{_≡_}
 use Prim.Native.Nat.{ℕ}
 use lib.Dec.{eqb}
 use lib.Ieee.{Float}
@@ -9,7 +8,7 @@ use lib.ListN.{getD}
 use Rattle.numbers.specs.Reals.{f0, num}
 use Rattle.grid.specs.declared.Header.{Header}
 use Rattle.grid.specs.Build.{Outcome}
-use Rattle.grid.specs.Index.{Index, indexOf, BuiltFrom, SoundIndex}
+use Rattle.grid.specs.Index.{Index, indexOf}
 use Rattle.ask.specs.declared.Answer.{Answer}
 use Rattle.ask.specs.declared.Ruling.{Ruling}
 use Rattle.ask.specs.declared.Finding.{Finding}
@@ -60,11 +59,6 @@ headerFrom fs ns =
 -- The index that C hands over.
 abbrev pub indexFrom : List Float → List Float → List ℕ → List ℕ → List ℕ → Index
 indexFrom mesh fs ns starts members = indexOf mesh (headerFrom fs ns) starts members
-
--- What `mandrikelo_build` promises of an index that it accepts: it is sound, and it is the one built from its mesh.
-pub record BuildPromise (ix : Index) (k : ℕ) : Type 0 where
-  pub sound : k ≡ 0 → SoundIndex ix
-  pub built : k ≡ 0 → BuiltFrom ix
 
 -- A height asked: the refusal, the marks, the height, the count and the stamp afterwards.
 pub record HeightLeft : Type 0 where

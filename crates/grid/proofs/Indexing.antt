@@ -1,7 +1,7 @@
 -- What an accepted build leaves is an index: header in its ranges, tables that a question passes, and each triangle in the grid.
 use mathlib.Core.Bool.{true}
 use mathlib.Core.List.{List}
-use mathlib.Core.Path.{_≡_, refl, sym, subst}
+use mathlib.Core.Path.{_≡_, refl, ap, sym, subst, _∙_}
 use Prim.Native.Nat.{ℕ, _+_, _*_, _^_, _≤_, _<_}
 use native.Mathlib.Nat.{mul-pos}
 use native.Mathlib.Omega.{arith}
@@ -18,10 +18,11 @@ use Rattle.spans.proofs.Extremes.{Ordered, ordered-x, ordered-y, along-few, in-
 use Rattle.spans.proofs.Scales.{true-of, eps-above, eps-under}
 use Rattle.cells.specs.Cover.{isFrom, startsOf, membersTable}
 use Rattle.cells.proofs.Reading.{cell-is, starts-room, starts-rise, starts-within, once, member-of}
+use Rattle.grid.specs.declared.Built.{Built}
 use Rattle.grid.specs.Grid.{trianglesIn, gridOf, cellsIn, cellsOf, coverOf}
 use Rattle.grid.specs.Header.{headerOf, inRanges}
 use Rattle.grid.specs.Build.{Outcome, outcome, refusedBy, acceptedWith, unless, filledOf, gridded, buildOf}
-use Rattle.grid.specs.Index.{Index, indexOf, InGrid, BuiltFrom, SoundIndex}
+use Rattle.grid.specs.Index.{Index, indexOf, InGrid, BuiltFrom, SoundIndex, BuildPromise}
 use Rattle.grid.specs.Parts.{NearBox, Gridded}
 use Rattle.grid.proofs.Gridding.{within}
 use Rattle.grid.proofs.Accepting.{Accepted, accepted, Passed, passed}
@@ -137,7 +138,7 @@ unless-then k s m next Q f e =
 
 module _ (mesh : List Float) (floor r : Float) (s m : List ℕ) where
   abbrev Left : Outcome → Type 0
-  Left o = SoundIndex (indexOf mesh (o .built .header) (o .starts) (o .members))
+  Left o = SoundIndex (indexOf mesh (o .built .header) (o .starts) (o .members)) × (o .built ≡ acceptedWith (o .built .header))
 
   whole : buildOf mesh floor r s m .built .refusal ≡ 0 → Left (buildOf mesh floor r s m)
   unfolding buildOf gridded filledOf acceptedWith
@@ -147,13 +148,21 @@ module _ (mesh : List Float) (floor r : Float) (s m : List ℕ) where
       unless-then _ s m _ Left
       (λ y.
       unless-then _ s m _ Left
-      (λ z e. sound mesh floor r (accepted mesh floor r x) s m (passed _ _ _ y))))
+      (λ z e. (sound mesh floor r (accepted mesh floor r x) s m (passed _ _ _ y), refl))))
 
-  pub built-sound : (o : Outcome) → o ≡ buildOf mesh floor r s m → o .built .refusal ≡ 0 → Left o
-  built-sound o p = subst (λ (o : Outcome). o .built .refusal ≡ 0 → Left o) (sym p) whole
+  built-left : (o : Outcome) → o ≡ buildOf mesh floor r s m → o .built .refusal ≡ 0 → Left o
+  built-left o p = subst (λ (o : Outcome). o .built .refusal ≡ 0 → Left o) (sym p) whole
+
+  pub build-promise : (b : Built) (s′ m′ : List ℕ) → outcome b s′ m′ ≡ buildOf mesh floor r s m → BuildPromise (indexOf mesh (b .header) s′ m′) (b .refusal)
+  build-promise b s′ m′ e =
+      record {
+        built = λ z.
+            record { floor = floor; r = r; oldStarts = s; oldMembers = m; built = sym e ∙ ap (λ (x : Built). outcome x s′ m′) (built-left (outcome b s′ m′) e z .1) };
+        sound = λ z. built-left (outcome b s′ m′) e z .0;
+      }
 
 -- the index that `build` makes of its mesh is sound
 pub index-sound : (ix : Index) → BuiltFrom ix → SoundIndex ix
 unfolding acceptedWith
 index-sound ix b =
-    built-sound (ix .mesh) (b .floor) (b .r) (b .oldStarts) (b .oldMembers) (outcome (acceptedWith (ix .header)) (ix .starts) (ix .members)) (sym (b .built)) refl
+    built-left (ix .mesh) (b .floor) (b .r) (b .oldStarts) (b .oldMembers) (outcome (acceptedWith (ix .header)) (ix .starts) (ix .members)) (sym (b .built)) refl .0

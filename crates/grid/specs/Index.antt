@@ -69,3 +69,8 @@ pub record SoundIndex (ix : Index) : Type 0 where
       → getD (stretch (ix .starts) (ix .members) c) j 0 < ix .header .n
   -- each triangle covers a cell, and none outside the grid
   pub lies : (i : ℕ) → i < ix .header .n → InGrid (gridIn (ix .header)) (cellsOf (ix .mesh) (gridIn (ix .header)) i)
+
+-- What `build` promises of what it leaves, with the refusal k: accepted, it is the index built from its mesh, and sound.
+pub record BuildPromise (ix : Index) (k : ℕ) : Type 0 where
+  pub built : k ≡ 0 → BuiltFrom ix
+  pub sound : k ≡ 0 → SoundIndex ix

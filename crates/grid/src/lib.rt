@@ -9,7 +9,7 @@ ghost use Rattle.cells.specs.Steps.{Room, CountedAll, Ready, Filled, Fits};
 ghost use Rattle.grid.specs.Grid.{trianglesIn, gridOf, cellsIn, cellsOf, coverOf, totalOf};
 ghost use Rattle.grid.specs.Header.{headerOf};
 ghost use Rattle.grid.specs.Build.{refusalOfNumbers, refusalOfMesh, refusalOfGrid, refusalOfMembers, outcome, refusedBy, filledOf, gridded, buildOf};
-ghost use Rattle.grid.specs.Index.{SoundIndex, indexOf};
+ghost use Rattle.grid.specs.Index.{indexOf, BuildPromise};
 ghost use Rattle.grid.specs.Parts.{NearBox, Gridded};
 
 // Where a grid begins, how large its cells are, and how many there are.
@@ -44,7 +44,7 @@ pub struct Built {
 pub fn build(mesh: &[f64], floor: f64, r: f64, starts: &mut [u32], members: &mut [u32]) -> Built
     ensures { λ b. ⌜ outcome b (now (starts .exit)) (now (members .exit))
         ≡ buildOf (now (mesh .entry)) floor r (now (starts .entry)) (now (members .entry)) ⌝ }
-    ensures { λ b. ⌜ (b .refusal ≡ 0 → SoundIndex (indexOf (now (mesh .entry)) (b .header) (now (starts .exit)) (now (members .exit)))) ⌝ }
+    ensures { λ b. ⌜ BuildPromise (indexOf (now (mesh .entry)) (b .header) (now (starts .exit)) (now (members .exit))) (b .refusal) ⌝ }
 {
     let k = refusal_of_mesh(mesh, floor, r);
     if k != 0 {

@@ -13,7 +13,7 @@ use Rattle.grid.specs.Index.{Index, BuiltFrom}
 use Rattle.query.specs.declared.Patch.{Patch}
 use Rattle.query.specs.Looked.{Shares, LooksOnce, lookedIn}
 use Rattle.ask.specs.declared.Answer.{Answer}
-use Rattle.ask.specs.Demand.{GoodQuestion}
+use Rattle.ask.specs.Demand.{GoodAccepted}
 use Rattle.height.specs.Sweep.{Sweep, patchFor, capsuleFor, heightOf}
 use Rattle.height.specs.Height.{isSweep}
 
@@ -39,8 +39,10 @@ pub record Demand3 (ix : Index) (p : Patch) (q : Capsule) (is : List ℕ) (a : A
       → lt (a .height) z ≡ true
       → ⊥
 
--- What `max_height` promises over the index built from its mesh: a good question is accepted, and an accepted one meets demand 3.
+-- What `max_height` promises over the index built from its mesh: a good question is accepted, and an accepted one
+-- meets demand 3.
 pub record DiskPromise (ix : Index) (marks : List ℕ) (stamp : ℕ) (s : Sweep) (a : Answer) : Type 0 where
-  pub accepted : BuiltFrom ix → GoodQuestion (isSweep s) true ix marks stamp → a .refusal ≡ 0
+  pub accepted : GoodAccepted (isSweep s) true ix marks stamp (a .refusal)
   pub demand3 : BuiltFrom ix → a .refusal ≡ 0
-      → Demand3 ix (patchFor (ix .header) s) (capsuleFor (ix .header) s) (lookedIn ix marks stamp (patchFor (ix .header) s)) a
+      → Demand3 ix (patchFor (ix .header) s) (capsuleFor (ix .header) s)
+      (lookedIn ix marks stamp (patchFor (ix .header) s)) a

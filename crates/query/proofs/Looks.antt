@@ -18,9 +18,10 @@ use Rattle.walk.specs.Walk.{over, cell, row, block, looked, nextStamp, readyMar
 use Rattle.grid.specs.Index.{Index, coversOf, SoundIndex}
 use Rattle.query.specs.declared.Patch.{Patch}
 use Rattle.query.specs.Usable.{usable}
-use Rattle.query.specs.Looked.{within, lookedIn, Shares, LooksOnce}
+use Rattle.query.specs.Looked.{within, lookedIn, Shares, LooksOnce, UsablePromise}
 use Rattle.query.proofs.Testing.{in-rows}
 use Rattle.query.proofs.Using.{usable-member}
+use Rattle.query.proofs.Passing.{sound-usable}
 
 -- ---- a list taken apart
 pub times-append : (i : ℕ) (xs ys : List ℕ) → times i (xs ++ ys) ≡ times i xs + times i ys
@@ -197,3 +198,13 @@ module _ (ix : Index) (marks : List ℕ) (stamp : ℕ) (p : Patch) (d : SoundInd
       by-test (eqb (times i numbers) 0)
       (λ e. absurd (omega (arith, t, looked-none (nextStamp stamp) i numbers (readyMarks marks stamp) (eqb-true _ _ e))))
       (λ e. shares i (positive (times i numbers) (eqb-false _ _ e)))
+
+-- what the test of a question found, and what it promises
+pub usable-told : (ix : Index) (marks : List ℕ) (stamp : ℕ) (p : Patch) (r : Bool) → r ≡ usable ix marks stamp p → length (ix .mesh) ≡ length marks * 9 → p .x1 ≤ ix .header .columns → p .y1 ≤ ix .header .rows → (r ≡ usable ix marks stamp p) × UsablePromise ix marks stamp p r
+usable-told ix marks stamp p r e nine right top = (
+  e,
+  record {
+    passes = λ d same low. e ∙ sound-usable ix d marks stamp same low p right top;
+    looks = λ d t. looks-once ix marks stamp p d (sym e ∙ t) nine right top;
+  },
+)

@@ -1,12 +1,14 @@
 -- Demand 3 of the letter, first half: which triangles a walk looks at.
-use mathlib.Core.Bool.{true}
+use mathlib.Core.Bool.{Bool, true}
 use mathlib.Core.List.{List}
 use mathlib.Core.Path.{_≡_}
 use Prim.Native.Nat.{ℕ, _+_, _*_, _≤_, _<_}
+use lib.ListN.{length}
 use Rattle.cells.specs.Cover.{times}
 use Rattle.walk.specs.Walk.{block, looked, nextStamp, readyMarks}
-use Rattle.grid.specs.Index.{Index, coversOf}
+use Rattle.grid.specs.Index.{Index, coversOf, SoundIndex}
 use Rattle.query.specs.declared.Patch.{Patch}
+use Rattle.query.specs.Asked.{NoneAbove}
 
 -- The numbers that stand in the cells p of an index.
 abbrev pub within : Index → Patch → List ℕ
@@ -16,7 +18,8 @@ within ix p = block (ix .starts) (ix .members) (ix .header .columns) (p .x0) (p 
 unfoldable pub lookedIn : Index → List ℕ → ℕ → Patch → List ℕ
 lookedIn ix marks stamp p = looked (nextStamp stamp) (readyMarks marks stamp) (within ix p)
 
--- Triangle i shares a grid cell with the question: the cell in column x of row y is one of the question's and one that the triangle covers.
+-- Triangle i shares a grid cell with the question: the cell in column x of row y is one of the question's and one that
+-- the triangle covers.
 pub record Shares (ix : Index) (p : Patch) (i : ℕ) : Type 0 where
   pub triangle : i < ix .header .n
   pub x : ℕ
@@ -29,3 +32,10 @@ pub record Shares (ix : Index) (p : Patch) (i : ℕ) : Type 0 where
 pub record LooksOnce (ix : Index) (p : Patch) (is : List ℕ) : Type 0 where
   pub each : (i : ℕ) → Shares ix p i → times i is ≡ 1
   pub noOther : (i : ℕ) → (Shares ix p i → ⊥) → times i is ≡ 0
+
+-- What refusal 7's test r of a question with the cells p promises over a sound index: a question with a mark for each
+-- triangle and none above the stamp passes, and one that passes looks at each triangle sharing a grid cell with it exactly
+-- once, and at no other.
+pub record UsablePromise (ix : Index) (marks : List ℕ) (stamp : ℕ) (p : Patch) (r : Bool) : Type 0 where
+  pub passes : SoundIndex ix → length marks ≡ ix .header .n → NoneAbove stamp marks → r ≡ true
+  pub looks : SoundIndex ix → r ≡ true → LooksOnce ix p (lookedIn ix marks stamp p)

@@ -5,6 +5,7 @@ ghost use lib.ListN.{length};
 ghost use Rattle.grid.specs.Index.{indexOf};
 ghost use Rattle.query.specs.Asked.{isMarked, isPoint};
 ghost use Rattle.query.specs.Patch.{heldTo, axisSpan, patchOf};
+ghost use Rattle.query.specs.Looked.{UsablePromise};
 ghost use Rattle.query.specs.Near.{squaresOf};
 ghost use Rattle.query.specs.Usable.{each, triangleUsable, memberUsable, cellUsable, rowUsable, cellsUsable, usable};
 use grid::Header;
@@ -102,6 +103,7 @@ pub fn usable(
     requires { ⌜ (length (now mesh) ≡ length (now marks) * 9) × (p .x1 ≤ h .columns) × (p .y1 ≤ h .rows) ⌝ }
     ensures { λ r. ⌜ r
         ≡ usable (indexOf (now (mesh .entry)) h (now (starts .entry)) (now (members .entry))) (now (marks .entry)) stamp p ⌝ }
+    ensures { λ r. ⌜ UsablePromise (indexOf (now (mesh .entry)) h (now (starts .entry)) (now (members .entry))) (now (marks .entry)) stamp p r ⌝ }
 {
     let n = h.n;
     let columns = h.columns;

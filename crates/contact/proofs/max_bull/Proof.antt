@@ -13,13 +13,13 @@ returns : tie.Need-returns
 returns c =
     let d = c .before .before .before in
     bull-answers _ _ _ _ _ _ _ _ _ (d .before .before .patch-of .ensures) (d .before .is-stand .ensures) (d .is-corner .ensures)
-    (height-refused _ _ _ _ _ _ _ (c .before .refusal .ensures) _ (c .if1 .taken))
+    (height-refused _ _ _ _ _ _ _ (c .before .refusal .ensures .0) _ (c .if1 .taken))
 
 visit-bull-requires : tie.Need-visit-bull-requires
 visit-bull-requires c κs =
     let n = c .before .before .before .next-stamp in
     let e = c .before .before .before .before .before in
-    ready _ _ _ _ _ _ _ (e .before .refusal .ensures) {A = Float} _ _ f0 (e .if1 .left) (n .ensures .1) (inside _ _ _ _ _ _ _ (e .before .before .before .before .before .patch-of .ensures))
+    ready _ _ _ _ _ _ _ (e .before .refusal .ensures .0) {A = Float} _ _ f0 (e .if1 .left) (n .ensures .1) (inside _ _ _ _ _ _ _ (e .before .before .before .before .before .patch-of .ensures))
 
 returns-2 : tie.Need-returns-2
 returns-2 c =
@@ -27,7 +27,7 @@ returns-2 c =
     let e = c .before .before .before .before .before .before .before .before in
     let d = e .before .before .before in
     bull-answers _ _ _ _ _ _ _ _ _ (d .before .before .patch-of .ensures) (d .before .is-stand .ensures) (d .is-corner .ensures)
-    (height-answered _ _ _ _ _ _ _ (e .before .refusal .ensures) _ _ _ _ _ (e .if1 .left) (n .ensures .0) (n .ensures .1) (c .before .before .visit-bull .ensures))
+    (height-answered _ _ _ _ _ _ _ (e .before .refusal .ensures .0) _ _ _ _ _ (e .if1 .left) (n .ensures .0) (n .ensures .1) (c .before .before .visit-bull .ensures))
 
 pub max-bull-spec : {M : Type 1} → statement M
 max-bull-spec =

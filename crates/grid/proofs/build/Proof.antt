@@ -1,7 +1,7 @@
 -- `grid::build` meets its contract.
 use borrow.Author.Needs.{needs}
 use Rattle.grid.proofs.Accepting.{built-refused, built-next}
-use Rattle.grid.proofs.Indexing.{built-sound}
+use Rattle.grid.proofs.Indexing.{build-promise}
 use Rattle.grid.proofs.build.Statement.{statement}
 use Rattle.grid.proofs.build.Tie as tie
 
@@ -9,14 +9,14 @@ returns : tie.Need-returns
 returns c =
     let q = c .before .before in
     let e = built-refused _ _ _ _ _ _ (q .refusal-of-mesh .ensures) _ (c .refused .ensures) (c .before .if1 .taken) in
-    (e, built-sound _ _ _ _ _ _ e)
+    (e, build-promise _ _ _ _ _ _ _ _ e)
 
 returns-2 : tie.Need-returns-2
 returns-2 c =
     let d = c .before .before .before .before in
     let e = d .before .before .before in
     let o = built-next _ _ _ _ _ _ (e .before .refusal-of-mesh .ensures) _ (e .if1 .left) (d .build-grid .ensures) in
-    (o, built-sound _ _ _ _ _ _ o)
+    (o, build-promise _ _ _ _ _ _ _ _ o)
 
 pub build-spec : {M : Type 1} → statement M
 build-spec =

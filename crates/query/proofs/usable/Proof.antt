@@ -4,6 +4,7 @@ use Rattle.numbers.proofs.Branches.{branches, bool-called}
 use Rattle.header.proofs.Ranges.{headed-is}
 use Rattle.query.specs.Usable.{usable}
 use Rattle.query.proofs.Using.{rows-room}
+use Rattle.query.proofs.Looks.{usable-told}
 use Rattle.query.proofs.usable.Statement.{statement}
 use Rattle.query.proofs.usable.Tie as tie
 
@@ -14,12 +15,14 @@ cells-usable-requires c κs =
     (d .nine, omega (arith, d .nine, s .pre .0), s .pre .1, rows-room _ _ _ _ d (s .pre .2))
 
 returns : tie.Need-returns
-unfolding usable
-returns c = search (branches, bool-called)
+returns c =
+    let s = c .before .before .before .before .before .before .before in
+    usable-told _ _ _ _ _ (unfold usable in search (branches, bool-called)) (s .pre .0) (s .pre .1) (s .pre .2)
 
 returns-2 : tie.Need-returns-2
-unfolding usable
-returns-2 c = search (branches, bool-called)
+returns-2 c =
+    let s = c .before .before .before .before .before .before in
+    usable-told _ _ _ _ _ (unfold usable in search (branches, bool-called)) (s .pre .0) (s .pre .1) (s .pre .2)
 
 pub usable-spec : {M : Type 1} → statement M
 usable-spec = tie.close (tie.spec (λ c κs. tt) cells-usable-requires returns returns-2)
