@@ -1,7 +1,12 @@
 //! The way in to an oracle: a module inside flat.rs, since most of what is compared is private there.
 //! Meshes are nine numbers a triangle, as everywhere in this repository.
 use super::*;
-use crate::{motion::Vec3, stock::NeverCancelled, tap, tool::HolderSection};
+use crate::{
+    motion::Vec3,
+    stock::NeverCancelled,
+    tap,
+    tool::{Cutter, CutterShape, HolderSection, Neck, PreparedAssembly, PreparedCutter},
+};
 
 /// The mesh in camlib's own form.
 pub fn surface(mesh: &[f64]) -> SurfaceMesh {
@@ -194,4 +199,27 @@ fn run(five: &[f64]) -> Run {
 pub fn join(table: &[f64]) -> Vec<f64> {
     let runs = super::joined(table.chunks_exact(5).map(run).collect());
     runs.iter().flat_map(|run| [run.a[0], run.a[1], run.b[0], run.b[1], run.z]).collect()
+/// `sheet`: diameter, tip diameter, tip height, cutting length, stickout, neck length, the radii just above the cutting length and just
+/// above the neck. The list as a flat table, or the refusal that camlib's words stand for.
+pub fn sheet_sections(shape: u32, enclose: bool, neck: bool, sheet: &[f64; 8], holders: &[f64]) -> Result<Vec<f64>, u32> {
+    let [diameter_mm, tip_diameter_mm, tip_height_mm, cutting_length_mm, stickout_mm, length_mm, above_cut, above_neck] = *sheet;
+    let shape = match shape {
+        0 => CutterShape::Flat,
+        1 => CutterShape::Ball,
+        2 => CutterShape::Bull { corner_radius_mm: diameter_mm / 4. },
+        3 => CutterShape::Drill { angle: 0. },
+        4 => CutterShape::Chamfer { tip_diameter_mm, angle: 0. },
+        _ => CutterShape::Beam,
+    };
+    let holder = |h: &[f64]| HolderSection { z_min_mm: h[0], z_max_mm: h[1], radius_min_mm: h[2], radius_max_mm: h[3] };
+    let holders = holders.chunks_exact(4).map(holder).collect();
+    let assembly = ToolAssembly { id: "mill".into(), diameter_mm, cutting_length_mm, stickout_mm, holders };
+    let neck = neck.then_some(Neck { length_mm });
+    let cutter = Cutter { shape, diameter_mm, cutting_length_mm, center_cutting: true, neck };
+    let tool = PreparedAssembly::new(&assembly, PreparedCutter { cutter, tip_height_mm }, [above_cut, above_neck]);
+    match sections_of(&tool, enclose) {
+        Ok(list) => Ok(list.iter().flat_map(|s| [s.z0, s.r0, s.r1, s.rise]).collect()),
+        Err(why) if why.starts_with("tool sections cover") => Err(24),
+        Err(_) => Err(8),
+    }
 }

@@ -247,6 +247,7 @@ pub mod tool {
         Bull { corner_radius_mm: f64 },
         Chamfer { tip_diameter_mm: f64, angle: f64 },
         Drill { angle: f64 },
+        Beam,
     }
     pub struct Neck {
         pub length_mm: f64,
@@ -260,13 +261,15 @@ pub mod tool {
     }
     pub struct PreparedCutter {
         pub cutter: Cutter,
+        /// Handed in: the height of the tip at the full radius.
+        pub tip_height_mm: f64,
     }
     impl PreparedCutter {
         pub fn definition(&self) -> &Cutter {
             &self.cutter
         }
         pub fn tip_height_at_radius(&self, _: f64) -> Option<f64> {
-            unreachable!("left behind")
+            Some(self.tip_height_mm)
         }
     }
     pub struct HolderSection {
@@ -292,7 +295,7 @@ pub mod tool {
                 center_cutting: true,
                 neck: None,
             };
-            Ok(PreparedAssembly { assembly: self, cutter: PreparedCutter { cutter } })
+            Ok(PreparedAssembly::new(self, PreparedCutter { cutter, tip_height_mm: 0. }, [0.; 2]))
         }
     }
     pub struct ProfileSlice {
@@ -301,16 +304,24 @@ pub mod tool {
     pub struct PreparedAssembly<'a> {
         assembly: &'a ToolAssembly,
         cutter: PreparedCutter,
+        /// Handed in: the radii just above the cutting length and just above the neck.
+        radii_mm: [f64; 2],
+        asked: std::cell::Cell<bool>,
     }
-    impl PreparedAssembly<'_> {
+    impl<'a> PreparedAssembly<'a> {
+        pub fn new(assembly: &'a ToolAssembly, cutter: PreparedCutter, radii_mm: [f64; 2]) -> Self {
+            PreparedAssembly { assembly, cutter, radii_mm, asked: std::cell::Cell::new(false) }
+        }
         pub fn definition(&self) -> &ToolAssembly {
             self.assembly
         }
         pub fn cutter(&self) -> &PreparedCutter {
             &self.cutter
         }
+        /// flat.rs asks at the end of the cutting length, where that lies below the stickout, and then at that of the neck.
         pub fn radius_at(&self, _: f64) -> Option<ProfileSlice> {
-            unreachable!("left behind")
+            let neck = self.asked.replace(true) || self.cutter.cutter.cutting_length_mm >= self.assembly.stickout_mm;
+            Some(ProfileSlice { radius_mm: self.radii_mm[neck as usize] })
         }
     }
 }

@@ -14,6 +14,7 @@ mod model;
 mod parts;
 mod rng;
 mod shipped;
+mod sheet;
 include!(concat!(env!("OUT"), "/missing.rs"));
 
 use case::Case;

@@ -168,6 +168,7 @@ pub const PARTS: &[Part] = &[
         unit: "jobs",
         share: 2_000,
     },
+    crate::sheet::PART,
 ];
 
 /// Questions asked of one mesh.
