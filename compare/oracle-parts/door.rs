@@ -199,6 +199,8 @@ fn run(five: &[f64]) -> Run {
 pub fn join(table: &[f64]) -> Vec<f64> {
     let runs = super::joined(table.chunks_exact(5).map(run).collect());
     runs.iter().flat_map(|run| [run.a[0], run.a[1], run.b[0], run.b[1], run.z]).collect()
+}
+
 /// `sheet`: diameter, tip diameter, tip height, cutting length, stickout, neck length, the radii just above the cutting length and just
 /// above the neck. The list as a flat table, or the refusal that camlib's words stand for.
 pub fn sheet_sections(shape: u32, enclose: bool, neck: bool, sheet: &[f64; 8], holders: &[f64]) -> Result<Vec<f64>, u32> {

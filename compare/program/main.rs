@@ -13,8 +13,8 @@ mod join;
 mod model;
 mod parts;
 mod rng;
-mod shipped;
 mod sheet;
+mod shipped;
 include!(concat!(env!("OUT"), "/missing.rs"));
 
 use case::Case;
