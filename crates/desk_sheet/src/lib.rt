@@ -5,7 +5,8 @@ ghost use mathlib.Core.Path.{_≡_};
 ghost use Prim.Native.Nat.{_*_};
 ghost use lib.ListN.{getD, take};
 ghost use Rattle.tool.specs.Tool.{isTool};
-ghost use Rattle.sheet.specs.Sheet.{shapeFrom, sheetOf};
+ghost use Rattle.sheet.specs.Sheet.{shapeFrom, radiusOf, sheetOf};
+ghost use Rattle.sheet.specs.Enclosing.{isCurved, Encloses};
 ghost use Rattle.desk_sheet.specs.Sheets.{sheetLeft, sheetLeftBy, sheetFrom};
 use sheet::Sheet;
 
@@ -36,8 +37,10 @@ pub extern "C" fn mandrikelo_sections_of(
     sections: &mut [f64],
     count: &mut [u32; 1],
 ) -> u32
-    ensures { λ k. ⌜ sheetLeft k (now (sections .exit)) (now (count .exit)) ≡ sheetLeftBy (sheetOf (shapeFrom shape) enclose neck (sheetFrom (now (measures .entry))) (now (holders .entry)) (now (sections .entry))) ⌝ }
+    ensures { λ k. ⌜ sheetLeft k (now (sections .exit)) (now (count .exit))
+        ≡ sheetLeftBy (sheetOf (shapeFrom shape) enclose neck (sheetFrom (now (measures .entry))) (now (holders .entry)) (now (sections .entry))) ⌝ }
     ensures { λ k. ⌜ (k ≡ 0 → isTool (take (4 * getD (now (count .exit)) 0 0) (now (sections .exit))) ≡ true) ⌝ }
+    ensures { λ k. ⌜ (k ≡ 0 → isCurved (shapeFrom shape) ≡ true → Encloses (radiusOf (sheetFrom (now (measures .entry)))) (now (sections .exit))) ⌝ }
 {
     let a = sheet::sections_of(
         sheet::shape_from(shape),

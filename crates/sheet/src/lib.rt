@@ -8,7 +8,8 @@ ghost use Prim.Native.Nat.{min, _+_, _*_, _/_, _^_, _≤_, _<_};
 ghost use lib.ListN.{length, take};
 ghost use Rattle.golden.specs.Upper.{finiteOf};
 ghost use Rattle.tool.specs.Tool.{isTool};
-ghost use Rattle.sheet.specs.Sheet.{shapeNumber, shapeFrom, cylinderOf, enclosedOf, chamferOf, drillOf, endOf, belowOf, neckOf, bodyOf, holderOf, holderAt, holdersFrom, listed, sectionsOf, numbersOf, allFinite, allValid, refusalOfList, refusalOfEnd, refusalOf, ended, placed, sheetOf};
+ghost use Rattle.sheet.specs.Enclosing.{isCurved, Encloses};
+ghost use Rattle.sheet.specs.Sheet.{shapeNumber, shapeFrom, cylinderOf, radiusOf, enclosedOf, chamferOf, drillOf, endOf, belowOf, neckOf, bodyOf, holderOf, holderAt, holdersFrom, listed, sectionsOf, numbersOf, allFinite, allValid, refusalOfList, refusalOfEnd, refusalOf, ended, placed, sheetOf};
 use section::Section;
 
 const MINUS_ONE: f64 = -1.0;
@@ -66,6 +67,7 @@ pub fn sections_of(
 ) -> Listed
     ensures { λ a. ⌜ ended a (now (sections .exit)) ≡ sheetOf shape enclose neck p (now (holders .entry)) (now (sections .entry)) ⌝ }
     ensures { λ a. ⌜ (a .refusal ≡ 0 → isTool (take (4 * a .count) (now (sections .exit))) ≡ true) ⌝ }
+    ensures { λ a. ⌜ (a .refusal ≡ 0 → isCurved shape ≡ true → Encloses (radiusOf p) (now (sections .exit))) ⌝ }
 {
     let b = body_of(shape, enclose, neck, p);
     let k = refusal(p, b, holders, sections.len());

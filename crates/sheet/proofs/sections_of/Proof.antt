@@ -2,13 +2,14 @@ use mathlib.Core.Path.{_≡_, refl, ap, sym, _∙_}
 use native.Mathlib.Omega.{arith}
 use borrow.Author.Needs.{needs}
 use Rattle.sheet.proofs.Sheets.{accepted, refused-is, accepted-is, accepted-tool}
+use Rattle.sheet.proofs.Enclosures.{accepted-encloses}
 use Rattle.sheet.proofs.sections_of.Statement.{statement}
 use Rattle.sheet.proofs.sections_of.Tie as tie
 
 returns : tie.Need-returns
 returns c = (
   refused-is _ _ _ _ _ _ _ _ (c .before .before .body-of .ensures) (c .before .refusal .ensures) (c .if1 .taken),
-  λ z. absurd (c .if1 .taken z),
+  (λ z. absurd (c .if1 .taken z), λ z q. absurd (c .if1 .taken z)),
 )
 
 put-all-requires : tie.Need-put-all-requires
@@ -26,7 +27,10 @@ returns-2 c =
     let d = n .before .before in
     let k = d .before in (
       accepted-is _ _ _ _ _ _ _ _ (k .before .body-of .ensures) (k .refusal .ensures) (d .if1 .left) _ _ (n .put-all .ensures .0) (n .put-all .ensures .1),
-      λ z. accepted-tool _ _ _ _ (sym (k .refusal .ensures) ∙ d .if1 .left) _ _ (n .put-all .ensures .0) (n .put-all .ensures .1),
+      (
+        λ z. accepted-tool _ _ _ _ (sym (k .refusal .ensures) ∙ d .if1 .left) _ _ (n .put-all .ensures .0) (n .put-all .ensures .1),
+        λ z q. accepted-encloses _ _ _ _ _ _ _ (k .before .body-of .ensures) (sym (k .refusal .ensures) ∙ d .if1 .left) _ (n .put-all .ensures .1) q,
+      ),
     )
 
 pub sections-of-spec : {M : Type 1} → statement M
