@@ -14,15 +14,16 @@
  * and sets fixed results to zero, the stamp to the one handed:
  *
  *    1  the mesh's length is no multiple of 9 or over 65,536 triangles; in questions and plan: marks_len is not the mesh's n; in
- *       joining: runs_len is no multiple of 5
- *    2  a question's number, r or floor outside its range (points 3e6, radii 0 to 1e6, lift and floor 1e6 in magnitude); in joining:
- *       a number that is not finite
+ *       joining: runs_len is no multiple of 5; of a tool sheet: holders_len is no multiple of 4
+ *    2  a question's number, r or floor outside its range (points 3e6, radii 0 to 1e6, lift and floor 1e6 in magnitude); in joining
+ *       and of a tool sheet: a number that is not finite
  *    3  the mesh is empty
  *    4  a coordinate is not finite, or its magnitude is over 1e6
  *    5  columns or rows over 65,536, cells over 1,048,576, or cells + 1 over starts_len
  *    6  members over 16,777,216 or over members_len
  *    7  measures, sizes and tables are not an index of this mesh, as far as the call looks; or a mark lies above the stamp
- *    8  no section, not four numbers each, over 32, an invalid one; or the corner radius is not within 0 to r
+ *    8  no section, not four numbers each, over 32, an invalid one; or the corner radius is not within 0 to r; of a tool sheet: a
+ *       section that is invalid or out of range, or more than 32
  *    9  a parameter of the plan
  *   10  a level lies above the stock's top, or deeper than the cutting length less 16 tolerances
  *   11  more levels than room
@@ -31,6 +32,8 @@
  *   14  the job has under 30 bytes               15  its mark is not "FTM"           16  its version is not 1
  *   17  its sixth byte is not 0                  18  no triangle, or too many triangles or questions
  *   19  its length is not what its counts ask    20  a number in it is not finite
+ *   24  a beam, a shape number above 5, or a ball or bull end without the enclosure
+ *   25  sections_len is less than four numbers a section
  *
  * 10 to 13 leave levels, runs and marks all zero.
  */
@@ -108,6 +111,18 @@ uint32_t mandrikelo_plan(const double *mesh, size_t mesh_len, const double measu
  * 2 one is not finite. When it is done does not matter: joined runs, with more added behind them, join to what the whole list joins to.
  * Only the first `count` runs are to be handed on: the zeros behind them are no runs, and taken for runs they would join too. */
 uint32_t mandrikelo_join(double *runs, size_t runs_len, size_t count[1]);
+
+/* The sections of a tool from its sheet, in this order: the end; a cylinder at the end of the cutting length and, if there is a neck,
+ * one at its end, each where it lies below the stickout; the holders. `shape` is 0 flat, 1 ball, 2 bull, 3 drill, 4 chamfer, 5 beam.
+ * With `enclose` a ball or bull end is listed as the flat end of its radius, which is nowhere above it (corner radii under 2^-511
+ * excepted). The tip height is that at the full radius; the two radii are those just above the cutting length and just above the
+ * neck. A holder is 4 numbers: low z, high z, low radius, high radius. `sections` gets 4 numbers a section, and entries beyond those
+ * keep what they held; `count` gets the number of sections. What is accepted is a tool that mandrikelo_max_sections and
+ * mandrikelo_sections_chord_clear take. Refusals in this order: 1, 2 (any of the numbers, used by the shape or not), 24, 8, 25. */
+uint32_t mandrikelo_sections_of(uint32_t shape, bool enclose, bool neck,
+    const double sheet[8] /* diameter, tip diameter, tip height, cutting length, stickout, neck length, radius above the cutting
+        length, radius above the neck */,
+    const double *holders, size_t holders_len, double *sections, size_t sections_len, uint32_t count[1]);
 
 /* A job file (docs: "The job file"). `mesh` gets 9 numbers a triangle, `questions` 5 each (px, py, qx, qy, r); entries beyond those
  * keep what they held. */

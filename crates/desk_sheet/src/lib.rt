@@ -40,7 +40,8 @@ pub extern "C" fn mandrikelo_sections_of(
     ensures { λ k. ⌜ sheetLeft k (now (sections .exit)) (now (count .exit))
         ≡ sheetLeftBy (sheetOf (shapeFrom shape) enclose neck (sheetFrom (now (measures .entry))) (now (holders .entry)) (now (sections .entry))) ⌝ }
     ensures { λ k. ⌜ (k ≡ 0 → isTool (take (4 * getD (now (count .exit)) 0 0) (now (sections .exit))) ≡ true) ⌝ }
-    ensures { λ k. ⌜ (k ≡ 0 → isCurved (shapeFrom shape) ≡ true → Encloses (radiusOf (sheetFrom (now (measures .entry)))) (now (sections .exit))) ⌝ }
+    ensures { λ k. ⌜ (k ≡ 0 → isCurved (shapeFrom shape) ≡ true
+        → Encloses (radiusOf (sheetFrom (now (measures .entry)))) (now (sections .exit))) ⌝ }
 {
     let a = sheet::sections_of(
         sheet::shape_from(shape),

@@ -1,23 +1,23 @@
 -- The root of a square: of a number from 2 ^ -511 to 1e6 the root of its square, both rounded, is not above the number. With 53 digits m the square is m * m, off by
 -- half a unit of its last digit at most, which is at most m / 2; so the whole number nearest to its root is m again.
-use mathlib.Core.Bool.{Bool, true, false, not}
+use mathlib.Core.Bool.{false, not}
 use mathlib.Core.Path.{_≡_, refl, sym, ap, _∙_, subst}
 use Prim.Native.Nat.{ℕ, zero, suc, _+_, _-_, _*_, _/_, _%_, _^_, _≤_, _<_, compare, Ordering, Ordering·lt, Ordering·eq, Ordering·gt}
 use native.Mathlib.Nat.{le-trans, le-of-eq, lt-of-lt-of-le, lt-of-le-of-lt, lt-of-not-le, lt-irrefl, mul-assoc, mul-comm, mul-one, mul-le-mul, mul-le-mul-right, mul-div-cancel, mul-mul-mul-comm, mul-right-comm, suc-mul, add-mul, mod-lt, div-add-mod', mul-pos}
 use native.Mathlib.Omega.{arith}
 use lib.Arith.{lt-of-le-ne}
 use lib.Dec.{T, isLe, isEq, eqb, leb→le, nleb→lt, eqb→eq, eqb-refl, lit<}
-use lib.IntN.{pos, negsuc}
-use lib.Pow.{pow-add, pow-pos, pow-mono, pow-lt, shl-lt}
-use lib.Ieee.{Float, fin, binary64, fits, le, size, nearest, round, units, mul}
+use lib.IntN.{negsuc}
+use lib.Pow.{pow-add, pow-pos, pow-mono, shl-lt}
+use lib.Ieee.{Float, fin, binary64, fits, le, size, nearest, round, units}
 use lib.Ieee.Digits.{size-lt, size-le, size-reaches}
 use lib.Ieee.Exact.{HasValue, units-val}
 use lib.Ieee.Nearest.{closest, closest-same, div-same, nearest-ge}
 use lib.Ieee.Order.{le-of-values}
 use lib.Ieee.Positive.{num, den, positive, den-pos, value→cross, positive-of-value, values-of-le, mul-at, between}
-use lib.Ieee.Scale.{finite, grid, overflow, round-same, round-val, round-under, grid-scale, normal-of-fraction}
+use lib.Ieee.Scale.{finite, grid, round-same, round-val, round-under, grid-scale, normal-of-fraction}
 use Rattle.numbers.specs.Reals.{_⊗_}
-use Rattle.numbers.specs.Root.{nearestRoot, Nearest, rootOfUnits, rootOf}
+use Rattle.numbers.specs.Root.{nearestRoot, rootOfUnits, rootOf}
 use Rattle.numbers.proofs.Squares.{is-nearest-root}
 use Rattle.numbers.proofs.Units.{root-is, four}
 use Rattle.numbers.proofs.Between.{Normal, normalised}

@@ -1,13 +1,11 @@
 -- A bull-nose end is nowhere below its tip, as it is computed, where the root of its corner radius' square is not above that radius.
-use mathlib.Core.Bool.{Bool, true, false, cond, _||_}
+use mathlib.Core.Bool.{Bool, true, false, _||_}
 use mathlib.Core.Path.{_≡_, refl, ap, sym, _∙_}
 use Prim.Native.Nat.{ℕ, _+_, _*_, _≤_}
-use native.Mathlib.Nat.{mul-pos, mul-assoc, mul-comm, mul-right-comm, add-mul, zero-mul}
+use native.Mathlib.Nat.{mul-pos, mul-assoc, mul-comm, add-mul, zero-mul}
 use native.Mathlib.Omega.{arith}
 use lib.Dec.{T}
-use lib.IntN.{pos}
 use lib.Ieee.{Float, nan, inf, fin, binary64, sum, round, add, sub, mul, neg, lt, le, eq, fits, ofBits}
-use lib.Ieee.Bits.{ofBits-fits}
 use lib.Ieee.Fits.{sub-fits, mul-fits}
 use lib.Ieee.Positive.{den, den-pos}
 use lib.Ieee.Scale.{finite}

@@ -1,11 +1,9 @@
 -- The flat end that encloses a curved one: it stands first in the list, and is nowhere above the curved end.
-use mathlib.Core.Bool.{Bool, true, false, cond, _||_}
+use mathlib.Core.Bool.{Bool, true, false, _||_}
 use mathlib.Core.List.{List}
 use mathlib.Core.Path.{_≡_, refl, ap, sym, _∙_}
-use Prim.Native.Nat.{ℕ}
 use lib.Dec.{T}
-use lib.IntN.{pos}
-use lib.Ieee.{Float, fin, binary64, mul, round, fits, lt, le, ofBits}
+use lib.Ieee.{Float, binary64, mul, round, fits, lt, le, ofBits}
 use lib.Ieee.Fits.{mul-fits, div-fits}
 use lib.Ieee.Scale.{finite}
 use lib.ListN.{length}

@@ -1,12 +1,12 @@
 -- What a sheet is answered, and that an accepted list is a tool for the section questions.
 use mathlib.Core.Bool.{Bool, true, false, _&&_}
-use mathlib.Core.List.{List, [], _∷_, _++_}
+use mathlib.Core.List.{List, [], _∷_}
 use mathlib.Core.Path.{_≡_, refl, ap, sym, _∙_}
 use Prim.Native.Nat.{ℕ, zero, suc, _+_, _*_, _/_, _%_, _≤_, _<_}
 use native.Mathlib.Nat.{not-suc-le-zero}
 use native.Mathlib.Omega.{arith}
 use borrow.Author.Tests.{eq-eqb, ne-eqb, leb-true, le-leb, lt-leb}
-use lib.Dec.{eqb, lit<}
+use lib.Dec.{lit<}
 use lib.Ieee.{Float}
 use lib.ListN.{length, take}
 use lib.Seq.{take-at}
@@ -17,7 +17,7 @@ use Rattle.flatten.specs.Flat.{flatOf}
 use Rattle.cells.specs.Cover.{isFrom}
 use Rattle.query.specs.Usable.{every}
 use Rattle.grid.proofs.Ladder.{demand-here, demand-next, refused-not, demanded}
-use Rattle.tool.specs.Tool.{sectionOf, sectionsIn, isTool}
+use Rattle.tool.specs.Tool.{sectionOf, isTool}
 use Rattle.sheet.specs.declared.Shape.{Shape}
 use Rattle.sheet.specs.declared.Sheet.{Sheet}
 use Rattle.sheet.specs.declared.Part.{Part}

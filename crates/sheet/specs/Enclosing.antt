@@ -34,6 +34,7 @@ isCurved Drill = false
 isCurved Chamfer = false
 isCurved Beam = false
 
--- At every distance up to r the list's first section is not above the bull-nose end of any such corner radius, both as they are computed.
+-- At every distance up to r the list's first section is not above the bull-nose end of any such corner radius, an f64, both as they are computed.
 pub record Encloses (r : Float) (table : List Float) : Type 0 where
-  pub below : (d rc : Float) → T (fits binary64 rc) → isCorner r rc ≡ true → le d r ≡ true → T (le (heightOver (profileOf (sectionOf table 0) d)) (bullProfile d r rc))
+  pub below : (d rc : Float) → T (fits binary64 rc) → isCorner r rc ≡ true → le d r ≡ true
+      → T (le (heightOver (profileOf (sectionOf table 0) d)) (bullProfile d r rc))

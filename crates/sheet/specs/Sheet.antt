@@ -1,7 +1,7 @@
--- Document 02, request 8: a tool's sections straight from its sheet, in the order of the Rust's `sections_of`, as a flat table that the section questions accept.
+-- Document 02, request 8: a tool's sections straight from its sheet, in the order of the Rust's `sections_of`, as a flat table
+-- that the section questions accept.
 use mathlib.Core.Bool.{Bool, true, false, cond, _&&_}
 use mathlib.Core.List.{List, [], _∷_, _++_}
-use mathlib.Core.Path.{_≡_, refl}
 use Prim.Native.Nat.{ℕ, zero, suc, _+_, _*_, _/_, _%_}
 use lib.Dec.{eqb, leb}
 use lib.Ieee.{Float, lt}

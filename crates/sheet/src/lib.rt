@@ -9,7 +9,9 @@ ghost use lib.ListN.{length, take};
 ghost use Rattle.golden.specs.Upper.{finiteOf};
 ghost use Rattle.tool.specs.Tool.{isTool};
 ghost use Rattle.sheet.specs.Enclosing.{isCurved, Encloses};
-ghost use Rattle.sheet.specs.Sheet.{shapeNumber, shapeFrom, cylinderOf, radiusOf, enclosedOf, chamferOf, drillOf, endOf, belowOf, neckOf, bodyOf, holderOf, holderAt, holdersFrom, listed, sectionsOf, numbersOf, allFinite, allValid, refusalOfList, refusalOfEnd, refusalOf, ended, placed, sheetOf};
+ghost use Rattle.sheet.specs.Sheet.{shapeNumber, shapeFrom, cylinderOf, radiusOf, enclosedOf, chamferOf, drillOf, endOf};
+ghost use Rattle.sheet.specs.Sheet.{belowOf, neckOf, bodyOf, holderOf, holderAt, holdersFrom, listed, sectionsOf, numbersOf};
+ghost use Rattle.sheet.specs.Sheet.{allFinite, allValid, refusalOfList, refusalOfEnd, refusalOf, ended, placed, sheetOf};
 use section::Section;
 
 const MINUS_ONE: f64 = -1.0;
@@ -368,7 +370,8 @@ fn valid_holders(holders: &[f64]) -> bool
 // Writes the list, and answers how many sections it has.
 fn put_all(b: Body, holders: &[f64], sections: &mut [f64]) -> usize
     requires { ⌜ 4 * length (sectionsOf b (now holders)) ≤ length (now sections) ⌝ }
-    ensures { λ n. ⌜ (n ≡ length (sectionsOf b (now (holders .entry)))) × (now (sections .exit) ≡ placed (sectionsOf b (now (holders .entry))) 0 (now (sections .entry))) ⌝ }
+    ensures { λ n. ⌜ (n ≡ length (sectionsOf b (now (holders .entry))))
+        × (now (sections .exit) ≡ placed (sectionsOf b (now (holders .entry))) 0 (now (sections .entry))) ⌝ }
 {
     let end = b.end;
     let cut = b.cut;
@@ -396,7 +399,8 @@ fn put(part: Part, at: usize, sections: &mut [f64]) -> usize
 // Writes every holder from section `at` of the table on.
 fn put_holders(holders: &[f64], at: usize, sections: &mut [f64]) -> usize
     requires { ⌜ 4 * (at + length (now holders) / 4) ≤ length (now sections) ⌝ }
-    ensures { λ n. ⌜ (n ≡ at + length (now (holders .entry)) / 4) × (now (sections .exit) ≡ placed (holdersFrom (now (holders .entry)) 0 (length (now (holders .entry)) / 4)) at (now (sections .entry))) ⌝ }
+    ensures { λ n. ⌜ (n ≡ at + length (now (holders .entry)) / 4)
+        × (now (sections .exit) ≡ placed (holdersFrom (now (holders .entry)) 0 (length (now (holders .entry)) / 4)) at (now (sections .entry))) ⌝ }
 {
     let n = holders.len() / 4;
     for i in 0..n {

@@ -1,4 +1,3 @@
-use mathlib.Core.Path.{_≡_, refl, ap, sym, _∙_}
 use Rattle.sheet.specs.Sheet.{bodyOf}
 use Rattle.sheet.proofs.body_of.Statement.{statement}
 use Rattle.sheet.proofs.body_of.Tie as tie

@@ -1,4 +1,4 @@
-use mathlib.Core.Path.{_≡_, refl, ap, sym, _∙_}
+use mathlib.Core.Path.{refl}
 use Rattle.sheet.specs.Sheet.{drillOf}
 use Rattle.sheet.proofs.drill.Statement.{statement}
 use Rattle.sheet.proofs.drill.Tie as tie

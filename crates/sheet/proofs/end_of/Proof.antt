@@ -1,5 +1,5 @@
 use borrow.Author.Needs.{needs}
-use mathlib.Core.Path.{_≡_, refl, ap, sym, _∙_}
+use mathlib.Core.Path.{ap, sym, _∙_}
 use Rattle.sheet.specs.declared.Part.the-variants.{There}
 use Rattle.sheet.specs.Sheet.{endOf}
 use Rattle.sheet.proofs.end_of.Statement.{statement}

@@ -1,5 +1,4 @@
 use borrow.Author.Needs.{needs}
-use mathlib.Core.Path.{_≡_, refl, ap, sym, _∙_}
 use Rattle.sheet.specs.Sheet.{holderAt}
 use Rattle.sheet.proofs.holder_at.Statement.{statement}
 use Rattle.sheet.proofs.holder_at.Tie as tie

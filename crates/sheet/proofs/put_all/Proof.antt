@@ -1,10 +1,8 @@
-use mathlib.Core.Path.{_≡_, refl, ap, sym, _∙_}
 use native.Mathlib.Omega.{arith}
 use borrow.Author.Needs.{needs}
 use denote.Ref.{now}
-use lib.ListN.{length}
-use Rattle.sheet.specs.Sheet.{listed, holdersFrom, sectionsOf}
-use Rattle.sheet.proofs.Lists.{sections-length, placed-then, placed-length}
+use Rattle.sheet.specs.Sheet.{listed, sectionsOf}
+use Rattle.sheet.proofs.Lists.{sections-length, placed-then}
 use Rattle.sheet.proofs.put_all.Statement.{statement}
 use Rattle.sheet.proofs.put_all.Tie as tie
 

@@ -1,4 +1,4 @@
-use mathlib.Core.Path.{_≡_, refl, ap, sym, _∙_}
+use mathlib.Core.Path.{refl, ap}
 use borrow.Author.Needs.{needs}
 use Rattle.grid.proofs.Ladder.{refuse-here, refuse-next}
 use Rattle.sheet.specs.Sheet.{isAbsent, refusalOfEnd}

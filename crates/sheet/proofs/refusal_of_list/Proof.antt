@@ -1,6 +1,5 @@
-use mathlib.Core.Path.{_≡_, refl, ap, sym, _∙_}
+use mathlib.Core.Path.{sym, _∙_}
 use native.Mathlib.Omega.{arith}
-use borrow.Author.Needs.{needs}
 use Rattle.query.proofs.Testing.{failed, passed}
 use Rattle.sheet.proofs.Lists.{sections-length}
 use Rattle.sheet.proofs.Sheets.{too-many, invalid, no-room, good-list, body-bad, holders-bad, all-good}

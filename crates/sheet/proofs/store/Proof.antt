@@ -1,6 +1,5 @@
 use borrow.Author.Needs.{needs}
 use native.Mathlib.Omega.{arith}
-use mathlib.Core.Path.{_≡_, refl, ap, sym, _∙_}
 use Rattle.sheet.proofs.Lists.{placed-one}
 use lib.ListN.{length-set}
 use Rattle.sheet.proofs.store.Statement.{statement}

@@ -1,4 +1,4 @@
-use mathlib.Core.Path.{_≡_, refl, ap, sym, _∙_}
+use mathlib.Core.Path.{refl}
 use Rattle.numbers.proofs.Branches.{and-on, and-off, bool-called}
 use Rattle.sheet.proofs.valid_body.Statement.{statement}
 use Rattle.sheet.proofs.valid_body.Tie as tie

@@ -1,5 +1,5 @@
 use borrow.Author.Needs.{needs}
-use mathlib.Core.Path.{_≡_, refl, ap, sym, _∙_}
+use mathlib.Core.Path.{ap, sym, _∙_}
 use Rattle.sheet.specs.Sheet.{listed, allValid}
 use Rattle.sheet.proofs.Lists.{valid-one}
 use Rattle.sheet.proofs.valid_part.Statement.{statement}
