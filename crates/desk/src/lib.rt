@@ -1,7 +1,8 @@
 // What C and Rust call of the index, the questions and the plan: include/mandrikelo.h declares these functions. Each hands its arguments to the
 // library and lays the answer into fixed arrays; the contract is the library's own, and asks nothing of the caller.
 ghost use mathlib.Core.Path.{_≡_};
-ghost use Rattle.desk.specs.Doors.{builtLeft, builtLeftBy, headerFrom, indexFrom, heightLeft, heightLeftBy, answerFrom, verdictLeft, verdictLeftBy, rulingFrom};
+ghost use Rattle.desk.specs.Doors.{builtLeft, builtLeftBy, headerFrom, indexFrom, heightLeft, heightLeftBy, answerFrom};
+ghost use Rattle.desk.specs.Doors.{verdictLeft, verdictLeftBy, rulingFrom};
 ghost use Rattle.grid.specs.Build.{buildOf};
 ghost use Rattle.grid.specs.Index.{indexOf, BuildPromise};
 ghost use Rattle.grid.specs.Ladder.{demand};
