@@ -76,8 +76,8 @@ int main(int argc, char **argv)
     uint32_t n = read[0];
     uint32_t *starts = room(CELLS + 1, sizeof *starts), *members = room(MEMBERS, sizeof *members);
     double measures[6];
-    uint32_t sizes[3];
-    passed("build", mandrikelo_build(mesh, 9 * (size_t)n, place[0], place[1], starts, CELLS + 1, members, MEMBERS, measures, sizes));
+    uint32_t sizes[3], bad[2];
+    passed("build", mandrikelo_build(mesh, 9 * (size_t)n, place[0], place[1], starts, CELLS + 1, members, MEMBERS, measures, sizes, bad));
 
     uint32_t *marks = room(n, sizeof *marks), counts[3];
     double *levels = room(5 * (size_t)n, sizeof *levels), *runs = room(5 * (size_t)RUNS, sizeof *runs), lengths[2];

@@ -11,14 +11,14 @@
  * A mesh is 9 numbers a triangle: x, y, z of its three corners. A section is 4 numbers: z0, r0, r1, rise.
  *
  * The functions that answer uint32_t answer 0, or a refusal number. A refusal leaves lent tables untouched (exceptions: 10 to 13)
- * and sets fixed results to zero, the stamp to the one handed:
+ * and sets fixed results to zero, the stamp to the one handed; only 4 tells a place and 19 a count, as said at their lines:
  *
  *    1  the mesh's length is no multiple of 9 or over 65,536 triangles; in questions and plan: marks_len is not the mesh's n; in
  *       joining: runs_len is no multiple of 5; of a tool sheet: holders_len is no multiple of 4
  *    2  a question's number, r or floor outside its range (points 3e6, radii 0 to 1e6, lift and floor 1e6 in magnitude); in joining
  *       and of a tool sheet: a number that is not finite
  *    3  the mesh is empty
- *    4  a coordinate is not finite, or its magnitude is over 1e6
+ *    4  a coordinate is not finite, or its magnitude is over 1e6; `bad` tells the first one
  *    5  columns or rows over 65,536, cells over 1,048,576, or cells + 1 over starts_len
  *    6  members over 16,777,216 or over members_len
  *    7  measures, sizes and tables are not an index of this mesh, as far as the call looks; or a mark lies above the stamp
@@ -31,9 +31,11 @@
  *   13  more joined runs than room
  *   14  the job has under 30 bytes               15  its mark is not "FTM"           16  its version is not 1
  *   17  its sixth byte is not 0                  18  no triangle, or too many triangles or questions
- *   19  its length is not what its counts ask    20  a number in it is not finite
  *   24  a beam, a shape number above 5, or a ball or bull end without the enclosure
  *   25  sections_len is less than four numbers a section
+ *   19  it has fewer bytes than its counts ask for: a copy that broke off; sizes[0] tells how many triangles stand whole before the cut
+ *   21  it has more bytes than its counts ask for, in 19's place in the order
+ *   20  a number in it is not finite
  *
  * 10 to 13 leave levels, runs and marks all zero.
  */
@@ -52,7 +54,8 @@ extern "C" {
  * keep what they held. */
 uint32_t mandrikelo_build(const double *mesh, size_t mesh_len, double floor, double r,
     uint32_t *starts, size_t starts_len, uint32_t *members, size_t members_len,
-    double measures[6] /* origin x, origin y, cell, floor, eps, r */, uint32_t sizes[3] /* n, columns, rows */);
+    double measures[6] /* origin x, origin y, cell, floor, eps, r */, uint32_t sizes[3] /* n, columns, rows */,
+    uint32_t bad[2] /* after 4: the triangle, which of its nine numbers; else 0, 0 */);
 
 /* Questions to an index that mandrikelo_build made of the same mesh. `marks` has one entry a triangle, all 0 before the first
  * question, and is carried with the stamp (0 at first) from question to question; a call sets the marks of the triangles that it
@@ -125,9 +128,10 @@ uint32_t mandrikelo_sections_of(uint32_t shape, bool enclose, bool neck,
     const double *holders, size_t holders_len, double *sections, size_t sections_len, uint32_t count[1]);
 
 /* A job file (docs: "The job file"). `mesh` gets 9 numbers a triangle, `questions` 5 each (px, py, qx, qy, r); entries beyond those
- * keep what they held. */
+ * keep what they held. A part of a job that is accepted never is: see 14 and 19; nor is a job with more behind it: see 21. */
 uint32_t mandrikelo_read_job(const uint8_t *bytes, size_t bytes_len, double *mesh, size_t mesh_len,
-    double *questions, size_t questions_len, double measures[2] /* floor, radius */, uint32_t sizes[2] /* n, m */);
+    double *questions, size_t questions_len, double measures[2] /* floor, radius */,
+    uint32_t sizes[2] /* n, m; after 19 the whole triangles, 0 */);
 
 /* The numbers that everything rests on. */
 double mandrikelo_root(double x);                 /* the nearest f64 to the square root */

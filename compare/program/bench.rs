@@ -227,7 +227,7 @@ fn contacts() {
 fn build(bed: &Bed) {
     let (as_shipped, as_doc) = (shipped::surface(&bed.mesh), doc::surface(&bed.mesh));
     let (mut starts, mut members) = (vec![0; bed.handed.starts.len()], vec![0; bed.handed.members.len()]);
-    let (mut measures, mut sizes) = ([0.; 6], [0; 3]);
+    let (mut measures, mut sizes, mut bad) = ([0.; 6], [0; 3], [0; 2]);
     let (mut kept, mut kept_doc) = (None, None);
     row(
         "build, 20,040 triangles", &["build"], 40, 1,
@@ -236,7 +236,7 @@ fn build(bed: &Bed) {
                 black_box(unsafe {
                     raw::mandrikelo_build(
                         bed.mesh.as_ptr(), bed.mesh.len(), FLOOR, RADIUS, starts.as_mut_ptr(), starts.len(),
-                        members.as_mut_ptr(), members.len(), measures.as_mut_ptr(), sizes.as_mut_ptr(),
+                        members.as_mut_ptr(), members.len(), measures.as_mut_ptr(), sizes.as_mut_ptr(), bad.as_mut_ptr(),
                     )
                 });
             },
@@ -392,12 +392,12 @@ fn plans() {
             [
                 &mut || {
                     let (l, r) = (levels.as_mut_ptr(), runs.as_mut_ptr());
-                    let mut counts = [0u32; 3];
+                    let (mut counts, mut bad) = ([0u32; 3], [0u32; 2]);
                     // camlib's plan builds its index too
                     black_box(unsafe {
                         raw::mandrikelo_build(
                             bed.mesh.as_ptr(), bed.mesh.len(), FLOOR, RADIUS, starts.as_mut_ptr(), starts.len(),
-                            members.as_mut_ptr(), members.len(), measures.as_mut_ptr(), sizes.as_mut_ptr(),
+                            members.as_mut_ptr(), members.len(), measures.as_mut_ptr(), sizes.as_mut_ptr(), bad.as_mut_ptr(),
                         );
                         raw::mandrikelo_plan(
                             bed.mesh.as_ptr(), bed.mesh.len(), measures.as_ptr(), sizes.as_ptr(), starts.as_ptr(),

@@ -25,7 +25,7 @@ pub mod raw {
         ) -> bool;
         pub fn mandrikelo_build(
             mesh: *const f64, mesh_len: usize, floor: f64, r: f64, starts: *mut u32, starts_len: usize, members: *mut u32,
-            members_len: usize, measures: *mut f64, sizes: *mut u32,
+            members_len: usize, measures: *mut f64, sizes: *mut u32, bad: *mut u32,
         ) -> u32;
         pub fn mandrikelo_max_height(
             mesh: *const f64, mesh_len: usize, measures: *const f64, sizes: *const u32, starts: *const u32, starts_len: usize,
@@ -138,17 +138,20 @@ pub struct Built {
     pub refusal: u32,
     pub measures: Lent<f64>,
     pub sizes: Lent<u32>,
+    /// After 4 the triangle and which of its nine numbers.
+    pub bad: Lent<u32>,
 }
 
 pub fn build(mesh: &[f64], floor: f64, r: f64, starts: &mut Lent<u32>, members: &mut Lent<u32>) -> Built {
     let mut measures = Lent::room(6, f64::GUARD);
-    let mut sizes = Lent::room(3, u32::GUARD);
+    let (mut sizes, mut bad) = (Lent::room(3, u32::GUARD), Lent::room(2, u32::GUARD));
     let refusal = unsafe {
         mandrikelo_build(
             mesh.as_ptr(), mesh.len(), floor, r, starts.at(), starts.len(), members.at(), members.len(), measures.at(), sizes.at(),
+            bad.at(),
         )
     };
-    Built { refusal, measures, sizes }
+    Built { refusal, measures, sizes, bad }
 }
 
 /// An answer with a height (verdict 0) or a verdict (height 0).

@@ -7,6 +7,7 @@
 
 mod bench;
 mod case;
+mod copies;
 mod doors;
 mod inputs;
 mod join;

@@ -82,6 +82,12 @@ pub fn build(mesh: &[f64], floor: f64, r: f64, starts: usize, members: usize) ->
     Ok(frame)
 }
 
+/// The first number of the mesh that refusal 4 is about: its triangle, and which of the nine it is.
+pub fn first_bad(mesh: &[f64]) -> [u32; 2] {
+    let k = mesh.iter().position(|v| !within(*v, 1e6)).unwrap() as u32;
+    [k / 9, k % 9]
+}
+
 /// Whether the header and starts stand: refusal 7's first part.
 fn header_stands(mesh: &[f64], h: &Handed) -> bool {
     let [x, y, cell, floor, eps, r] = h.measures;
@@ -208,31 +214,36 @@ pub fn plan(mesh: &[f64], h: &Handed, marks: &[u32], parameters: &[f64; 7], axis
     0
 }
 
-/// A job as document 01 lays it out: floor, radius, mesh, questions; or the reader's refusal.
-pub fn job(bytes: &[u8], mesh_room: usize, question_room: usize) -> Result<(f64, f64, Vec<f64>, Vec<f64>), u32> {
+/// A job as document 01 lays it out: floor, radius, mesh, questions; or the reader's refusal with the count that it tells, 0 but
+/// with 19.
+pub fn job(bytes: &[u8], mesh_room: usize, question_room: usize) -> Result<(f64, f64, Vec<f64>, Vec<f64>), (u32, u32)> {
     if bytes.len() < 30 {
-        return Err(14);
+        return Err((14, 0));
     }
     if &bytes[..3] != b"FTM" {
-        return Err(15);
+        return Err((15, 0));
     }
     if u16::from_le_bytes([bytes[3], bytes[4]]) != 1 {
-        return Err(16);
+        return Err((16, 0));
     }
     if bytes[5] != 0 {
-        return Err(17);
+        return Err((17, 0));
     }
     let word = |at: usize| u32::from_le_bytes(bytes[at..at + 4].try_into().unwrap()) as usize;
     let (n, m) = (word(6), word(10));
     if n == 0 || n > MOST || m > MOST || n > mesh_room / 9 || m > question_room / 5 {
-        return Err(18);
+        return Err((18, 0));
     }
-    if bytes.len() != 30 + 72 * n + 40 * m {
-        return Err(19);
+    let (has, asks) = (bytes.len(), 30 + 72 * n + 40 * m);
+    if has < asks {
+        return Err((19, n.min((has - 30) / 72) as u32));
+    }
+    if has > asks {
+        return Err((21, 0));
     }
     let numbers: Vec<f64> = bytes[14..].chunks_exact(8).map(|b| f64::from_le_bytes(b.try_into().unwrap())).collect();
     if numbers.iter().any(|x| !x.is_finite()) {
-        return Err(20);
+        return Err((20, 0));
     }
     Ok((numbers[0], numbers[1], numbers[2..2 + 9 * n].to_vec(), numbers[2 + 9 * n..].to_vec()))
 }

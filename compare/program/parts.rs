@@ -159,6 +159,7 @@ pub const PARTS: &[Part] = &[
         share: 20,
     },
     crate::join::PART,
+    crate::copies::PART,
     Part {
         name: "job",
         doors: &["read_job"],
@@ -387,8 +388,10 @@ fn make_build(rng: &mut Rng, case: u64, damage: bool) -> Case {
             0 => floor = inputs::bad(rng, floor),
             1 => r = inputs::bad(rng, r),
             2 => {
-                let i = rng.below(mesh.len() as u64) as usize;
-                mesh[i] = inputs::bad(rng, mesh[i]);
+                for _ in 0..1 + rng.below(3) {
+                    let i = rng.below(mesh.len() as u64) as usize;
+                    mesh[i] = inputs::bad(rng, mesh[i]);
+                }
             }
             3 => mesh.truncate(mesh.len() - 1 - rng.below(8) as usize),
             4 if rng.one_in(30) => mesh = vec![1.; 9 * 65_537],
@@ -426,7 +429,7 @@ fn compare_build(case: &Case, tally: &mut Tally) -> Verdict {
     let (starts_before, members_before) = (before(starts_room), before(members_room));
     let (mut starts, mut members) = (Lent::new(&starts_before), Lent::new(&members_before));
     let built = doors::build(mesh, floor, r, &mut starts, &mut members);
-    if !(starts.intact() && members.intact() && built.measures.intact() && built.sizes.intact()) {
+    if !(starts.intact() && members.intact() && built.measures.intact() && built.sizes.intact() && built.bad.intact()) {
         return Err("a guard word was changed".into());
     }
     let expected = model::build(mesh, floor, r, starts_room, members_room);
@@ -436,6 +439,10 @@ fn compare_build(case: &Case, tally: &mut Tally) -> Verdict {
     tally.unit();
     if built.refusal != refusal {
         return Err(format!("build: refusal {} where document 01 has {refusal}", built.refusal));
+    }
+    let bad = if refusal == 4 { model::first_bad(mesh) } else { [0; 2] };
+    if !built.bad.holds(&bad) {
+        return Err(format!("build: refusal {refusal} tells {:?}, the first bad number is {bad:?}", built.bad.get()));
     }
     if refusal != 0 {
         if !starts.holds(&starts_before) || !members.holds(&members_before) {
@@ -1099,7 +1106,7 @@ pub fn sample_job() -> Vec<u8> {
     job_of(0., 1., &mesh, &questions)
 }
 
-fn job_of(floor: f64, r: f64, mesh: &[f64], questions: &[f64]) -> Vec<u8> {
+pub fn job_of(floor: f64, r: f64, mesh: &[f64], questions: &[f64]) -> Vec<u8> {
     let mut out = b"FTM\x01\0\0".to_vec();
     out.extend((mesh.len() as u32 / 9).to_le_bytes());
     out.extend((questions.len() as u32 / 5).to_le_bytes());
@@ -1168,7 +1175,7 @@ fn make_job(rng: &mut Rng, case: u64, damage: bool) -> Case {
     Case::new("job").bytes("bytes", bytes).words("room", room)
 }
 
-fn finite(rng: &mut Rng) -> f64 {
+pub fn finite(rng: &mut Rng) -> f64 {
     loop {
         let x = inputs::any(rng);
         if x.is_finite() {
@@ -1190,7 +1197,10 @@ fn compare_job(case: &Case, tally: &mut Tally) -> Verdict {
     }
     let mut answer = ([0., 0.], [0, 0]);
     let refusal = match model::job(bytes, room[0] as usize, room[1] as usize) {
-        Err(refusal) => refusal,
+        Err((refusal, whole)) => {
+            answer.1[0] = whole;
+            refusal
+        }
         Ok((floor, radius, m, q)) => {
             answer = ([floor, radius], [m.len() as u32 / 9, q.len() as u32 / 5]);
             mesh_before[..m.len()].copy_from_slice(&m);

@@ -1,12 +1,12 @@
 -- What the builder leaves, refused and accepted, that a header in its ranges fits the arrays of C, and a verdict's number.
 use mathlib.Core.Bool.{Bool, true, _&&_}
-use mathlib.Core.List.{[], _∷_}
+use mathlib.Core.List.{List, [], _∷_}
 use mathlib.Core.Path.{_≡_, refl}
 use Prim.Native.Nat.{ℕ, _*_, _^_, _<_}
 use native.Mathlib.Omega.{arith}
 use borrow.Author.Tests.{eq-eqb, ne-eqb}
 use lib.Dec.{eqb}
-use lib.Ieee.{lt, le}
+use lib.Ieee.{Float, lt, le}
 use Rattle.numbers.specs.Reals.{f0, millionth, twoMillion, twoMillionths}
 use Rattle.numbers.proofs.Branches.{taken, left, both-true}
 use Rattle.cells.specs.Cover.{isFrom}
@@ -18,7 +18,7 @@ use Rattle.header.proofs.Ands.{from-is}
 use Rattle.ask.specs.declared.Finding.{Finding}
 use Rattle.ask.specs.declared.Finding.the-variants.{Neither, Clear, Blocked}
 use Rattle.ask.specs.Ask.{findingNumber}
-use Rattle.desk.specs.Doors.{measuresOf, sizesOf, builtLeft, builtLeftBy, findingFrom}
+use Rattle.desk.specs.Doors.{BuiltLeft, measuresOf, sizesOf, builtLeft, builtLeftBy, findingFrom}
 
 pub record Narrow (h : Header) : Type 0 where
   pub n : h .n < 2 ^ 32
@@ -41,23 +41,23 @@ narrow h e =
     let k = both-true (isFrom 1 65536 (h .rows)) i (d .1) in
     record { n = fits (h .n) (a .0); columns = fits (h .columns) (d .0); rows = fits (h .rows) (k .0) }
 
-pub refused-left : (o : Outcome) → (o .built .refusal ≡ 0 → ⊥) → builtLeft (o .built .refusal) (o .starts) (o .members) (f0 ∷ f0 ∷ f0 ∷ f0 ∷ f0 ∷ f0 ∷ []) (0 ∷ 0 ∷ 0 ∷ []) ≡ builtLeftBy o
-unfolding builtLeftBy
-refused-left o some =
-    let k = o .built .refusal in
-    left (eqb k 0) (builtLeft k (o .starts) (o .members) (f0 ∷ f0 ∷ f0 ∷ f0 ∷ f0 ∷ f0 ∷ []) (0 ∷ 0 ∷ 0 ∷ []))
-    (builtLeft k (o .starts) (o .members) (measuresOf (o .built .header)) (sizesOf (o .built .header)))
-    (builtLeft k (o .starts) (o .members) (f0 ∷ f0 ∷ f0 ∷ f0 ∷ f0 ∷ f0 ∷ []) (0 ∷ 0 ∷ 0 ∷ []))
-    (ne-eqb k 0 some) refl
+-- what stands in C's arrays with these measures and sizes
+abbrev leftWith : Outcome → List Float → List ℕ → BuiltLeft
+leftWith o fs ns = builtLeft (o .built .refusal) (o .starts) (o .members) fs ns (o .built .triangle ∷ o .built .number ∷ [])
 
-pub accepted-left : (o : Outcome) → o .built .refusal ≡ 0 → builtLeft (o .built .refusal) (o .starts) (o .members) (measuresOf (o .built .header)) (sizesOf (o .built .header)) ≡ builtLeftBy o
+abbrev zeros : Outcome → BuiltLeft
+zeros o = leftWith o (f0 ∷ f0 ∷ f0 ∷ f0 ∷ f0 ∷ f0 ∷ []) (0 ∷ 0 ∷ 0 ∷ [])
+
+abbrev header : Outcome → BuiltLeft
+header o = leftWith o (measuresOf (o .built .header)) (sizesOf (o .built .header))
+
+pub refused-left : (o : Outcome) → (o .built .refusal ≡ 0 → ⊥) → zeros o ≡ builtLeftBy o
 unfolding builtLeftBy
-accepted-left o none =
-    let k = o .built .refusal in
-    taken (eqb k 0) (builtLeft k (o .starts) (o .members) (measuresOf (o .built .header)) (sizesOf (o .built .header)))
-    (builtLeft k (o .starts) (o .members) (measuresOf (o .built .header)) (sizesOf (o .built .header)))
-    (builtLeft k (o .starts) (o .members) (f0 ∷ f0 ∷ f0 ∷ f0 ∷ f0 ∷ f0 ∷ []) (0 ∷ 0 ∷ 0 ∷ []))
-    (eq-eqb k 0 none) refl
+refused-left o some = left (eqb (o .built .refusal) 0) (zeros o) (header o) (zeros o) (ne-eqb _ 0 some) refl
+
+pub accepted-left : (o : Outcome) → o .built .refusal ≡ 0 → header o ≡ builtLeftBy o
+unfolding builtLeftBy
+accepted-left o none = taken (eqb (o .built .refusal) 0) (header o) (header o) (zeros o) (eq-eqb _ 0 none) refl
 
 -- C's number of a verdict says which it is.
 pub finding-back : (f : Finding) → findingFrom (findingNumber f) ≡ f

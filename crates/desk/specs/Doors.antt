@@ -22,24 +22,27 @@ measuresOf h = h .«origin_x» ∷ h .«origin_y» ∷ h .cell ∷ h .floor ∷ 
 abbrev pub sizesOf : Header → List ℕ
 sizesOf h = h .n ∷ h .columns ∷ h .rows ∷ []
 
--- An index built: the refusal, both tables, measures and sizes; a refusal leaves zeros in the last two.
+-- An index built: the refusal, both tables, measures and sizes, and which number was bad; a refusal leaves zeros in measures and sizes, and any outcome
+-- but 4 leaves zeros in the last.
 pub record BuiltLeft : Type 0 where
   pub refusal : ℕ
   pub starts : List ℕ
   pub members : List ℕ
   pub measures : List Float
   pub sizes : List ℕ
+  pub bad : List ℕ
 
-abbrev pub builtLeft : ℕ → List ℕ → List ℕ → List Float → List ℕ → BuiltLeft
-builtLeft k s m fs ns = record { refusal = k; starts = s; members = m; measures = fs; sizes = ns }
+abbrev pub builtLeft : ℕ → List ℕ → List ℕ → List Float → List ℕ → List ℕ → BuiltLeft
+builtLeft k s m fs ns bs = record { refusal = k; starts = s; members = m; measures = fs; sizes = ns; bad = bs }
 
 unfoldable pub builtLeftBy : Outcome → BuiltLeft
 builtLeftBy o =
     let k = o .built .refusal in
     let h = o .built .header in
+    let bad = o .built .triangle ∷ o .built .number ∷ [] in
     cond (eqb k 0)
-    (builtLeft k (o .starts) (o .members) (measuresOf h) (sizesOf h))
-    (builtLeft k (o .starts) (o .members) (f0 ∷ f0 ∷ f0 ∷ f0 ∷ f0 ∷ f0 ∷ []) (0 ∷ 0 ∷ 0 ∷ []))
+    (builtLeft k (o .starts) (o .members) (measuresOf h) (sizesOf h) bad)
+    (builtLeft k (o .starts) (o .members) (f0 ∷ f0 ∷ f0 ∷ f0 ∷ f0 ∷ f0 ∷ []) (0 ∷ 0 ∷ 0 ∷ []) bad)
 
 -- The header that C hands over.
 unfoldable pub headerFrom : List Float → List ℕ → Header

@@ -20,7 +20,8 @@ use reach::Chord;
 use rows::Axis;
 use terms::Parameters;
 
-// The index of a mesh: starts and members get its tables, measures and sizes its header.
+// The index of a mesh: starts and members get its tables, measures and sizes its header; after 4 bad holds the triangle and which of its nine numbers
+// came first, else 0 and 0.
 #[no_mangle]
 pub extern "C" fn mandrikelo_build(
     mesh: &[f64],
@@ -30,14 +31,18 @@ pub extern "C" fn mandrikelo_build(
     members: &mut [u32],
     measures: &mut [f64; 6],
     sizes: &mut [u32; 3],
+    bad: &mut [u32; 2],
 ) -> u32
-    ensures { λ k. ⌜ builtLeft k (now (starts .exit)) (now (members .exit)) (now (measures .exit)) (now (sizes .exit))
+    ensures { λ k. ⌜ builtLeft k (now (starts .exit)) (now (members .exit)) (now (measures .exit)) (now (sizes .exit)) (now (bad .exit))
         ≡ builtLeftBy (buildOf (now (mesh .entry)) floor r (now (starts .entry)) (now (members .entry))) ⌝ }
     ensures { λ k. ⌜ BuildPromise
         (indexFrom (now (mesh .entry)) (now (measures .exit)) (now (sizes .exit)) (now (starts .exit)) (now (members .exit))) k ⌝ }
 {
     let b = grid::build(mesh, floor, r, starts, members);
     let k = b.refusal;
+    let triangle = b.triangle;
+    let number = b.number;
+    *bad = [triangle, number];
     if k != 0 {
         *measures = [0.0, 0.0, 0.0, 0.0, 0.0, 0.0];
         *sizes = [0, 0, 0];

@@ -17,11 +17,18 @@ module _ (b : Bool) (k next : ℕ) where
   unfolding refuse
   refuse-next r e p = left _ _ _ _ e p
 
--- a rung that gave 0 was passed
-pub refused-not : (b : Bool) (k next : ℕ) → 0 < k → refuse b k next ≡ 0 → (b ≡ false) × (next ≡ 0)
+-- a rung that gave another number than its own was passed
+pub refused-other : (b : Bool) (k next r : ℕ) → (k ≡ r → ⊥) → refuse b k next ≡ r → (b ≡ false) × (next ≡ r)
 unfolding refuse
-refused-not true k next p e = absurd (omega arith)
-refused-not false k next p e = (refl, e)
+refused-other true k next r p e = absurd (p e)
+refused-other false k next r p e = (refl, e)
+
+module _ (b : Bool) (k next : ℕ) where
+  pub refused-not : 0 < k → refuse b k next ≡ 0 → (b ≡ false) × (next ≡ 0)
+  refused-not p e = refused-other b k next 0 (λ (z : k ≡ 0). omega arith) e
+
+  pub refused-later : (r : ℕ) → k < r → refuse b k next ≡ r → (b ≡ false) × (next ≡ r)
+  refused-later r p e = refused-other b k next r (λ (z : k ≡ r). omega arith) e
 
 -- what stands below a rung matters only where it is passed
 pub refuse-same : (b : Bool) (k x y : ℕ) → (b ≡ false → x ≡ y) → refuse b k x ≡ refuse b k y

@@ -3,3 +3,4 @@ pub mod Finite
 pub mod Rows
 pub mod Ladder
 pub mod Lengths
+pub mod Copies

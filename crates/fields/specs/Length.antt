@@ -8,7 +8,7 @@ use Rattle.fields.specs.declared.Length.{Length}
 use Rattle.fields.specs.declared.Length.the-variants.{Short, Exact, Surplus}
 
 -- how many bytes a file of this shape has
-unfoldable pub bytesOf : Shape → ℕ
+abbrev pub bytesOf : Shape → ℕ
 bytesOf s = s .head + s .n * s .size + s .m * s .other
 
 -- how many entries of the first kind stand whole in so many bytes
@@ -22,7 +22,15 @@ lengthRule s length =
     (cond (ltb (bytesOf s) length) Surplus
     Exact)
 
--- c is that number: the first c stand in so many bytes, and the next, if there is one, does not
+-- ---- refusals: 19 too few bytes, 21 surplus bytes, else the next
+unfoldable pub refuseLength : Length → ℕ → ℕ
+refuseLength (Short c) next = 19
+refuseLength Surplus next = 21
+refuseLength Exact next = next
+
+-- ---- what is told with 19
+
+-- c is the number of whole entries: the first c stand in so many bytes, and the next, if there is one, does not
 pub record Whole (s : Shape) (length c : ℕ) : Type 0 where
   pub few : c ≤ s .n
   pub stand : s .head + c * s .size ≤ length

@@ -2,3 +2,4 @@ pub mod Little
 pub mod Rows
 pub mod Ladder
 pub mod Length
+pub mod Copies

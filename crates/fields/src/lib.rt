@@ -49,6 +49,7 @@ pub fn length_rule(s: Shape, length: usize) -> Length
 // How many of the first n entries stand whole in so many bytes.
 pub fn whole_in(s: Shape, length: usize) -> u32
     ensures { λ c. ⌜ c ≡ wholeIn s length ⌝ }
+    ensures { λ c. ⌜ (s .head ≤ length → 1 ≤ s .size → Whole s length c) ⌝ }
 {
     let head = s.head as usize;
     let n = s.n;

@@ -1,6 +1,6 @@
 -- The refusals, rung by rung: what a call that passes them may rely on, and what the builder answers.
 use mathlib.Core.Bool.{true}
-use mathlib.Core.List.{List}
+use mathlib.Core.List.{List, [], _∷_}
 use mathlib.Core.Path.{_≡_, refl, ap, sym, _∙_, subst}
 use Prim.Native.Nat.{ℕ, _+_, _*_, _%_, _≤_, _<_}
 use native.Mathlib.Nat.{div-add-mod'}
@@ -9,8 +9,8 @@ use borrow.Author.Tests.{eq-eqb, ne-eqb, eqb-true, eqb-false, ltb-false}
 use lib.Dec.{lit<}
 use lib.Ieee.{Float}
 use lib.ListN.{length}
-use Rattle.numbers.proofs.Branches.{taken, left}
-use Rattle.spans.specs.Mesh.{isCoordinate, isRadius}
+use Rattle.numbers.proofs.Branches.{taken, left, by-test}
+use Rattle.spans.specs.Mesh.{isCoordinate, isRadius, badFrom, firstBad}
 use Rattle.spans.specs.Good.{AllGood}
 use Rattle.spans.specs.declared.Place.{Place}
 use Rattle.spans.specs.declared.Place.the-variants.{Nowhere, At}
@@ -21,7 +21,7 @@ use Rattle.grid.specs.declared.Header.{Header}
 use Rattle.grid.specs.declared.Built.{Built}
 use Rattle.grid.specs.Grid.{trianglesIn, gridOf, cellsIn, coverOf, totalOf}
 use Rattle.grid.specs.Header.{headerOf}
-use Rattle.grid.specs.Build.{isNowhere, refusalOfNumbers, refusalOfMesh, refusalOfGrid, refusalOfMembers, Outcome, outcome, refusedBy, acceptedWith, unless, filledOf, gridded, buildOf}
+use Rattle.grid.specs.Build.{isNowhere, placeOf, toldWith, refusalOfNumbers, refusalOfMesh, refusalOfGrid, refusalOfMembers, Outcome, outcome, refusedBy, acceptedWith, unless, filledOf, gridded, buildOf}
 use Rattle.grid.specs.Parts.{Gridded}
 use Rattle.grid.proofs.Ladder.{refused-not, demanded}
 use Rattle.grid.proofs.Gridding.{counted}
@@ -34,6 +34,19 @@ pub record Accepted (mesh : List Float) (floor r : Float) : Type 0 where
   pub bottom : isCoordinate floor ≡ true
   pub radius : isRadius r ≡ true
   pub numbers : AllGood mesh
+
+-- a place that the search finds stands in the mesh
+below : (k p : ℕ) (xs : List Float) → badFrom k xs ≡ At p → p < k + length xs
+unfolding badFrom
+below k p [] e = let z : _≡_ {A = ℕ} 0 1 = cc in absurd (omega arith)
+below k p (x ∷ xs) e =
+    by-test (isCoordinate x)
+    (λ t. let i = below (k + 1) p xs (rw t at e) in omega arith)
+    (λ t. let f : At k ≡ At p = rw t at e in let i : k ≡ p = cc in omega arith)
+
+pub place-below : (mesh : List Float) (p : ℕ) → firstBad mesh ≡ At p → p < length mesh
+unfolding firstBad
+place-below mesh p e = omega (arith, below 0 p mesh e)
 
 nowhere : (p : Place) → isNowhere p ≡ true → p ≡ Nowhere
 unfolding isNowhere
@@ -85,12 +98,12 @@ members-fit k lent e =
     (ltb-false _ _ (a .0), ltb-false _ _ (b .0))
 
 -- ---- refused, or what comes next
-module _ (k : ℕ) (s m : List ℕ) (next : Outcome) where
-  pub unless-refused : (b : Built) → b ≡ refusedBy k → (k ≡ 0 → ⊥) → outcome b s m ≡ unless k s m next
+module _ (k p : ℕ) (s m : List ℕ) (next : Outcome) where
+  pub unless-refused : (b : Built) → b ≡ refusedBy k p → (k ≡ 0 → ⊥) → outcome b s m ≡ unless k p s m next
   unfolding unless
   unless-refused b e h = ap (λ (x : Built). outcome x s m) e ∙ left _ _ _ _ (ne-eqb k 0 h) refl
 
-  pub unless-next : (o : Outcome) → k ≡ 0 → o ≡ next → o ≡ unless k s m next
+  pub unless-next : (o : Outcome) → k ≡ 0 → o ≡ next → o ≡ unless k p s m next
   unfolding unless
   unless-next o h e = taken _ _ _ _ (eq-eqb k 0 h) e
 
@@ -99,35 +112,36 @@ module _ (mesh : List Float) (n : ℕ) (g : Grid) (floor r : Float) (s m : List 
   asked : k ≡ refusalOfMembers (startOf (coverOf mesh g) n (cellsIn g)) (length m)
   asked = q ∙ ap (λ (x : ℕ). refusalOfMembers x (length m)) (p ∙ counted mesh g n z)
 
-  pub filled-refused : (b : Built) → b ≡ refusedBy k → (k ≡ 0 → ⊥) → outcome b s m ≡ filledOf mesh n g floor r s m
+  pub filled-refused : (b : Built) → b ≡ refusedBy k 0 → (k ≡ 0 → ⊥) → outcome b s m ≡ filledOf mesh n g floor r s m
   unfolding filledOf
-  filled-refused b e h = unless-refused _ s m _ b (e ∙ ap refusedBy asked) (λ z. h (asked ∙ z))
+  filled-refused b e h = unless-refused _ 0 s m _ b (e ∙ ap (λ (x : ℕ). refusedBy x 0) asked) (λ z. h (asked ∙ z))
 
   pub filled-accepted : (h : Header) (s′ m′ : List ℕ) → k ≡ 0 → h ≡ headerOf mesh n g floor r → s′ ≡ startsOf (coverOf mesh g) n (cellsIn g) s
-      → m′ ≡ membersTable (coverOf mesh g) n (cellsIn g) m → outcome (record { refusal = 0; header = h }) s′ m′ ≡ filledOf mesh n g floor r s m
+      → m′ ≡ membersTable (coverOf mesh g) n (cellsIn g) m → outcome (record { refusal = 0; triangle = 0; number = 0; header = h }) s′ m′ ≡ filledOf mesh n g floor r s m
   unfolding filledOf acceptedWith
-  filled-accepted h s′ m′ e a b c = unless-next _ s m _ _ (sym asked ∙ e) (rw (a, b, c) refl)
+  filled-accepted h s′ m′ e a b c = unless-next _ 0 s m _ _ (sym asked ∙ e) (rw (a, b, c) refl)
 
 -- ---- refusal 5, or what comes next; g is the grid as it was found
 module _ (mesh : List Float) (n : ℕ) (G : Grid) (floor r : Float) (s m : List ℕ) (g : Grid) (p : g ≡ G) (k : ℕ) (q : k ≡ refusalOfGrid (g .columns) (g .rows) (length s)) where
-  pub gridded-refused : (b : Built) → b ≡ refusedBy k → (k ≡ 0 → ⊥) → outcome b s m ≡ gridded mesh n G floor r s m
+  pub gridded-refused : (b : Built) → b ≡ refusedBy k 0 → (k ≡ 0 → ⊥) → outcome b s m ≡ gridded mesh n G floor r s m
   unfolding gridded
   gridded-refused b e h =
-      unless-refused _ s m _ b (e ∙ ap refusedBy q) (λ z. h (q ∙ z)) ∙ ap (λ (x : Grid). gridded mesh n x floor r s m) p
+      unless-refused _ 0 s m _ b (e ∙ ap (λ (x : ℕ). refusedBy x 0) q) (λ z. h (q ∙ z)) ∙ ap (λ (x : Grid). gridded mesh n x floor r s m) p
 
   pub gridded-next : (o : Outcome) → k ≡ 0 → o ≡ filledOf mesh n g floor r s m → o ≡ gridded mesh n G floor r s m
   unfolding gridded
-  gridded-next o h e = unless-next _ s m _ o (sym q ∙ h) e ∙ ap (λ (x : Grid). gridded mesh n x floor r s m) p
+  gridded-next o h e = unless-next _ 0 s m _ o (sym q ∙ h) e ∙ ap (λ (x : Grid). gridded mesh n x floor r s m) p
 
   pub found-passed : k ≡ 0 → Passed (G .columns) (G .rows) (length s)
   found-passed h = subst (λ (x : Grid). Passed (x .columns) (x .rows) (length s)) p (passed _ _ _ (sym q ∙ h))
 
 -- ---- refusals 1 to 4, or what comes next
 module _ (mesh : List Float) (floor r : Float) (s m : List ℕ) (k : ℕ) (q : k ≡ refusalOfMesh mesh floor r) where
-  pub built-refused : (b : Built) → b ≡ refusedBy k → (k ≡ 0 → ⊥) → outcome b s m ≡ buildOf mesh floor r s m
+  pub built-refused : (p : ℕ) → p ≡ toldWith k mesh → (b : Built) → b ≡ refusedBy k p → (k ≡ 0 → ⊥) → outcome b s m ≡ buildOf mesh floor r s m
   unfolding buildOf
-  built-refused b e h = unless-refused _ s m _ b (e ∙ ap refusedBy q) (λ z. h (q ∙ z))
+  built-refused p t b e h =
+      unless-refused _ _ s m _ b (e ∙ ap (refusedBy k) t ∙ ap (λ (x : ℕ). refusedBy x (toldWith x mesh)) q) (λ z. h (q ∙ z))
 
   pub built-next : (o : Outcome) → k ≡ 0 → o ≡ gridded mesh (trianglesIn mesh) (gridOf mesh (trianglesIn mesh) r) floor r s m → o ≡ buildOf mesh floor r s m
   unfolding buildOf
-  built-next o h e = unless-next _ s m _ o (sym q ∙ h) e
+  built-next o h e = unless-next _ _ s m _ o (sym q ∙ h) e

@@ -129,9 +129,9 @@ module _ (mesh : List Float) (floor r : Float) (a : Accepted mesh floor r) where
         }
 
 -- ---- back from an answer that is no refusal
-unless-then : (k : ℕ) (s m : List ℕ) (next : Outcome) (Q : Outcome → Type 0) → (k ≡ 0 → next .built .refusal ≡ 0 → Q next) → unless k s m next .built .refusal ≡ 0 → Q (unless k s m next)
+unless-then : (k p : ℕ) (s m : List ℕ) (next : Outcome) (Q : Outcome → Type 0) → (k ≡ 0 → next .built .refusal ≡ 0 → Q next) → unless k p s m next .built .refusal ≡ 0 → Q (unless k p s m next)
 unfolding unless refusedBy
-unless-then k s m next Q f e =
+unless-then k p s m next Q f e =
     by-test (eqb k 0)
     (λ t. rw t (f (eqb-true k 0 t) (rw t at e)))
     (λ t. let g : k ≡ 0 → ⊥ = eqb-false k 0 t in absurd (g (rw t at e)))
@@ -143,11 +143,11 @@ module _ (mesh : List Float) (floor r : Float) (s m : List ℕ) where
   whole : buildOf mesh floor r s m .built .refusal ≡ 0 → Left (buildOf mesh floor r s m)
   unfolding buildOf gridded filledOf acceptedWith
   whole =
-      unless-then _ s m _ Left
+      unless-then _ _ s m _ Left
       (λ x.
-      unless-then _ s m _ Left
+      unless-then _ _ s m _ Left
       (λ y.
-      unless-then _ s m _ Left
+      unless-then _ _ s m _ Left
       (λ z e. (sound mesh floor r (accepted mesh floor r x) s m (passed _ _ _ y), refl))))
 
   built-left : (o : Outcome) → o ≡ buildOf mesh floor r s m → o .built .refusal ≡ 0 → Left o

@@ -1,7 +1,7 @@
 -- Document 01, "Refusal numbers": refusals 1, 3, 2, 4, 5 and 6 in this order, and what the builder answers and leaves in both tables.
 use mathlib.Core.Bool.{Bool, true, false, cond}
 use mathlib.Core.List.{List}
-use Prim.Native.Nat.{ℕ, _+_, _*_, _%_}
+use Prim.Native.Nat.{ℕ, _+_, _*_, _/_, _%_}
 use lib.Dec.{ltb, eqb}
 use lib.ListN.{length}
 use lib.Ieee.{Float}
@@ -21,6 +21,15 @@ use Rattle.grid.specs.Ladder.{refuse, demand}
 unfoldable pub isNowhere : Place → Bool
 isNowhere Nowhere = true
 isNowhere (At k) = false
+
+-- The number of a place, 0 where there is none.
+unfoldable pub placeOf : Place → ℕ
+placeOf Nowhere = 0
+placeOf (At k) = k
+
+-- Which number of the mesh is told with refusal k: with 4 the first that is no coordinate, in mesh order; any other outcome tells 0.
+unfoldable pub toldWith : ℕ → List Float → ℕ
+toldWith k mesh = cond (eqb k 4) (placeOf (firstBad mesh)) 0
 
 -- 2: floor or r outside its range. 4: a coordinate not finite or over 1e6.
 unfoldable pub refusalOfNumbers : List Float → Float → Float → ℕ
@@ -64,35 +73,38 @@ pub record Outcome : Type 0 where
 abbrev pub outcome : Built → List ℕ → List ℕ → Outcome
 outcome b s m = record { built = b; starts = s; members = m }
 
--- The answer of a refused build: its number and a header all zero.
-unfoldable pub refusedBy : ℕ → Built
-refusedBy k =
+-- The answer of a refused build: its number, a header all zero, and of the number p that is told the triangle and which of its nine it is.
+unfoldable pub refusedBy : ℕ → ℕ → Built
+refusedBy k p =
     record {
       refusal = k;
+      triangle = p / 9;
+      number = p % 9;
       header = record { n = 0; «origin_x» = f0; «origin_y» = f0; cell = f0; columns = 0; rows = 0; floor = f0; eps = f0; r = f0 };
     }
 
 -- The answer of an accepted build.
 unfoldable pub acceptedWith : Header → Built
-acceptedWith h = record { refusal = 0; header = h }
+acceptedWith h = record { refusal = 0; triangle = 0; number = 0; header = h }
 
--- Refused by k with both tables untouched; where k is 0, what comes next.
-unfoldable pub unless : ℕ → List ℕ → List ℕ → Outcome → Outcome
-unless k s m next = cond (eqb k 0) next (outcome (refusedBy k) s m)
+-- Refused by k, telling number p, with both tables untouched; where k is 0, what comes next.
+unfoldable pub unless : ℕ → ℕ → List ℕ → List ℕ → Outcome → Outcome
+unless k p s m next = cond (eqb k 0) next (outcome (refusedBy k p) s m)
 
 -- Refusal 6, or the header and both tables.
 unfoldable pub filledOf : List Float → ℕ → Grid → Float → Float → List ℕ → List ℕ → Outcome
 filledOf mesh n g floor r s m =
     let on = coverOf mesh g in
-    unless (refusalOfMembers (startOf on n (cellsIn g)) (length m)) s m
+    unless (refusalOfMembers (startOf on n (cellsIn g)) (length m)) 0 s m
     (outcome (acceptedWith (headerOf mesh n g floor r)) (startsOf on n (cellsIn g) s) (membersTable on n (cellsIn g) m))
 
 -- Refusal 5, then as above.
 unfoldable pub gridded : List Float → ℕ → Grid → Float → Float → List ℕ → List ℕ → Outcome
-gridded mesh n g floor r s m = unless (refusalOfGrid (g .columns) (g .rows) (length s)) s m (filledOf mesh n g floor r s m)
+gridded mesh n g floor r s m = unless (refusalOfGrid (g .columns) (g .rows) (length s)) 0 s m (filledOf mesh n g floor r s m)
 
 -- The builder: refusals 1, 3, 2 and 4, then as above.
 unfoldable pub buildOf : List Float → Float → Float → List ℕ → List ℕ → Outcome
 buildOf mesh floor r s m =
     let n = trianglesIn mesh in
-    unless (refusalOfMesh mesh floor r) s m (gridded mesh n (gridOf mesh n r) floor r s m)
+    let k = refusalOfMesh mesh floor r in
+    unless k (toldWith k mesh) s m (gridded mesh n (gridOf mesh n r) floor r s m)

@@ -8,7 +8,8 @@ ghost use Rattle.cells.specs.Cover.{startsOf, membersTable};
 ghost use Rattle.cells.specs.Steps.{Room, CountedAll, Ready, Filled, Fits};
 ghost use Rattle.grid.specs.Grid.{trianglesIn, gridOf, cellsIn, cellsOf, coverOf, totalOf};
 ghost use Rattle.grid.specs.Header.{headerOf};
-ghost use Rattle.grid.specs.Build.{refusalOfNumbers, refusalOfMesh, refusalOfGrid, refusalOfMembers, outcome, refusedBy, filledOf, gridded, buildOf};
+ghost use Rattle.grid.specs.Build.{toldWith, refusalOfNumbers, refusalOfMesh, refusalOfGrid, refusalOfMembers};
+ghost use Rattle.grid.specs.Build.{outcome, refusedBy, filledOf, gridded, buildOf};
 ghost use Rattle.grid.specs.Index.{indexOf, BuildPromise};
 ghost use Rattle.grid.specs.Parts.{NearBox, Gridded};
 
@@ -34,10 +35,19 @@ pub struct Header {
     pub r: f64,
 }
 
-// The builder's answer: refusal 0 and the header, or a refusal and a header all zero.
+// The builder's answer: refusal 0 and the header, or a refusal and a header all zero. Refusal 4 tells the triangle and which of its nine numbers
+// came first; all else tells 0 and 0.
 pub struct Built {
     pub refusal: u32,
+    pub triangle: u32,
+    pub number: u32,
     pub header: Header,
+}
+
+// What refuses a mesh, 0 if nothing does, and which of its numbers is told.
+struct Reason {
+    refusal: u32,
+    place: u32,
 }
 
 // The index of a mesh: starts and members hold its tables, and entries that they do not need stay. A refused call changes neither.
@@ -46,16 +56,18 @@ pub fn build(mesh: &[f64], floor: f64, r: f64, starts: &mut [u32], members: &mut
         ≡ buildOf (now (mesh .entry)) floor r (now (starts .entry)) (now (members .entry)) ⌝ }
     ensures { λ b. ⌜ BuildPromise (indexOf (now (mesh .entry)) (b .header) (now (starts .exit)) (now (members .exit))) (b .refusal) ⌝ }
 {
-    let k = refusal_of_mesh(mesh, floor, r);
+    let w = refusal_of_mesh(mesh, floor, r);
+    let k = w.refusal;
+    let place = w.place;
     if k != 0 {
-        return refused(k);
+        return refused(k, place);
     }
     build_grid(mesh, floor, r, starts, members)
 }
 
-// The answer of a refused call.
-fn refused(k: u32) -> Built
-    ensures { λ b. ⌜ b ≡ refusedBy k ⌝ }
+// The answer of a refused call that tells one number of the mesh.
+fn refused(k: u32, place: u32) -> Built
+    ensures { λ b. ⌜ b ≡ refusedBy k place ⌝ }
 {
     let header = Header {
         n: 0,
@@ -68,39 +80,66 @@ fn refused(k: u32) -> Built
         eps: 0.0,
         r: 0.0,
     };
-    Built { refusal: k, header }
+    Built {
+        refusal: k,
+        triangle: place / 9,
+        number: place % 9,
+        header,
+    }
 }
 
 // Refusals 1, 3, 2 and 4.
-fn refusal_of_mesh(mesh: &[f64], floor: f64, r: f64) -> u32
-    ensures { λ k. ⌜ k ≡ refusalOfMesh (now (mesh .entry)) floor r ⌝ }
+fn refusal_of_mesh(mesh: &[f64], floor: f64, r: f64) -> Reason
+    ensures { λ w. ⌜ (w .refusal ≡ refusalOfMesh (now (mesh .entry)) floor r) × (w .place ≡ toldWith (w .refusal) (now (mesh .entry))) ⌝ }
 {
     if mesh.len() % 9 != 0 {
-        return 1;
+        return Reason {
+            refusal: 1,
+            place: 0,
+        };
     }
     let n = mesh.len() / 9;
     if 65536 < n {
-        return 1;
+        return Reason {
+            refusal: 1,
+            place: 0,
+        };
     }
     if n == 0 {
-        return 3;
+        return Reason {
+            refusal: 3,
+            place: 0,
+        };
     }
     refusal_of_numbers(mesh, floor, r)
 }
 
 // Refusals 2 and 4.
-fn refusal_of_numbers(mesh: &[f64], floor: f64, r: f64) -> u32
-    ensures { λ k. ⌜ k ≡ refusalOfNumbers (now (mesh .entry)) floor r ⌝ }
+fn refusal_of_numbers(mesh: &[f64], floor: f64, r: f64) -> Reason
+    requires { ⌜ length (now mesh) ≤ 589824 ⌝ }
+    ensures { λ w. ⌜ (w .refusal ≡ refusalOfNumbers (now (mesh .entry)) floor r) × (w .place ≡ toldWith (w .refusal) (now (mesh .entry))) ⌝ }
 {
     if !spans::is_coordinate(floor) {
-        return 2;
+        return Reason {
+            refusal: 2,
+            place: 0,
+        };
     }
     if !spans::is_radius(r) {
-        return 2;
+        return Reason {
+            refusal: 2,
+            place: 0,
+        };
     }
     match spans::first_bad(mesh) {
-        spans::Place::Nowhere => 0,
-        spans::Place::At(_) => 4,
+        spans::Place::Nowhere => Reason {
+            refusal: 0,
+            place: 0,
+        },
+        spans::Place::At(k) => Reason {
+            refusal: 4,
+            place: k as u32,
+        },
     }
 }
 
@@ -168,7 +207,7 @@ fn build_grid(mesh: &[f64], floor: f64, r: f64, starts: &mut [u32], members: &mu
     let g = grid_of(mesh, n, r);
     let k = refusal_of_grid(g.columns, g.rows, starts.len());
     if k != 0 {
-        return refused(k);
+        return refused(k, 0);
     }
     fill_grid(mesh, n, g, floor, r, starts, members)
 }
@@ -190,11 +229,16 @@ fn fill_grid(
 {
     let k = refusal_of_members(total(mesh, n, g), members.len());
     if k != 0 {
-        return refused(k);
+        return refused(k, 0);
     }
     tables(mesh, n, g, starts, members);
     let header = header_of(mesh, n, g, floor, r);
-    Built { refusal: 0, header }
+    Built {
+        refusal: 0,
+        triangle: 0,
+        number: 0,
+        header,
+    }
 }
 
 // What is recorded of n triangles under a grid.

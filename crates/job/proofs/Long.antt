@@ -11,26 +11,28 @@ use lib.Seq.{take-all, length-take-le}
 use Rattle.numbers.proofs.Branches.{by-test}
 use Rattle.fields.specs.Ladder.{refuse, tooMany}
 use Rattle.fields.proofs.Bytes.{value-cut}
-use Rattle.fields.proofs.Ladder.{room-for, refuse-here, refuse-same, differs}
-use Rattle.job.specs.Layout.{mark, version, zeroByte, triangles, questions, bytesOf, wide}
-use Rattle.job.specs.Reader.{refusalOfCounts, refusalOf, readOf}
-use Rattle.job.proofs.Ladder.{sound}
-use Rattle.job.proofs.Reading.{refused-is}
+use Rattle.fields.proofs.Ladder.{room-for, refuse-same}
+use Rattle.fields.proofs.Lengths.{rung-surplus}
+use Rattle.job.specs.Layout.{mark, version, zeroByte, triangles, questions, bytesOf, shape, wide}
+use Rattle.job.specs.Reader.{refusalOfLength, refusalOfCounts, refusalOf, ended, refusedBy, readOf}
+use Rattle.job.specs.declared.Read.{Read}
+use Rattle.job.proofs.Ladder.{sound, cut-only}
+use Rattle.job.proofs.Reading.{refused-is, none-told}
 
 -- the refusal of a file that is too long for any job
 tooLong : ℕ → ℕ → ℕ → ℕ → ℕ
-tooLong n m nroom mroom = refuse (eqb n 0) 18 (refuse (tooMany n nroom) 18 (refuse (tooMany m mroom) 18 19))
+tooLong n m nroom mroom = refuse (eqb n 0) 18 (refuse (tooMany n nroom) 18 (refuse (tooMany m mroom) 18 21))
 
 module _ (nroom mroom : ℕ) where
   too-long : (xs : List ℕ) (n m : ℕ) → bytesOf wide nroom mroom < length xs → refusalOfCounts xs n m nroom mroom ≡ tooLong n m nroom mroom
-  unfolding refusalOfCounts tooLong
+  unfolding refusalOfCounts refusalOfLength tooLong
   too-long xs n m h =
       refuse-same _ 18 _ _
       (λ _. refuse-same _ 18 _ _
       (λ p. refuse-same _ 18 _ _
       (λ q. let a = room-for n nroom p in
       let b = room-for m mroom q in
-      sym (refuse-here _ 19 _ 19 (differs _ _ _ refl (λ (e : length xs ≡ bytesOf wide n m). omega (arith, a .1, b .1))) refl))))
+      sym (rung-surplus (shape wide n m) (length xs) _ (omega (arith, a .1, b .1))))))
 
   cut-refusal : (xs : List ℕ) (k : ℕ) → bytesOf wide nroom mroom < k → k ≤ length xs → refusalOf (take k xs) nroom mroom ≡ refusalOf xs nroom mroom
   unfolding refusalOf
@@ -52,12 +54,20 @@ module _ (nroom mroom : ℕ) where
   never-sound : (xs : List ℕ) → bytesOf wide nroom mroom < length xs → refusalOf xs nroom mroom ≡ 0 → ⊥
   never-sound xs h e = let s = sound xs nroom mroom e in omega (arith, s .whole, s .few .1, s .few-questions .1)
 
+  never-short : (xs : List ℕ) → bytesOf wide nroom mroom < length xs → refusalOf xs nroom mroom ≡ 19 → ⊥
+  never-short xs h e = omega (arith, cut-only xs nroom mroom e .1)
+
+-- all refusals but 19 tell nothing of the bytes
+told-alike : (xs ys : List ℕ) (k : ℕ) → (k ≡ 19 → ⊥) → refusedBy k xs ≡ refusedBy k ys
+told-alike xs ys k h = rw (← none-told xs k h, ← none-told ys k h)
+
 pub read-cut : (xs : List ℕ) (mesh qs : List Float) (k : ℕ) → bytesOf wide (length mesh / 9) (length qs / 5) < k → readOf (take k xs) mesh qs ≡ readOf xs mesh qs
 read-cut xs mesh qs k h =
     by-test (ltb k (length xs))
     (λ t. let l = ltb-true k (length xs) t in
     let n = length mesh / 9 in
     let m = length qs / 5 in
+    let r = refusalOf xs n m in
     let z = never-sound n m xs (omega arith) in
-    sym (refused-is (take k xs) mesh qs (refusalOf xs n m) (sym (cut-refusal n m xs k h (omega arith))) z) ∙ refused-is xs mesh qs (refusalOf xs n m) refl z)
+    sym (refused-is (take k xs) mesh qs r (sym (cut-refusal n m xs k h (omega arith))) z) ∙ ap (λ (a : Read). ended a mesh qs) (told-alike (take k xs) xs r (never-short n m xs (omega arith))) ∙ refused-is xs mesh qs r refl z)
     (λ t. ap (λ (ys : List ℕ). readOf ys mesh qs) (take-all k xs (ltb-false k (length xs) t)))

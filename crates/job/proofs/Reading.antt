@@ -11,9 +11,34 @@ use lib.ListN.{length, drop}
 use Rattle.numbers.proofs.Branches.{taken, left, either}
 use Rattle.fields.specs.Little.{value}
 use Rattle.fields.specs.Rows.{finite, row}
-use Rattle.job.specs.Layout.{triangles, questions, numbers, meshFrom, questionsFrom, bytesOf, wide}
-use Rattle.job.specs.Reader.{numberOf, refusalOf, Outcome, ended, refusedBy, acceptedOf, readOf, SoundExactly}
-use Rattle.job.proofs.Ladder.{sound, accepted}
+use Rattle.fields.specs.declared.Shape.{Shape}
+use Rattle.fields.specs.declared.Length.{Length}
+use Rattle.fields.specs.declared.Length.the-variants.{Exact}
+use Rattle.fields.specs.Length.{wholeIn, lengthRule, refuseLength}
+use Rattle.fields.proofs.Lengths.{rung-told, exact-length}
+use Rattle.job.specs.Layout.{triangles, questions, numbers, meshFrom, questionsFrom, bytesOf, shape, wide}
+use Rattle.job.specs.Reader.{numberOf, refusalOfNumbers, refusalOfLength, refusalOf, Outcome, ended, toldWith, refusedBy, acceptedOf, readOf, SoundExactly}
+use Rattle.job.specs.declared.Read.{Read}
+use Rattle.job.proofs.Ladder.{sound, accepted, cut-only}
+
+-- the count that is told
+module _ (bytes : List ℕ) (k : ℕ) where
+  pub none-told : (k ≡ 19 → ⊥) → 0 ≡ toldWith k bytes
+  unfolding toldWith
+  none-told h = left _ _ _ _ (ne-eqb k 19 h) refl
+
+  pub whole-told : (c n m : ℕ) (s : Shape) → k ≡ 19 → n ≡ value triangles bytes → m ≡ value questions bytes → s ≡ shape wide n m → c ≡ wholeIn s (length bytes) → c ≡ toldWith k bytes
+  unfolding toldWith
+  whole-told c n m s z p q i e = taken _ _ _ _ (eq-eqb k 19 z) (e ∙ ap (λ (t : Shape). wholeIn t (length bytes)) (i ∙ rw (p, q)))
+
+-- ---- what the length decides
+module _ (bytes : List ℕ) (n m : ℕ) (s : Shape) (i : s ≡ shape wide n m) where
+  pub length-refused : (r : Length) (k : ℕ) → r ≡ lengthRule s (length bytes) → k ≡ refuseLength r (refusalOfNumbers bytes (numbers n m)) → k ≡ refusalOfLength bytes n m
+  unfolding refusalOfLength
+  length-refused r k p e = rung-told r _ k _ (p ∙ ap (λ (t : Shape). lengthRule t (length bytes)) i) e
+
+  pub length-fits : Exact ≡ lengthRule s (length bytes) → length bytes ≡ bytesOf wide n m
+  length-fits p = exact-length (shape wide n m) (length bytes) (p ∙ ap (λ (t : Shape). lengthRule t (length bytes)) i)
 
 module _ (bytes : List ℕ) (mesh qs : List Float) where
   pub decoded-is : (n m : ℕ) (f r : Float) (mesh′ qs′ : List Float) → f ≡ numberOf bytes 0 → r ≡ numberOf bytes 1 → mesh′ ≡ row (numberOf bytes) meshFrom (9 * n) ++ drop (9 * n) mesh → qs′ ≡ row (numberOf bytes) (questionsFrom n) (5 * m) ++ drop (5 * m) qs → ended (record { refusal = 0; n = n; m = m; floor = f; radius = r }) mesh′ qs′ ≡ acceptedOf bytes n m mesh qs
@@ -21,7 +46,7 @@ module _ (bytes : List ℕ) (mesh qs : List Float) where
   decoded-is n m f r mesh′ qs′ p q e₁ e₂ = rw (p, q, e₁, e₂)
 
   -- a reading's refusal is 0 exactly where the job is sound
-  refusal-is : readOf bytes mesh qs .answer .refusal ≡ refusalOf bytes (length mesh / 9) (length qs / 5)
+  pub refusal-is : readOf bytes mesh qs .answer .refusal ≡ refusalOf bytes (length mesh / 9) (length qs / 5)
   unfolding readOf acceptedOf
   refusal-is =
       either (λ (o : Outcome). o .answer .refusal ≡ refusalOf bytes (length mesh / 9) (length qs / 5)) (eqb (refusalOf bytes (length mesh / 9) (length qs / 5)) 0) _ _
@@ -44,9 +69,16 @@ module _ (bytes : List ℕ) (mesh qs : List Float) where
       (omega (arith, s .few .1, ap (λ (a : Outcome). a .answer .n) q), omega (arith, s .few-questions .1, ap (λ (a : Outcome). a .answer .m) q))
 
   module _ (k : ℕ) (e : k ≡ refusalOf bytes (length mesh / 9) (length qs / 5)) where
-    pub refused-is : (k ≡ 0 → ⊥) → ended (refusedBy k) mesh qs ≡ readOf bytes mesh qs
+    pub refused-is : (k ≡ 0 → ⊥) → ended (refusedBy k bytes) mesh qs ≡ readOf bytes mesh qs
     unfolding readOf
     refused-is h = rw (← e) (left _ _ _ _ (ne-eqb k 0 h) refl)
+
+    pub refused-answer : (a : Read) → (k ≡ 0 → ⊥) → a ≡ refusedBy k bytes → ended a mesh qs ≡ readOf bytes mesh qs
+    refused-answer a h p = ap (λ (b : Read). ended b mesh qs) p ∙ refused-is h
+
+    -- 19 is given to a head only
+    pub head-stands : k ≡ 19 → 14 ≤ length bytes
+    head-stands z = omega (arith, cut-only bytes _ _ (sym e ∙ z) .0)
 
     module _ (z : k ≡ 0) where
       pub accepted-is : (n m : ℕ) (o : Outcome) → n ≡ value triangles bytes → m ≡ value questions bytes → o ≡ acceptedOf bytes n m mesh qs → o ≡ readOf bytes mesh qs

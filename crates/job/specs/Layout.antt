@@ -3,6 +3,8 @@
 use mathlib.Core.Path.{_≡_, refl}
 use Prim.Native.Nat.{ℕ, _+_, _*_}
 use Rattle.fields.specs.Little.{Field, field}
+use Rattle.fields.specs.Length as fields
+use Rattle.fields.specs.declared.Shape.{Shape}
 
 -- ---- the table: the first five fields are the same in every version, and after them stand numbers of w bytes each, to the end
 
@@ -43,19 +45,22 @@ questionsFrom n = 2 + 9 * n
 abbrev pub numbers : ℕ → ℕ → ℕ
 numbers n m = 2 + 9 * n + 5 * m
 
--- how many bytes
-abbrev pub bytesOf : ℕ → ℕ → ℕ → ℕ
-bytesOf w n m = 14 + w * numbers n m
-
 -- the bytes of the head, of a triangle and of a question
 abbrev pub headBytes : ℕ → ℕ
-headBytes w = bytesOf w 0 0
+headBytes w = 14 + w * meshFrom
 
 abbrev pub triangleBytes : ℕ → ℕ
 triangleBytes w = 9 * w
 
 abbrev pub questionBytes : ℕ → ℕ
 questionBytes w = 5 * w
+
+-- a job of n triangles and m questions as the length rule sees it, and how many bytes it has
+abbrev pub shape : ℕ → ℕ → ℕ → Shape
+shape w n m = record { head = headBytes w; n = n; size = triangleBytes w; m = m; other = questionBytes w }
+
+abbrev pub bytesOf : ℕ → ℕ → ℕ → ℕ
+bytesOf w n m = fields.bytesOf (shape w n m)
 
 -- the letters F, T and M, which are 0x46, 0x54 and 0x4d
 abbrev pub letters : ℕ

@@ -10,7 +10,11 @@ use Rattle.numbers.specs.Reals.{f0}
 use Rattle.fields.specs.Little.{value}
 use Rattle.fields.specs.Rows.{finite, row, firstBad, somewhere}
 use Rattle.fields.specs.Ladder.{refuse, tooMany}
-use Rattle.job.specs.Layout.{mark, version, zeroByte, triangles, questions, number, numbers, meshFrom, questionsFrom, bytesOf, headBytes, letters, wide}
+use Rattle.fields.specs.Length.{wholeIn, lengthRule, refuseLength}
+use Rattle.fields.specs.Copies.{ToldApart}
+use Rattle.fields.specs.declared.Shape.{Shape}
+use Rattle.job.specs.Layout.{mark, version, zeroByte, triangles, questions, number, letters, wide}
+use Rattle.job.specs.Layout.{numbers, meshFrom, questionsFrom, headBytes, shape, bytesOf}
 use Rattle.job.specs.declared.Read.{Read}
 
 -- number k of a job, from its bits
@@ -21,14 +25,19 @@ numberOf bytes k = ofBits binary64 (value (number wide k) bytes)
 unfoldable pub refusalOfNumbers : List ℕ → ℕ → ℕ
 refusalOfNumbers bytes count = refuse (somewhere (firstBad (numberOf bytes) 0 count)) 20 0
 
--- 18 n of 0, or n or m over 65,536 or over the lent room; 19 length not 30 + 72n + 40m
+-- 19 length under 30 + 72n + 40m; 21 over it
+unfoldable pub refusalOfLength : List ℕ → ℕ → ℕ → ℕ
+refusalOfLength bytes n m =
+    refuseLength (lengthRule (shape wide n m) (length bytes))
+    (refusalOfNumbers bytes (numbers n m))
+
+-- 18 n of 0, or n or m over 65,536 or over the lent room
 unfoldable pub refusalOfCounts : List ℕ → ℕ → ℕ → ℕ → ℕ → ℕ
 refusalOfCounts bytes n m nroom mroom =
     refuse (eqb n 0) 18
     (refuse (tooMany n nroom) 18
     (refuse (tooMany m mroom) 18
-    (refuse (not (eqb (length bytes) (bytesOf wide n m))) 19
-    (refusalOfNumbers bytes (numbers n m)))))
+    (refusalOfLength bytes n m)))
 
 -- 14 under 30 bytes; 15 mark; 16 version; 17 sixth byte not 0
 unfoldable pub refusalOf : List ℕ → ℕ → ℕ → ℕ
@@ -50,9 +59,17 @@ pub record Outcome : Type 0 where
 abbrev pub ended : Read → List Float → List Float → Outcome
 ended a ms qs = record { answer = a; mesh = ms; questions = qs }
 
--- a refusal leaves both tables as they were
-abbrev pub refusedBy : ℕ → Read
-refusedBy k = record { refusal = k; n = 0; m = 0; floor = f0; radius = f0 }
+-- the shape of the job that these bytes begin
+abbrev pub shapeOf : List ℕ → Shape
+shapeOf bytes = shape wide (value triangles bytes) (value questions bytes)
+
+-- how many triangles are told with refusal k: with 19 those that stand whole before the cut, else none
+unfoldable pub toldWith : ℕ → List ℕ → ℕ
+toldWith k bytes = cond (eqb k 19) (wholeIn (shapeOf bytes) (length bytes)) 0
+
+-- a refusal leaves both tables as they were, and all numbers but that count are zero
+abbrev pub refusedBy : ℕ → List ℕ → Read
+refusedBy k bytes = record { refusal = k; n = toldWith k bytes; m = 0; floor = f0; radius = f0 }
 
 -- an accepted job's numbers stand first in each table, and the entries beyond them stay
 unfoldable pub acceptedOf : List ℕ → ℕ → ℕ → List Float → List Float → Outcome
@@ -66,7 +83,7 @@ acceptedOf bytes n m mesh qs =
 unfoldable pub readOf : List ℕ → List Float → List Float → Outcome
 readOf bytes mesh qs =
     let k = refusalOf bytes (length mesh / 9) (length qs / 5) in
-    cond (eqb k 0) (acceptedOf bytes (value triangles bytes) (value questions bytes) mesh qs) (ended (refusedBy k) mesh qs)
+    cond (eqb k 0) (acceptedOf bytes (value triangles bytes) (value questions bytes) mesh qs) (ended (refusedBy k bytes) mesh qs)
 
 -- ---- the jobs that are accepted: exactly these are
 
@@ -83,3 +100,10 @@ pub record Sound (bytes : List ℕ) (nroom mroom : ℕ) : Type 0 where
 -- k is 0 where the job is sound, and only there
 abbrev pub SoundExactly : List ℕ → ℕ → ℕ → ℕ → Type 0
 SoundExactly bytes nroom mroom k = (k ≡ 0 → Sound bytes nroom mroom) × (Sound bytes nroom mroom → k ≡ 0)
+
+-- ---- broken copies
+
+-- Of an accepted job every part is refused, with 14 where it is shorter than 30 bytes, else with 19 and the number of whole triangles that stand in it;
+-- with any bytes behind it the job is refused with 21.
+abbrev pub NeverTakenForAPart : List ℕ → List Float → List Float → Type 0
+NeverTakenForAPart bytes mesh qs = ToldApart (λ xs. readOf xs mesh qs .answer .refusal) (λ xs. readOf xs mesh qs .answer .n) (shapeOf bytes) bytes

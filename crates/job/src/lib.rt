@@ -8,11 +8,14 @@ ghost use Prim.Native.Nat.{ℕ, _+_, _*_, _/_, _≤_, _<_};
 ghost use lib.ListN.{length, drop};
 ghost use Rattle.fields.specs.Little.{value};
 ghost use Rattle.fields.specs.Rows.{finite, row, firstBad};
-ghost use Rattle.job.specs.Layout.{mark, number, numbers, bytesOf, wide};
-ghost use Rattle.job.specs.Reader.{numberOf, refusalOfNumbers, refusalOfCounts, refusalOf, ended, acceptedOf, readOf, SoundExactly};
+ghost use Rattle.job.specs.Layout.{mark, number, numbers, bytesOf, shape as shapeOf, wide};
+ghost use Rattle.job.specs.Reader.{numberOf, refusalOfNumbers, refusalOfLength, refusalOfCounts, refusalOf};
+ghost use Rattle.job.specs.Reader.{ended, toldWith, refusedBy, acceptedOf, readOf, SoundExactly, NeverTakenForAPart};
+use fields::Length;
 use fields::Place;
+use fields::Shape;
 
-// What reading a job answers. A refused job has zeros beside its number.
+// What reading a job answers. A refused job has zeros beside its number, but that 19 tells in n how many triangles stand whole before the cut.
 pub struct Read {
     pub refusal: u32,
     pub n: u32,
@@ -35,16 +38,11 @@ const MARK: u32 = 5067846;
 pub fn read_job(bytes: &[u8], mesh: &mut [f64], questions: &mut [f64]) -> Read
     ensures { λ r. ⌜ ended r (now (mesh .exit)) (now (questions .exit)) ≡ readOf (now (bytes .entry)) (now (mesh .entry)) (now (questions .entry)) ⌝ }
     ensures { λ r. ⌜ SoundExactly (now (bytes .entry)) (length (now (mesh .entry)) / 9) (length (now (questions .entry)) / 5) (r .refusal) ⌝ }
+    ensures { λ r. ⌜ (r .refusal ≡ 0 → NeverTakenForAPart (now (bytes .entry)) (now (mesh .entry)) (now (questions .entry))) ⌝ }
 {
     let k = refusal(bytes, mesh.len() / 9, questions.len() / 5);
     if k != 0 {
-        return Read {
-            refusal: k,
-            n: 0,
-            m: 0,
-            floor: 0.0,
-            radius: 0.0,
-        };
+        return refused(bytes, k);
     }
     decoded(
         bytes,
@@ -53,6 +51,47 @@ pub fn read_job(bytes: &[u8], mesh: &mut [f64], questions: &mut [f64]) -> Read
         mesh,
         questions,
     )
+}
+
+// The answer to a job refused with k: 19 tells how many triangles stand whole before the cut.
+fn refused(bytes: &[u8], k: u32) -> Read
+    requires { ⌜ (k ≡ 19 → 14 ≤ length (now bytes)) ⌝ }
+    ensures { λ r. ⌜ r ≡ refusedBy k (now (bytes .entry)) ⌝ }
+{
+    Read {
+        refusal: k,
+        n: told_with(bytes, k),
+        m: 0,
+        floor: 0.0,
+        radius: 0.0,
+    }
+}
+
+// How many triangles are told with refusal k.
+fn told_with(bytes: &[u8], k: u32) -> u32
+    requires { ⌜ (k ≡ 19 → 14 ≤ length (now bytes)) ⌝ }
+    ensures { λ c. ⌜ c ≡ toldWith k (now (bytes .entry)) ⌝ }
+{
+    if k != 19 {
+        return 0;
+    }
+    fields::whole_in(
+        shape(fields::u32_at(bytes, 6), fields::u32_at(bytes, 10)),
+        bytes.len(),
+    )
+}
+
+// A job of n triangles and m questions, as the length rule sees it.
+fn shape(n: u32, m: u32) -> Shape
+    ensures { λ s. ⌜ s ≡ shapeOf wide n m ⌝ }
+{
+    Shape {
+        head: 30,
+        n,
+        size: 72,
+        m,
+        other: 40,
+    }
 }
 
 // 14 to 17, which the first six bytes decide, else what the counts decide.
@@ -80,7 +119,7 @@ fn refusal(bytes: &[u8], nroom: usize, mroom: usize) -> u32
     )
 }
 
-// 18 and 19, else what the numbers decide.
+// 18, else what the length decides.
 fn refusal_of_counts(bytes: &[u8], n: u32, m: u32, nroom: usize, mroom: usize) -> u32
     ensures { λ k. ⌜ k ≡ refusalOfCounts (now (bytes .entry)) n m nroom mroom ⌝ }
 {
@@ -93,11 +132,18 @@ fn refusal_of_counts(bytes: &[u8], n: u32, m: u32, nroom: usize, mroom: usize) -
     if fields::too_many(m, mroom) {
         return 18;
     }
-    let count = 2 + 9 * n as usize + 5 * m as usize;
-    if bytes.len() != NUMBERS + WIDE * count {
-        return 19;
+    refusal_of_length(bytes, n, m)
+}
+
+// 19 and 21, else what the numbers decide.
+fn refusal_of_length(bytes: &[u8], n: u32, m: u32) -> u32
+    ensures { λ k. ⌜ k ≡ refusalOfLength (now (bytes .entry)) n m ⌝ }
+{
+    match fields::length_rule(shape(n, m), bytes.len()) {
+        Length::Short(_) => 19,
+        Length::Surplus => 21,
+        Length::Exact => refusal_of_numbers(bytes, 2 + 9 * n as usize + 5 * m as usize),
     }
-    refusal_of_numbers(bytes, count)
 }
 
 // 20, or 0 for a job that is accepted.

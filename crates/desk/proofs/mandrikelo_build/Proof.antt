@@ -8,29 +8,29 @@ use Rattle.desk.proofs.mandrikelo_build.Tie as tie
 
 returns : tie.Need-returns
 returns c =
-    let b = c .before .before .before .before .before .before .before .build in
+    let b = c .before .before .before .before .before .before .before .before .build in
     let some = c .before .before .if1 .taken in
     (refused-left (outcome (b .result) (b .last .1 .1 .1 .0) (b .last .1 .1 .1 .1 .0)) some ∙ ap builtLeftBy (b .ensures .0), record { sound = λ none. absurd (some none); built = λ none. absurd (some none) })
 
-cast-t16 : tie.Need-cast-t16
-cast-t16 c =
-    let b = c .before .before .before .before .before .before .before .before .build in
+cast-t19 : tie.Need-cast-t19
+cast-t19 c =
+    let b = c .before .before .before .before .before .before .before .before .before .build in
     record { fits = narrow (b .result .header) (b .ensures .1 .sound (c .before .before .before .if1 .left) .ranges) .n }
 
-cast-t17 : tie.Need-cast-t17
-cast-t17 c =
-    let b = c .before .before .before .before .before .before .before .before .before .build in
+cast-t20 : tie.Need-cast-t20
+cast-t20 c =
+    let b = c .before .before .before .before .before .before .before .before .before .before .build in
     record { fits = narrow (b .result .header) (b .ensures .1 .sound (c .before .before .before .before .if1 .left) .ranges) .columns }
 
-cast-t18 : tie.Need-cast-t18
-cast-t18 c =
-    let b = c .before .before .before .before .before .before .before .before .before .before .build in
+cast-t21 : tie.Need-cast-t21
+cast-t21 c =
+    let b = c .before .before .before .before .before .before .before .before .before .before .before .build in
     record { fits = narrow (b .result .header) (b .ensures .1 .sound (c .before .before .before .before .before .if1 .left) .ranges) .rows }
 
 returns-2 : tie.Need-returns-2
 unfolding headerFrom
 returns-2 c =
-    let b = c .before .before .before .before .before .before .before .before .before .before .before .build in
+    let b = c .before .before .before .before .before .before .before .before .before .before .before .before .build in
     let zero = c .before .before .before .before .before .before .if1 .left in
     (accepted-left (outcome (b .result) (b .last .1 .1 .1 .0) (b .last .1 .1 .1 .1 .0)) zero ∙ ap builtLeftBy (b .ensures .0), b .ensures .1)
 
@@ -42,9 +42,9 @@ mandrikelo-build-spec =
     (λ c. search needs)
     (λ c. search needs)
     returns
-    cast-t16
-    cast-t17
-    cast-t18
+    cast-t19
+    cast-t20
+    cast-t21
     (λ c. search needs)
     (λ c. search needs)
     returns-2)

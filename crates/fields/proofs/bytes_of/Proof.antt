@@ -1,7 +1,6 @@
 use native.Mathlib.Omega.{arith}
 use mathlib.Core.Path.{refl}
 use borrow.Author.Needs.{needs}
-use Rattle.fields.specs.Length.{bytesOf}
 use Rattle.fields.proofs.Lengths.{few-bytes}
 use Rattle.fields.proofs.bytes_of.Statement.{statement}
 use Rattle.fields.proofs.bytes_of.Tie as tie
@@ -21,7 +20,6 @@ add-result-2 c =
     omega (arith, few-bytes (s .n) (s .size) (omega arith) (omega arith), few-bytes (s .m) (s .other) (omega arith) (omega arith))
 
 returns : tie.Need-returns
-unfolding bytesOf
 returns c = refl
 
 pub bytes-of-spec : {M : Type 1} → statement M

@@ -4,7 +4,7 @@ use Rattle.fields.proofs.length_rule.Statement.{statement}
 use Rattle.fields.proofs.length_rule.Tie as tie
 
 returns : tie.Need-returns
-returns c = is-short _ _ _ (c .before .before .bytes-of .ensures) _ (c .before .if1 .taken) (c .whole-in .ensures)
+returns c = is-short _ _ _ (c .before .before .bytes-of .ensures) _ (c .before .if1 .taken) (c .whole-in .ensures .0)
 
 returns-2 : tie.Need-returns-2
 returns-2 c = is-surplus _ _ _ (c .before .before .bytes-of .ensures) (c .if2 .taken)

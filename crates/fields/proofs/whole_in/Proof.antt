@@ -1,21 +1,20 @@
-use native.Mathlib.Omega.{arith}
 use mathlib.Core.Path.{refl}
 use borrow.Author.Needs.{needs}
-use Rattle.fields.proofs.Lengths.{none-whole, no-size, some-whole, all-whole}
+use Rattle.fields.proofs.Lengths.{none-whole, no-size, some-whole, all-whole, with-whole}
 use Rattle.fields.proofs.whole_in.Statement.{statement}
 use Rattle.fields.proofs.whole_in.Tie as tie
 
 returns : tie.Need-returns
-returns c = none-whole _ _ (c .if1 .taken)
+returns c = with-whole _ _ _ (none-whole _ _ (c .if1 .taken))
 
 returns-2 : tie.Need-returns-2
-returns-2 c = no-size _ _ (c .if2 .taken)
+returns-2 c = with-whole _ _ _ (no-size _ _ (c .if2 .taken))
 
 returns-3 : tie.Need-returns-3
-returns-3 c = some-whole _ _ _ refl (c .if3 .taken)
+returns-3 c = with-whole _ _ _ (some-whole _ _ _ refl (c .if3 .taken))
 
 returns-4 : tie.Need-returns-4
-returns-4 c = all-whole _ _ _ refl (c .if3 .left)
+returns-4 c = with-whole _ _ _ (all-whole _ _ _ refl (c .if3 .left))
 
 pub whole-in-spec : {M : Type 1} → statement M
 whole-in-spec =

@@ -1,14 +1,18 @@
 use native.Mathlib.Omega.{arith}
 use borrow.Author.Needs.{needs}
 use denote.Ref.{now}
-use Rattle.job.proofs.Reading.{exactly, refused-is, accepted-is, counts-within, ready}
+use Rattle.job.proofs.Reading.{head-stands, refused-answer, accepted-is, counts-within, ready}
+use Rattle.job.proofs.Apart.{whole-contract}
 use Rattle.job.proofs.read_job.Statement.{statement}
 use Rattle.job.proofs.read_job.Tie as tie
 
+refused-requires : tie.Need-refused-requires
+refused-requires c κs =
+    let a = c .before .before .before .before .before .args in
+    head-stands _ (now (a .mesh)) (now (a .questions)) _ (c .before .refusal .ensures)
+
 returns : tie.Need-returns
-returns c =
-    let e = refused-is _ _ _ _ (c .before .refusal .ensures) (c .if1 .taken) in
-    (e, exactly _ _ _ _ e)
+returns c = whole-contract _ _ _ _ (refused-answer _ _ _ _ (c .before .before .refusal .ensures) _ (c .before .if1 .taken) (c .refused .ensures))
 
 u32-at-requires : tie.Need-u32-at-requires
 u32-at-requires c κs =
@@ -31,8 +35,9 @@ returns-2 c =
     let d = c .before .before .before .before in
     let k = d .before .before .before in
     let b = k .before .before in
-    let e = accepted-is _ _ _ _ (b .before .refusal .ensures) (b .if1 .left) _ _ _ (k .before .u32-at .ensures) (k .u32-at2 .ensures) (d .decoded .ensures) in
-    (e, exactly _ _ _ _ e)
+    whole-contract _ _ _ _ (accepted-is _ _ _ _ (b .before .refusal .ensures) (b .if1 .left) _ _ _ (k .before .u32-at .ensures) (k .u32-at2 .ensures) (d .decoded .ensures))
 
 pub read-job-spec : {M : Type 1} → statement M
-read-job-spec = tie.close (tie.spec (λ c κs. tt) returns u32-at-requires u32-at-requires-2 decoded-requires (λ c. search needs) (λ c. search needs) returns-2)
+read-job-spec =
+    tie.close
+    (tie.spec (λ c κs. tt) refused-requires returns u32-at-requires u32-at-requires-2 decoded-requires (λ c. search needs) (λ c. search needs) returns-2)

@@ -1,7 +1,5 @@
-use mathlib.Core.Path.{refl}
-use borrow.Author.Needs.{needs}
 use Rattle.job.specs.Reader.{refusalOfCounts}
-use Rattle.fields.proofs.Ladder.{ladder, differs}
+use Rattle.fields.proofs.Ladder.{ladder}
 use Rattle.job.proofs.refusal_of_counts.Statement.{statement}
 use Rattle.job.proofs.refusal_of_counts.Tie as tie
 
@@ -19,11 +17,7 @@ returns-3 c = search ladder depth 12
 
 returns-4 : tie.Need-returns-4
 unfolding refusalOfCounts
-returns-4 c = let e = differs _ _ _ refl (c .if4 .taken) in search (ladder, e) depth 12
-
-returns-5 : tie.Need-returns-5
-unfolding refusalOfCounts
-returns-5 c = search ladder depth 12
+returns-4 c = search ladder depth 12
 
 pub refusal-of-counts-spec : {M : Type 1} → statement M
-refusal-of-counts-spec = tie.close (tie.spec returns (λ c κs. tt) returns-2 (λ c κs. tt) returns-3 (λ c. search needs) (λ c. search needs) (λ c. search needs) (λ c. search needs) (λ c. search needs) (λ c. search needs) returns-4 (λ c κs. search needs) returns-5)
+refusal-of-counts-spec = tie.close (tie.spec returns (λ c κs. tt) returns-2 (λ c κs. tt) returns-3 (λ c κs. tt) returns-4)
