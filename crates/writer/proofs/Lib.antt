@@ -1,0 +1,7 @@
+pub mod Digits
+pub mod Stores
+pub mod Finite
+pub mod Rows
+pub mod Writing
+pub mod Back
+pub mod Again
