@@ -130,6 +130,7 @@ pub fn run() {
     heights(&bed);
     tools(&bed);
     plans();
+    crate::writer::bench(now, wanted);
 }
 
 fn numbers() {

@@ -16,6 +16,7 @@ mod parts;
 mod rng;
 mod sheet;
 mod shipped;
+mod writer;
 include!(concat!(env!("OUT"), "/missing.rs"));
 
 use case::Case;

@@ -170,6 +170,7 @@ pub const PARTS: &[Part] = &[
         share: 2_000,
     },
     crate::sheet::PART,
+    crate::writer::PART,
 ];
 
 /// Questions asked of one mesh.
