@@ -36,7 +36,7 @@ module _ (f : Format) (some : eqb 0 (ones f) ≡ false) where
 pub bits-finite : (b : ℕ) → finite (ofBits binary64 b) ≡ not (eqb (b / 2 ^ 52 % 2 ^ 11) 2047)
 bits-finite b = pattern-finite binary64 refl b ∙ ap (λ (x : ℕ). not (eqb x 2047)) (field b 11 52)
 
-finite-no-nan : (x : Float) → finite x ≡ true → T (not (isNan x))
+pub finite-no-nan : (x : Float) → finite x ≡ true → T (not (isNan x))
 unfolding finite isNan
 finite-no-nan (inf s) e = tt
 finite-no-nan (fin s m k) e = tt

@@ -1,5 +1,5 @@
 -- Numbers of a file in a row: f k is number k.
-use mathlib.Core.Bool.{Bool, true, false, cond}
+use mathlib.Core.Bool.{Bool, true, false, cond, _&&_}
 use mathlib.Core.List.{List, [], _∷_}
 use Prim.Native.Nat.{ℕ, zero, suc, _+_}
 use lib.Ieee.{Float, nan, inf, fin}
@@ -11,6 +11,11 @@ unfoldable pub finite : Float → Bool
 finite nan = false
 finite (inf s) = false
 finite (fin s m e) = true
+
+-- all numbers of a table are
+unfoldable pub allFinite : List Float → Bool
+allFinite [] = true
+allFinite (x ∷ xs) = finite x && allFinite xs
 
 -- c numbers from number k on
 unfoldable pub row : (ℕ → Float) → ℕ → ℕ → List Float

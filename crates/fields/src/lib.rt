@@ -4,7 +4,7 @@ ghost use Prim.Native.Nat.{_+_, _≤_};
 ghost use lib.Ieee.{binary64, ofBits};
 ghost use lib.ListN.{length};
 ghost use Rattle.fields.specs.Little.{field, value};
-ghost use Rattle.fields.specs.Rows.{finite};
+ghost use Rattle.fields.specs.Rows.{finite, allFinite};
 ghost use Rattle.fields.specs.Ladder.{tooMany};
 ghost use Rattle.fields.specs.Length.{bytesOf, wholeIn, lengthRule, Whole};
 
@@ -31,6 +31,8 @@ pub enum Length {
 }
 
 const MOST: u32 = 65536;
+
+const MINUS_ONE: f64 = -1.0;
 
 // Whether a file of this length is short, exact or has a surplus.
 pub fn length_rule(s: Shape, length: usize) -> Length
@@ -89,6 +91,25 @@ pub fn is_finite(bits: u64) -> bool
     ensures { λ b. ⌜ b ≡ finite (ofBits binary64 bits) ⌝ }
 {
     bits / 0x10_0000_0000_0000 % 2048 != 2047
+}
+
+// Whether every number of a table is finite.
+pub fn all_finite(xs: &[f64]) -> bool
+    ensures { λ b. ⌜ b ≡ allFinite (now (xs .entry)) ⌝ }
+{
+    for j in 0..xs.len() {
+        if !is_number(xs[j]) {
+            return false;
+        }
+    }
+    true
+}
+
+// Whether x lies between the infinities.
+pub fn is_number(x: f64) -> bool
+    ensures { λ b. ⌜ b ≡ finite x ⌝ }
+{
+    MINUS_ONE / 0.0 < x && x < 1.0 / 0.0
 }
 
 pub fn u16_at(bytes: &[u8], at: usize) -> u16

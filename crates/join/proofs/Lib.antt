@@ -1,4 +1,3 @@
-pub mod Finite
 pub mod Whenever
 pub mod Tables
 pub mod Taking

@@ -1,12 +1,12 @@
 -- Document 02, request 13: joining as an operation of its own, over a lent table of runs. It is the joining of document 01, "Levels and runs".
-use mathlib.Core.Bool.{Bool, true, false, cond}
+use mathlib.Core.Bool.{cond}
 use mathlib.Core.List.{List, [], _∷_, map}
 use Prim.Native.Nat.{ℕ, zero, suc, _+_, _*_, _%_}
 use lib.Dec.{eqb}
 use lib.Ieee.{Float}
 use lib.ListN.{length}
 use Rattle.numbers.specs.Reals.{num}
-use Rattle.fields.specs.Rows.{finite}
+use Rattle.fields.specs.Rows.{allFinite}
 use Rattle.grid.specs.Ladder.{demand}
 use Rattle.fives.specs.Tables.{roomOf, written, zeroed}
 use Rattle.runs.specs.Runs.{joinedOf, fiveOf}
@@ -14,11 +14,6 @@ use Rattle.runs.specs.declared.Run.{Run}
 use Rattle.join.specs.declared.Joined.{Joined}
 
 -- ---- what is refused
-
--- Whether every number is finite.
-unfoldable pub allFinite : List Float → Bool
-allFinite [] = true
-allFinite (x ∷ xs) = cond (finite x) (allFinite xs) false
 
 -- 1: the table is not five numbers a run. 2: one is not finite. 0 where none is given.
 unfoldable pub refusalOf : List Float → ℕ

@@ -3,14 +3,11 @@ ghost use mathlib.Core.Path.{_≡_};
 ghost use mathlib.Core.List.{map, _++_};
 ghost use Prim.Native.Nat.{_+_, _*_, _≤_};
 ghost use lib.ListN.{length, take, drop};
-ghost use Rattle.fields.specs.Rows.{finite};
 ghost use Rattle.fives.specs.Tables.{written, zeroed};
 ghost use Rattle.runs.specs.Runs.{joinedOf, fiveOf};
-ghost use Rattle.join.specs.Join.{allFinite, refusalOf, runIn, runsOf, outcome, joinOf};
+ghost use Rattle.join.specs.Join.{refusalOf, runIn, runsOf, outcome, joinOf};
 ghost use Rattle.join.specs.Law.{WheneverJoined, HandedOn};
 use runs::Run;
-
-const MINUS_ONE: f64 = -1.0;
 
 // What joining answers: how many runs there are afterwards.
 pub struct Joined {
@@ -43,29 +40,10 @@ fn refusal(runs: &[f64]) -> u32
     if runs.len() % 5 != 0 {
         return 1;
     }
-    if !all_finite(runs) {
+    if !fields::all_finite(runs) {
         return 2;
     }
     0
-}
-
-// Whether every number is finite.
-fn all_finite(runs: &[f64]) -> bool
-    ensures { λ b. ⌜ b ≡ allFinite (now (runs .entry)) ⌝ }
-{
-    for j in 0..runs.len() {
-        if !is_finite(runs[j]) {
-            return false;
-        }
-    }
-    true
-}
-
-// Whether x lies between the infinities.
-fn is_finite(x: f64) -> bool
-    ensures { λ b. ⌜ b ≡ finite x ⌝ }
-{
-    MINUS_ONE / 0.0 < x && x < 1.0 / 0.0
 }
 
 // The runs of a table taken one after the other, and written over those that were taken before. Their number comes back.

@@ -1,29 +1,29 @@
 -- What was read is written to the same bytes.
 use mathlib.Core.Bool.{true, not}
-use mathlib.Core.List.{List, [], _∷_, _++_}
+use mathlib.Core.List.{List, _∷_, _++_}
 use mathlib.Core.Path.{_≡_, refl, ap, sym, _∙_}
 use Prim.Native.Nat.{ℕ, zero, suc, _+_, _*_, _/_, _^_, _≤_, _<_}
 use native.Mathlib.Nat.{zero-add, add-zero, suc-add}
 use native.Mathlib.Omega.{arith}
 use borrow.Author.Tests.{ltb-true, ltb-false}
 use lib.Dec.{ltb}
-use lib.Ieee.{Float, nan, binary64, ofBits, toBits}
+use lib.Ieee.{Float, binary64, ofBits, toBits}
 use lib.Ieee.Bits.{toBits-ofBits}
 use lib.ListN.{length, getD, take, drop, length-drop, length-take, List·getD-eq-default}
 use lib.Seq.{getD-take, getD-drop, length-take-le, take-add, take-at, take-all, drop-drop}
 use Rattle.numbers.proofs.Branches.{by-test}
 use Rattle.fields.specs.Little.{little, Field, value}
-use Rattle.fields.specs.Rows.{finite, row}
+use Rattle.fields.specs.Rows.{finite, allFinite, row}
+use Rattle.fields.proofs.Finite.{finite-no-nan}
 use Rattle.fields.proofs.Rows.{row-length}
 use Rattle.job.specs.Layout.{mark, version, zeroByte, triangles, questions, number, numbers, letters, wide}
 use Rattle.job.specs.Reader as reader
 use Rattle.job.specs.Reader.{numberOf, readOf, Sound}
 use Rattle.job.proofs.Ladder as ladder
 use Rattle.job.proofs.Reading as reading
-use Rattle.writer.specs.Writer.{digits, numbersIn, laidAll, headOf, jobOf, jobIn, finiteAll, sizeOf, Outcome, acceptedOf, writeOf}
+use Rattle.writer.specs.Writer.{digits, numbersIn, laidAll, headOf, jobOf, jobIn, sizeOf, Outcome, acceptedOf, writeOf}
 use Rattle.writer.specs.Back.{ReadFrom, WritesAgain}
 use Rattle.writer.proofs.Digits.{digits-little, little-lt}
-use Rattle.writer.proofs.Finite.{no-nan}
 use Rattle.writer.proofs.Writing.{Accepted, job-length, accepted-write}
 
 -- c and d numbers are c + d
@@ -71,7 +71,7 @@ module _ (file : List ℕ) (small : (i : ℕ) → getD file i 0 < 256) where
   unfolding numberOf
   number-again k h e =
       let f = number wide k in
-      ap (digits 8) (toBits-ofBits binary64 (value f file) (value-lt f h) (no-nan (ofBits binary64 (value f file)) e)) ∙ field-again f h
+      ap (digits 8) (toBits-ofBits binary64 (value f file) (value-lt f h) (finite-no-nan (ofBits binary64 (value f file)) e)) ∙ field-again f h
 
   numbers-again : (k c : ℕ) → 14 + 8 * (k + c) ≤ length file → ((i : ℕ) → i < k + c → finite (numberOf file i) ≡ true) → laidAll (row (numberOf file) k c) ≡ take (8 * c) (drop (14 + 8 * k) file)
   unfolding laidAll row
@@ -81,8 +81,8 @@ module _ (file : List ℕ) (small : (i : ℕ) → getD file i 0 < 256) where
       let d : 14 + 8 * k + 8 ≡ 14 + 8 * (k + 1) = omega arith in
       rw (e, take-add 8 (8 * c) (drop (14 + 8 * k) file), drop-drop 8 (14 + 8 * k) file, d, number-again k (omega arith) (g k (omega arith)), numbers-again (k + 1) c (omega arith) (λ i l. g i (omega arith)))
 
-  rows-finite : (k c : ℕ) → ((i : ℕ) → i < k + c → finite (numberOf file i) ≡ true) → finiteAll (row (numberOf file) k c) ≡ true
-  unfolding finiteAll row
+  rows-finite : (k c : ℕ) → ((i : ℕ) → i < k + c → finite (numberOf file i) ≡ true) → allFinite (row (numberOf file) k c) ≡ true
+  unfolding allFinite row
   rows-finite k zero g = refl
   rows-finite k (suc c) g = rw (g k (omega arith)) (rows-finite (k + 1) c (λ i l. g i (omega arith)))
 

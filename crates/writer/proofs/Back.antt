@@ -1,18 +1,17 @@
 -- What was written is read to the same numbers.
-use mathlib.Core.Bool.{true}
 use mathlib.Core.List.{List, [], _∷_, _++_}
 use mathlib.Core.Path.{_≡_, refl, ap, sym, _∙_}
-use Prim.Native.Nat.{ℕ, zero, suc, _+_, _*_, _/_, _^_, _≤_, _<_}
+use Prim.Native.Nat.{ℕ, zero, suc, _+_, _*_, _/_, _≤_, _<_}
 use native.Mathlib.Numerals.{add-one}
 use native.Mathlib.Omega.{arith}
 use lib.Dec.{T}
-use lib.Ieee.{Float, nan, binary64, ofBits, toBits, fits}
+use lib.Ieee.{Float, nan, binary64, toBits, fits}
 use lib.Ieee.Bits.{ofBits-toBits, toBits-lt}
 use lib.ListN.{length, getD, take, drop, length-append}
 use lib.Seq.{take-at, drop-at, drop-cons, drop-drop, take-all}
 use Rattle.fields.specs.Little.{little, value}
-use Rattle.fields.specs.Rows.{finite, row}
-use Rattle.job.specs.Layout.{mark, version, zeroByte, triangles, questions, number, numbers, bytesOf, letters, wide}
+use Rattle.fields.specs.Rows.{row}
+use Rattle.job.specs.Layout.{mark, version, zeroByte, triangles, questions, number, numbers, letters}
 use Rattle.job.specs.Reader as reader
 use Rattle.job.specs.Reader.{numberOf, readOf, Sound}
 use Rattle.job.proofs.Ladder as ladder
@@ -20,7 +19,7 @@ use Rattle.job.proofs.Reading as reading
 use Rattle.writer.specs.Writer.{digits, numbersIn, laidAll, headOf, jobOf, jobIn, sizeOf, Outcome, acceptedOf, writeOf}
 use Rattle.writer.specs.Back.{ReadsBack}
 use Rattle.writer.proofs.Digits.{digits-length, little-digits}
-use Rattle.writer.proofs.Rows.{all-at, laid-length, head-length}
+use Rattle.writer.proofs.Rows.{all-at, head-length}
 use Rattle.writer.proofs.Writing.{Accepted, job-length, written-is}
 
 -- the bytes of number k

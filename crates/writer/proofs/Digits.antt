@@ -1,7 +1,7 @@
 -- The bytes of a number and what bytes stand for undo each other.
 use mathlib.Core.List.{List, [], _∷_, _++_}
-use mathlib.Core.Path.{_≡_, refl, ap, sym, _∙_}
-use Prim.Native.Nat.{ℕ, zero, suc, _+_, _*_, _/_, _%_, _^_, _≤_, _<_}
+use mathlib.Core.Path.{_≡_, refl, ap, sym}
+use Prim.Native.Nat.{ℕ, zero, suc, _+_, _*_, _/_, _%_, _^_, _<_}
 use native.Mathlib.Nat.{zero-add, suc-add, div-one, pow-succ'}
 use native.Mathlib.Omega.{arith}
 use lib.ListN.{length, getD}

@@ -1,6 +1,5 @@
 pub mod Digits
 pub mod Stores
-pub mod Finite
 pub mod Rows
 pub mod Writing
 pub mod Back

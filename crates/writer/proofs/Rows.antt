@@ -1,4 +1,4 @@
--- Laws of a row of numbers: a search for one that is not finite, and numbers laid down one after the other.
+-- Laws of a row of numbers: that all are finite, and that they are laid down one after the other.
 use mathlib.Core.Bool.{Bool, true, false, _&&_}
 use mathlib.Core.List.{List, [], _∷_, _++_, append-assoc}
 use mathlib.Core.Path.{_≡_, refl, ap, sym, _∙_}
@@ -9,52 +9,39 @@ use lib.Ieee.{Float, nan, binary64, toBits}
 use lib.ListN.{length, getD, drop, drop-of-length-le, length-append}
 use lib.Seq.{drop-cons, sets}
 use Rattle.numbers.proofs.Branches.{both-true}
-use Rattle.fields.specs.Rows.{finite}
-use Rattle.writer.specs.Writer.{digits, numbersIn, laidAll, headOf, jobOf, finiteAll}
+use Rattle.fields.specs.Rows.{finite, allFinite}
+use Rattle.writer.specs.Writer.{digits, numbersIn, laidAll, headOf, jobOf}
 use Rattle.writer.proofs.Digits.{digits-length}
 use Rattle.writer.proofs.Stores.{sets-more}
 
--- ---- the search, at number i
-module _ (xs : List Float) (i : ℕ) (b : Bool) where
-  pub all-stops : i < length xs → finite (getD xs i nan) ≡ false → finiteAll (drop i xs) ≡ b → false ≡ b
-  unfolding finiteAll
-  all-stops h e p = rw (drop-cons xs i nan h, e) at p
-
-  pub all-goes : i < length xs → finite (getD xs i nan) ≡ true → finiteAll (drop i xs) ≡ b → finiteAll (drop (i + 1) xs) ≡ b
-  unfolding finiteAll
-  all-goes h e p = rw add-one (rw (drop-cons xs i nan h, e) at p)
-
-  pub all-ends : length xs ≤ i → finiteAll (drop i xs) ≡ b → true ≡ b
-  unfolding finiteAll
-  all-ends h p = rw (drop-of-length-le xs h) at p
-
-pub all-append : (xs ys : List Float) → finiteAll (xs ++ ys) ≡ (finiteAll xs && finiteAll ys)
-unfolding finiteAll
+-- ---- numbers that are all finite
+pub all-append : (xs ys : List Float) → allFinite (xs ++ ys) ≡ (allFinite xs && allFinite ys)
+unfolding allFinite
 all-append [] ys = refl
-all-append (x ∷ xs) ys = rw (all-append xs ys) (assoc (finite x) (finiteAll xs) (finiteAll ys))
+all-append (x ∷ xs) ys = rw (all-append xs ys) (assoc (finite x) (allFinite xs) (allFinite ys))
   where
     assoc : (a b c : Bool) → (a && (b && c)) ≡ ((a && b) && c)
     assoc true b c = refl
     assoc false b c = refl
 
-pub all-at : (xs : List Float) → finiteAll xs ≡ true → (i : ℕ) → i < length xs → finite (getD xs i nan) ≡ true
-unfolding finiteAll
-all-at (x ∷ xs) e zero h = both-true (finite x) (finiteAll xs) e .0
-all-at (x ∷ xs) e (suc i) h = all-at xs (both-true (finite x) (finiteAll xs) e .1) i (omega arith)
+pub all-at : (xs : List Float) → allFinite xs ≡ true → (i : ℕ) → i < length xs → finite (getD xs i nan) ≡ true
+unfolding allFinite
+all-at (x ∷ xs) e zero h = both-true (finite x) (allFinite xs) e .0
+all-at (x ∷ xs) e (suc i) h = all-at xs (both-true (finite x) (allFinite xs) e .1) i (omega arith)
 all-at [] e i h = absurd (omega arith)
 
 -- all numbers of a job
-pub finite-parts : (mesh : List Float) (floor radius : Float) (qs : List Float) → finiteAll (numbersIn mesh floor radius qs) ≡ true → (finite floor ≡ true) × (finite radius ≡ true) × (finiteAll mesh ≡ true) × (finiteAll qs ≡ true)
-unfolding finiteAll
+pub finite-parts : (mesh : List Float) (floor radius : Float) (qs : List Float) → allFinite (numbersIn mesh floor radius qs) ≡ true → (finite floor ≡ true) × (finite radius ≡ true) × (allFinite mesh ≡ true) × (allFinite qs ≡ true)
+unfolding allFinite
 finite-parts mesh floor radius qs e =
-    let a = both-true (finite floor) (finite radius && finiteAll (mesh ++ qs)) e in
-    let b = both-true (finite radius) (finiteAll (mesh ++ qs)) (a .1) in
-    let c = both-true (finiteAll mesh) (finiteAll qs) (sym (all-append mesh qs) ∙ b .1) in
+    let a = both-true (finite floor) (finite radius && allFinite (mesh ++ qs)) e in
+    let b = both-true (finite radius) (allFinite (mesh ++ qs)) (a .1) in
+    let c = both-true (allFinite mesh) (allFinite qs) (sym (all-append mesh qs) ∙ b .1) in
     (a .0, b .0, c .0, c .1)
 
 -- what the tests of a job's parts say of all its numbers
-pub told : (mesh : List Float) (floor radius : Float) (qs : List Float) (b : Bool) → b ≡ (finite floor && (finite radius && (finiteAll mesh && finiteAll qs))) → b ≡ finiteAll (numbersIn mesh floor radius qs)
-unfolding finiteAll
+pub told : (mesh : List Float) (floor radius : Float) (qs : List Float) (b : Bool) → b ≡ (finite floor && (finite radius && (allFinite mesh && allFinite qs))) → b ≡ allFinite (numbersIn mesh floor radius qs)
+unfolding allFinite
 told mesh floor radius qs b p = p ∙ ap (λ (t : Bool). finite floor && (finite radius && t)) (sym (all-append mesh qs))
 
 -- ---- numbers laid down

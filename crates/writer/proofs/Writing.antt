@@ -1,18 +1,18 @@
 -- Laws of a whole writing: what is refused, what is accepted, and what an accepted mesh and its questions allow.
-use mathlib.Core.Bool.{Bool, true, false, not}
+use mathlib.Core.Bool.{true, not}
 use mathlib.Core.List.{List, _++_}
 use mathlib.Core.Path.{_≡_, refl, ap, sym, _∙_}
-use Prim.Native.Nat.{ℕ, _+_, _*_, _/_, _%_, _≤_, _<_}
+use Prim.Native.Nat.{ℕ, _+_, _*_, _/_, _%_, _≤_}
 use native.Mathlib.Omega.{arith}
 use borrow.Author.Tests.{eq-eqb, ne-eqb, eqb-true, eqb-false, ltb-false, le-ltb, not-false}
-use lib.Dec.{eqb, ltb, lit<}
+use lib.Dec.{eqb, lit<}
 use lib.Ieee.{Float}
 use lib.ListN.{length, drop, length-append}
 use lib.Seq.{sets, sets-eq}
 use Rattle.numbers.proofs.Branches.{taken, left, either}
-use Rattle.job.specs.Layout.{bytesOf, wide}
+use Rattle.fields.specs.Rows.{allFinite}
 use Rattle.fields.proofs.Ladder.{refuse-next, refused-not}
-use Rattle.writer.specs.Writer.{numbersIn, jobOf, jobIn, finiteAll, sizeOf, refusalOfNumbers, refusalOfCounts, refusalOf, Outcome, ended, refusedBy, acceptedOf, writeOf}
+use Rattle.writer.specs.Writer.{numbersIn, jobOf, jobIn, sizeOf, refusalOfNumbers, refusalOfCounts, refusalOf, Outcome, ended, refusedBy, acceptedOf, writeOf}
 use Rattle.writer.proofs.Rows.{laid-length, head-length}
 
 module _ (mesh : List Float) (floor radius : Float) (qs : List Float) (room : ℕ) where
@@ -23,7 +23,7 @@ module _ (mesh : List Float) (floor radius : Float) (qs : List Float) (room : �
     pub five : length qs ≡ 5 * (length qs / 5)
     pub some : 1 ≤ length mesh / 9
     pub few-questions : length qs / 5 ≤ 65536
-    pub finite-all : finiteAll (numbersIn mesh floor radius qs) ≡ true
+    pub finite-all : allFinite (numbersIn mesh floor radius qs) ≡ true
     pub fits : sizeOf mesh qs ≤ room
 
   pub accepted : refusalOf mesh floor radius qs room ≡ 0 → Accepted

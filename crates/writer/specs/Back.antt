@@ -6,7 +6,6 @@ use lib.Ieee.{Float}
 use lib.ListN.{length, getD, take, drop}
 use Rattle.job.specs.Reader as reader
 use Rattle.job.specs.Reader.{readOf}
-use Rattle.writer.specs.declared.Written.{Written}
 use Rattle.writer.specs.Writer.{Outcome}
 
 module _ (mesh : List Float) (floor radius : Float) (qs : List Float) where

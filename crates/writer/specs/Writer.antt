@@ -1,6 +1,6 @@
 -- Document 02, request 2: the bytes of a job, which jobs are refused, and what writing one answers and leaves in the lent bytes. The fields are those of
 -- the table by which a job is read.
-use mathlib.Core.Bool.{Bool, true, not, cond, _&&_}
+use mathlib.Core.Bool.{not, cond}
 use mathlib.Core.Path.{_≡_, refl}
 use mathlib.Core.List.{List, [], _∷_, _++_}
 use Prim.Native.Nat.{ℕ, zero, suc, _+_, _/_, _%_}
@@ -9,7 +9,7 @@ use lib.Ieee.{Float, binary64, toBits}
 use lib.ListN.{length, drop}
 use Rattle.job.specs.Layout.{mark, version, zeroByte, triangles, questions, number, bytesOf, letters, wide}
 use Rattle.fields.specs.Little.{Field}
-use Rattle.fields.specs.Rows.{finite}
+use Rattle.fields.specs.Rows.{allFinite}
 use Rattle.fields.specs.Ladder.{refuse}
 use Rattle.writer.specs.declared.Written.{Written}
 
@@ -54,11 +54,6 @@ in-order = (refl, refl, refl, refl, refl, refl)
 
 -- ---- refusals, in order: k where the test holds, else the next
 
--- none is an infinity or a NaN
-unfoldable pub finiteAll : List Float → Bool
-finiteAll [] = true
-finiteAll (x ∷ xs) = finite x && finiteAll xs
-
 -- how many bytes the job of a mesh and questions has
 abbrev pub sizeOf : List Float → List Float → ℕ
 sizeOf mesh qs = bytesOf wide (length mesh / 9) (length qs / 5)
@@ -67,7 +62,7 @@ module _ (mesh : List Float) (floor radius : Float) (qs : List Float) (room : �
   -- 20 a number not finite; 22 room shorter than the job
   unfoldable pub refusalOfNumbers : ℕ
   refusalOfNumbers =
-      refuse (not (finiteAll (numbersIn mesh floor radius qs))) 20
+      refuse (not (allFinite (numbersIn mesh floor radius qs))) 20
       (refuse (ltb room (sizeOf mesh qs)) 22 0)
 
   -- 18 no triangle, or over 65,536 questions

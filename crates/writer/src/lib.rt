@@ -9,8 +9,9 @@ ghost use lib.Ieee.{binary64, toBits};
 ghost use lib.ListN.{length};
 ghost use lib.Seq.{sets};
 ghost use Rattle.job.specs.Layout.{mark, version, zeroByte, bytesOf, letters, wide};
-ghost use Rattle.fields.specs.Rows.{finite};
-ghost use Rattle.writer.specs.Writer.{digits, laid, numbersIn, laidAll, headOf, jobOf, jobIn, finiteAll, refusalOfNumbers, refusalOfCounts, refusalOf, ended, writeOf};
+ghost use Rattle.fields.specs.Rows.{finite, allFinite};
+ghost use Rattle.writer.specs.Writer.{digits, laid, numbersIn, laidAll, headOf, jobOf, jobIn};
+ghost use Rattle.writer.specs.Writer.{refusalOfNumbers, refusalOfCounts, refusalOf, ended, writeOf};
 ghost use Rattle.writer.specs.Back.{ReadsBack, WritesAgain};
 
 // What writing a job answers: 0 and the number of its bytes, or the refusal and 0.
@@ -25,8 +26,6 @@ const NUMBERS: usize = 14;
 const WIDE: usize = 8;
 
 const MOST: usize = 65536;
-
-const MINUS_ONE: f64 = -1.0;
 
 // Writes a job into the lent bytes, nine numbers a triangle, five a question; bytes beyond the job stay unchanged.
 pub fn write_job(
@@ -108,48 +107,25 @@ fn size(n: usize, m: usize) -> usize
 
 // Whether all numbers of the job are finite.
 fn numbers_finite(mesh: &[f64], floor: f64, radius: f64, questions: &[f64]) -> bool
-    ensures { λ b. ⌜ b ≡ finiteAll (numbersIn (now (mesh .entry)) floor radius (now (questions .entry))) ⌝ }
+    ensures { λ b. ⌜ b ≡ allFinite (numbersIn (now (mesh .entry)) floor radius (now (questions .entry))) ⌝ }
 {
-    if !is_finite(floor) {
+    if !fields::is_number(floor) {
         return false;
     }
-    if !is_finite(radius) {
+    if !fields::is_number(radius) {
         return false;
     }
-    if !all_finite(mesh) {
+    if !fields::all_finite(mesh) {
         return false;
     }
-    all_finite(questions)
-}
-
-// Whether all of a table's numbers are finite.
-fn all_finite(xs: &[f64]) -> bool
-    ensures { λ b. ⌜ b ≡ finiteAll (now (xs .entry)) ⌝ }
-{
-    for i in 0..xs.len() {
-        if !is_finite(xs[i]) {
-            return false;
-        }
-    }
-    true
-}
-
-// Neither an infinity nor a NaN.
-fn is_finite(x: f64) -> bool
-    ensures { λ b. ⌜ b ≡ finite x ⌝ }
-{
-    if MINUS_ONE / 0.0 < x {
-        x < 1.0 / 0.0
-    } else {
-        false
-    }
+    fields::all_finite(questions)
 }
 
 // Puts an accepted job's fields into the bytes.
 fn put_job(mesh: &[f64], floor: f64, radius: f64, questions: &[f64], bytes: &mut [u8])
     requires { ⌜ (length (now mesh) / 9 ≤ 65536) × (length (now questions) / 5 ≤ 65536) ⌝ }
     requires { ⌜ 14 + 8 * (2 + length (now mesh) + length (now questions)) ≤ length (now bytes) ⌝ }
-    requires { ⌜ finiteAll (numbersIn (now mesh) floor radius (now questions)) ≡ true ⌝ }
+    requires { ⌜ allFinite (numbersIn (now mesh) floor radius (now questions)) ≡ true ⌝ }
     ensures { λ _. ⌜ now (bytes .exit) ≡ sets (now (bytes .entry)) 0 (jobIn (now (mesh .entry)) floor radius (now (questions .entry))) ⌝ }
 {
     put_front(
@@ -200,7 +176,7 @@ fn put_mark(bytes: &mut [u8])
 // Numbers, which are finite, from number k on.
 fn put_numbers(xs: &[f64], k: usize, bytes: &mut [u8])
     requires { ⌜ 14 + 8 * (k + length (now xs)) ≤ length (now bytes) ⌝ }
-    requires { ⌜ finiteAll (now xs) ≡ true ⌝ }
+    requires { ⌜ allFinite (now xs) ≡ true ⌝ }
     ensures { λ _. ⌜ now (bytes .exit) ≡ sets (now (bytes .entry)) (14 + 8 * k) (laidAll (now (xs .entry))) ⌝ }
 {
     for i in 0..xs.len() {

@@ -1,15 +1,14 @@
 -- The test of a number that is finite, and of all numbers of a table: what is left of it is tested as the whole is.
-use mathlib.Core.Bool.{Bool, true, false, cond, _&&_}
-use mathlib.Core.List.{List, [], _∷_}
+use mathlib.Core.Bool.{true, false, _&&_}
+use mathlib.Core.List.{List}
 use mathlib.Core.Path.{_≡_, refl, _∙_}
 use Prim.Native.Nat.{ℕ, _+_, _<_}
 use native.Mathlib.Numerals.{add-one}
-use lib.Ieee.{Float, nan, inf, fin, binary64, ofBits, div, lt}
+use lib.Ieee.{Float, nan, inf, fin, ofBits, div, lt}
 use lib.ListN.{length, drop}
 use lib.Seq.{drop-cons, drop-length}
 use Rattle.numbers.specs.Reals.{_⊘_, f0, f1, minus1, num}
-use Rattle.fields.specs.Rows.{finite}
-use Rattle.join.specs.Join.{allFinite}
+use Rattle.fields.specs.Rows.{finite, allFinite}
 
 pub between : (x : Float) → (lt (minus1 ⊘ f0) x && lt x (f1 ⊘ f0)) ≡ finite x
 unfolding finite lt div ofBits
