@@ -31,6 +31,7 @@
  *   13  more joined runs than room
  *   14  the job has under 30 bytes               15  its mark is not "FTM"           16  its version is not 1
  *   17  its sixth byte is not 0                  18  no triangle, or too many triangles or questions
+ *   22  the lent bytes are shorter than the job that is to be written
  *   24  a beam, a shape number above 5, or a ball or bull end without the enclosure
  *   25  sections_len is less than four numbers a section
  *   19  it has fewer bytes than its counts ask for: a copy that broke off; sizes[0] tells how many triangles stand whole before the cut
@@ -132,6 +133,13 @@ uint32_t mandrikelo_sections_of(uint32_t shape, bool enclose, bool neck,
 uint32_t mandrikelo_read_job(const uint8_t *bytes, size_t bytes_len, double *mesh, size_t mesh_len,
     double *questions, size_t questions_len, double measures[2] /* floor, radius */,
     uint32_t sizes[2] /* n, m; after 19 the whole triangles, 0 */);
+
+/* Writes such a file from a mesh, 9 numbers a triangle, and questions, 5 each. The job's bytes stand first in `bytes`, those beyond it
+ * keep what they held, and `length` gets the number of its bytes. Refusals in their order: 1 (also: questions_len is no multiple of 5),
+ * 18 (no triangle, or over 65,536 questions), 20 (floor, radius, mesh or questions), 22; nothing is written then. What is written reads
+ * back to the same numbers, bit for bit, and what was read from a file is written to the same bytes. */
+uint32_t mandrikelo_write_job(const double *mesh, size_t mesh_len, double floor, double radius,
+    const double *questions, size_t questions_len, uint8_t *bytes, size_t bytes_len, size_t length[1]);
 
 /* The numbers that everything rests on. */
 double mandrikelo_root(double x);                 /* the nearest f64 to the square root */

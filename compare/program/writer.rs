@@ -280,6 +280,6 @@ pub fn bench(now: fn() -> f64, wanted: fn(&str) -> bool) {
             t.sort_by(f64::total_cmp);
             t[t.len() / 2]
         });
-        println!("| write a job, {n} triangles and {m} questions | {ours:.0} | {rust:.0} | {:.2} |", ours / rust);
+        println!("| write a job, triangles and questions: {n} and {m} | {ours:.0} | {rust:.0} | {:.2} |", ours / rust);
     }
 }
