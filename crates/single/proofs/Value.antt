@@ -1,0 +1,77 @@
+-- The bits of an f32: when they are finite, which number they are, and where a cast to f64 loses nothing.
+use mathlib.Core.Bool.{Bool, true, false, not, cond, _&&_}
+use mathlib.Core.Path.{_≡_, refl, ap, sym, subst, _∙_}
+use Prim.Native.Nat.{ℕ, zero, suc, _+_, _-_, _*_, _/_, _%_, _^_, _≤_, _<_}
+use native.Mathlib.Omega.{arith}
+use borrow.Author.Tests.{le-ltb, lt-ltb}
+use lib.Dec.{T, eqb, leb, ltb, eqb·suc-zero}
+use lib.Ieee.{Float, nan, inf, fin, binary32, binary64, odd, ofFields, ofBits, isNan, nanBits, fits, div}
+use lib.Ieee.Bits.{nanBits-is, nanBits-above, ofBits-fits}
+use lib.Ieee.Exact.{HasValue, odd-sign}
+use lib.Ieee.Fits.{and-i, fits-widens}
+use lib.Ieee.Scale.{finite}
+use lib.Pow.{field}
+use Rattle.single.specs.Single.{negative, exponent, digits, whole, power, IsNumberOf, valueOf}
+
+odd-finite : (d : ℕ) (s : Bool) (q k l : ℕ) → finite (odd d s q k l) ≡ true
+unfolding odd
+odd-finite d s zero k l = refl
+odd-finite d s (suc q) k l = refl
+
+picked : (b : Bool) (x y : Float) → finite x ≡ false → finite y ≡ true → finite (cond b x y) ≡ not b
+picked true x y p q = p
+picked false x y p q = q
+
+endless : (b : Bool) (s : Bool) → finite (cond b (inf s) nan) ≡ false
+endless true s = refl
+endless false s = refl
+
+fields-finite : (s : Bool) (x t : ℕ) → finite (ofFields binary32 s x t) ≡ not (eqb x 255)
+unfolding ofFields
+fields-finite s zero t = odd-finite _ s t 0 _
+fields-finite s (suc x) t = picked (eqb (suc x) 255) _ _ (endless (eqb t 0) s) (odd-finite 24 s (2 ^ 23 + t) x 149)
+
+pub bits-finite : (b : ℕ) → finite (valueOf b) ≡ not (eqb (b / 2 ^ 23 % 2 ^ 8) 255)
+unfolding valueOf ofBits
+bits-finite b = fields-finite (negative b) (exponent b) (digits b) ∙ ap (λ (x : ℕ). not (eqb x 255)) (field b 8 23)
+
+-- ---- which number
+
+Told : Bool → ℕ → ℕ → Float → Type 0
+Told s x t y = HasValue y s (cond (eqb x 0) t (2 ^ 23 + t) * 2 ^ (x - 1)) (2 ^ 149)
+
+chosen : (b s : Bool) (x t : ℕ) (u v : Float) → finite u ≡ false → Told s (suc x) t v → finite (cond b u v) ≡ true → Told s (suc x) t (cond b u v)
+chosen false s x t u v p q e = q
+chosen true s x t u v p q e = absurd (subst T (sym e ∙ p) tt)
+
+-- behind exponent 0 the digits have a leading one
+led : (x t : ℕ) → (2 ^ 23 + t) * 2 ^ x ≡ cond (eqb (suc x) 0) t (2 ^ 23 + t) * 2 ^ (suc x - 1)
+led x t = let e : suc x - 1 ≡ x = omega arith in rw (e, eqb·suc-zero x)
+
+fields-number : (s : Bool) (x t : ℕ) → finite (ofFields binary32 s x t) ≡ true → Told s x t (ofFields binary32 s x t)
+unfolding ofFields Told
+fields-number s zero t e = odd-sign 24 s t 0 149
+fields-number s (suc x) t e = chosen (eqb (suc x) 255) s x t _ _ (endless (eqb t 0) s) (rw (← led x t) (odd-sign 24 s (2 ^ 23 + t) x 149)) e
+
+pub number : (b : ℕ) (x : Float) → x ≡ valueOf b → finite (valueOf b) ≡ true → IsNumberOf b x
+unfolding valueOf ofBits whole Told
+number b x p e = subst (λ (y : Float). IsNumberOf b y) (sym p) (fields-number (negative b) (exponent b) (digits b) e)
+
+-- ---- NaN or not: one comparison
+
+pub no-nan : (b : ℕ) → b % 2 ^ 31 ≤ 0x7f80_0000 → T (not (nanBits binary32 b))
+no-nan b h = rw (nanBits-above binary32 b, le-ltb 0x7f80_0000 (b % 2 ^ 31) h) tt
+
+-- what is no NaN an f64 holds as it is
+pub kept : (b : ℕ) → T (not (nanBits binary32 b)) → T (fits binary64 (ofBits binary32 b) && not (isNan (ofBits binary32 b)))
+kept b h = and-i (fits binary64 (ofBits binary32 b)) (not (isNan (ofBits binary32 b))) (fits-widens _ (ofBits-fits binary32 b)) (rw (← nanBits-is binary32 b) h)
+
+is-nan : (x : Float) → isNan x ≡ true → nan ≡ x
+unfolding isNan
+is-nan nan e = refl
+is-nan (inf s) e = absurd (subst T (sym e) tt)
+is-nan (fin s m k) e = absurd (subst T (sym e) tt)
+
+pub a-nan : (b : ℕ) → 0x7f80_0000 < b % 2 ^ 31 → div binary64 (ofBits binary64 0) (ofBits binary64 0) ≡ valueOf b
+unfolding valueOf div ofBits
+a-nan b h = is-nan (valueOf b) (sym (nanBits-is binary32 b) ∙ nanBits-above binary32 b ∙ lt-ltb 0x7f80_0000 (b % 2 ^ 31) h)
