@@ -9,40 +9,25 @@ use lib.Ieee.{Float, nan, inf, fin, binary32, binary64, odd, ofFields, ofBits, i
 use lib.Ieee.Bits.{nanBits-is, nanBits-above, ofBits-fits}
 use lib.Ieee.Exact.{HasValue, odd-sign}
 use lib.Ieee.Fits.{and-i, fits-widens}
-use lib.Ieee.Scale.{finite}
 use lib.Pow.{field}
+use Rattle.fields.specs.Rows.{finite}
+use Rattle.fields.proofs.Finite.{pattern-finite}
 use Rattle.single.specs.Single.{negative, exponent, digits, whole, power, IsNumberOf, valueOf}
 
-odd-finite : (d : ℕ) (s : Bool) (q k l : ℕ) → finite (odd d s q k l) ≡ true
-unfolding odd
-odd-finite d s zero k l = refl
-odd-finite d s (suc q) k l = refl
-
-picked : (b : Bool) (x y : Float) → finite x ≡ false → finite y ≡ true → finite (cond b x y) ≡ not b
-picked true x y p q = p
-picked false x y p q = q
-
-endless : (b : Bool) (s : Bool) → finite (cond b (inf s) nan) ≡ false
-endless true s = refl
-endless false s = refl
-
-fields-finite : (s : Bool) (x t : ℕ) → finite (ofFields binary32 s x t) ≡ not (eqb x 255)
-unfolding ofFields
-fields-finite s zero t = odd-finite _ s t 0 _
-fields-finite s (suc x) t = picked (eqb (suc x) 255) _ _ (endless (eqb t 0) s) (odd-finite 24 s (2 ^ 23 + t) x 149)
-
 pub bits-finite : (b : ℕ) → finite (valueOf b) ≡ not (eqb (b / 2 ^ 23 % 2 ^ 8) 255)
-unfolding valueOf ofBits
-bits-finite b = fields-finite (negative b) (exponent b) (digits b) ∙ ap (λ (x : ℕ). not (eqb x 255)) (field b 8 23)
+unfolding valueOf
+bits-finite b = pattern-finite binary32 refl b ∙ ap (λ (x : ℕ). not (eqb x 255)) (field b 8 23)
 
 -- ---- which number
 
 Told : Bool → ℕ → ℕ → Float → Type 0
 Told s x t y = HasValue y s (cond (eqb x 0) t (2 ^ 23 + t) * 2 ^ (x - 1)) (2 ^ 149)
 
-chosen : (b s : Bool) (x t : ℕ) (u v : Float) → finite u ≡ false → Told s (suc x) t v → finite (cond b u v) ≡ true → Told s (suc x) t (cond b u v)
-chosen false s x t u v p q e = q
-chosen true s x t u v p q e = absurd (subst T (sym e ∙ p) tt)
+chosen : (b z s : Bool) (x t : ℕ) (v : Float) → Told s (suc x) t v → finite (cond b (cond z (inf s) nan) v) ≡ true → Told s (suc x) t (cond b (cond z (inf s) nan) v)
+unfolding finite
+chosen false z s x t v q e = q
+chosen true true s x t v q e = absurd (subst T (sym e) tt)
+chosen true false s x t v q e = absurd (subst T (sym e) tt)
 
 -- behind exponent 0 the digits have a leading one
 led : (x t : ℕ) → (2 ^ 23 + t) * 2 ^ x ≡ cond (eqb (suc x) 0) t (2 ^ 23 + t) * 2 ^ (suc x - 1)
@@ -51,7 +36,7 @@ led x t = let e : suc x - 1 ≡ x = omega arith in rw (e, eqb·suc-zero x)
 fields-number : (s : Bool) (x t : ℕ) → finite (ofFields binary32 s x t) ≡ true → Told s x t (ofFields binary32 s x t)
 unfolding ofFields Told
 fields-number s zero t e = odd-sign 24 s t 0 149
-fields-number s (suc x) t e = chosen (eqb (suc x) 255) s x t _ _ (endless (eqb t 0) s) (rw (← led x t) (odd-sign 24 s (2 ^ 23 + t) x 149)) e
+fields-number s (suc x) t e = chosen (eqb (suc x) 255) (eqb t 0) s x t _ (rw (← led x t) (odd-sign 24 s (2 ^ 23 + t) x 149)) e
 
 pub number : (b : ℕ) (x : Float) → x ≡ valueOf b → finite (valueOf b) ≡ true → IsNumberOf b x
 unfolding valueOf ofBits whole Told

@@ -6,7 +6,6 @@ use lib.IntN.{pos, negsuc}
 use lib.Dec.{leb, eqb}
 use lib.Ieee.{Float, fin, inf, binary32, ofBits}
 use lib.Ieee.Exact.{HasValue}
-use lib.Ieee.Scale.{finite}
 
 -- The bits: a sign, eight of the exponent, 23 digits.
 abbrev pub negative : ℕ → Bool
@@ -34,7 +33,8 @@ IsNumberOf b x = HasValue x (negative b) (whole b * 2 ^ power b) (2 ^ 149)
 unfoldable pub valueOf : ℕ → Float
 valueOf b = ofBits binary32 b
 
--- What it comes to: both zeros, the smallest, the largest subnormal, 1, the largest, an infinity. `fin s m e` is m * 2 ^ e with the sign s, and an f64 has it too.
+-- What it comes to: both zeros, the smallest, the largest subnormal, 1, the largest, an infinity. `fin s m e` is m * 2 ^ e with the
+-- sign s, and an f64 has it too.
 zero-is : valueOf 0 ≡ fin false 0 (pos 0)
 unfolding valueOf ofBits
 zero-is = refl

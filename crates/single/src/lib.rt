@@ -1,7 +1,7 @@
 // An f32 that arrives as its bits, made an f64 of the same value.
 ghost use mathlib.Core.Path.{_≡_};
 ghost use mathlib.Core.Bool.{true};
-ghost use lib.Ieee.Scale.{finite};
+ghost use Rattle.fields.specs.Rows.{finite};
 ghost use Rattle.single.specs.Single.{valueOf, IsNumberOf};
 
 // The bits of plus infinity, the sign's weight, and that of the exponent.
