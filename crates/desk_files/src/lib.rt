@@ -6,6 +6,8 @@ ghost use lib.ListN.{length};
 ghost use Rattle.job.specs.Reader.{readOf, SoundExactly, NeverTakenForAPart};
 ghost use Rattle.desk_files.specs.Jobs.{jobLeft, jobLeftBy};
 
+pub mod stl_files;
+
 // Reads a job into the lent tables; measures get the floor and the radius, sizes the numbers of triangles and questions. After 19 the first of sizes
 // holds how many triangles stand whole before the cut.
 mod write;
