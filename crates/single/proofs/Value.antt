@@ -3,15 +3,14 @@ use mathlib.Core.Bool.{Bool, true, false, not, cond, _&&_}
 use mathlib.Core.Path.{_≡_, refl, ap, sym, subst, _∙_}
 use Prim.Native.Nat.{ℕ, zero, suc, _+_, _-_, _*_, _/_, _%_, _^_, _≤_, _<_}
 use native.Mathlib.Omega.{arith}
-use borrow.Author.Tests.{le-ltb, lt-ltb}
-use lib.Dec.{T, eqb, leb, ltb, eqb·suc-zero}
-use lib.Ieee.{Float, nan, inf, fin, binary32, binary64, odd, ofFields, ofBits, isNan, nanBits, fits, div}
-use lib.Ieee.Bits.{nanBits-is, nanBits-above, ofBits-fits}
+use lib.Dec.{T, eqb, eqb·suc-zero}
+use lib.Ieee.{Float, nan, inf, fin, binary32, binary64, odd, ofFields, ofBits, isNan, fits}
+use lib.Ieee.Bits.{nanBits-is, ofBits-fits}
 use lib.Ieee.Exact.{HasValue, odd-sign}
 use lib.Ieee.Fits.{and-i, fits-widens}
 use lib.Pow.{field}
 use Rattle.fields.specs.Rows.{finite}
-use Rattle.fields.proofs.Finite.{pattern-finite}
+use Rattle.fields.proofs.Finite.{pattern-finite, finite-bits}
 use Rattle.single.specs.Single.{negative, exponent, digits, whole, power, IsNumberOf, valueOf}
 
 pub bits-finite : (b : ℕ) → finite (valueOf b) ≡ not (eqb (b / 2 ^ 23 % 2 ^ 8) 255)
@@ -42,21 +41,10 @@ pub number : (b : ℕ) (x : Float) → x ≡ valueOf b → finite (valueOf b) �
 unfolding valueOf ofBits whole Told
 number b x p e = subst (λ (y : Float). IsNumberOf b y) (sym p) (fields-number (negative b) (exponent b) (digits b) e)
 
--- ---- NaN or not: one comparison
-
-pub no-nan : (b : ℕ) → b % 2 ^ 31 ≤ 0x7f80_0000 → T (not (nanBits binary32 b))
-no-nan b h = rw (nanBits-above binary32 b, le-ltb 0x7f80_0000 (b % 2 ^ 31) h) tt
-
--- what is no NaN an f64 holds as it is
-pub kept : (b : ℕ) → T (not (nanBits binary32 b)) → T (fits binary64 (ofBits binary32 b) && not (isNan (ofBits binary32 b)))
-kept b h = and-i (fits binary64 (ofBits binary32 b)) (not (isNan (ofBits binary32 b))) (fits-widens _ (ofBits-fits binary32 b)) (rw (← nanBits-is binary32 b) h)
-
-is-nan : (x : Float) → isNan x ≡ true → nan ≡ x
-unfolding isNan
-is-nan nan e = refl
-is-nan (inf s) e = absurd (subst T (sym e) tt)
-is-nan (fin s m k) e = absurd (subst T (sym e) tt)
-
-pub a-nan : (b : ℕ) → 0x7f80_0000 < b % 2 ^ 31 → div binary64 (ofBits binary64 0) (ofBits binary64 0) ≡ valueOf b
-unfolding valueOf div ofBits
-a-nan b h = is-nan (valueOf b) (sym (nanBits-is binary32 b) ∙ nanBits-above binary32 b ∙ lt-ltb 0x7f80_0000 (b % 2 ^ 31) h)
+-- ---- an f64 holds it as it is
+pub kept : (b : ℕ) → finite (valueOf b) ≡ true → T (fits binary64 (ofBits binary32 b) && not (isNan (ofBits binary32 b)))
+unfolding valueOf
+kept b e =
+    and-i (fits binary64 (ofBits binary32 b)) (not (isNan (ofBits binary32 b)))
+    (fits-widens _ (ofBits-fits binary32 b))
+    (rw (← nanBits-is binary32 b) (finite-bits binary32 b e))

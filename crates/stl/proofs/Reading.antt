@@ -11,10 +11,11 @@ use lib.ListN.{length, drop}
 use Rattle.numbers.proofs.Branches.{taken, left, either}
 use Rattle.fields.specs.declared.Shape.{Shape}
 use Rattle.fields.specs.Little.{value}
+use Rattle.fields.specs.Rows.{finite}
 use Rattle.fields.specs.Length.{wholeIn}
 use Rattle.stl.specs.declared.Read.{Read}
 use Rattle.stl.specs.Layout.{count, shape}
-use Rattle.stl.specs.Reader.{refusalOf, Outcome, ended, shapeOf, toldWith, refusedBy, acceptedOf, readOf, SoundExactly}
+use Rattle.stl.specs.Reader.{numberOf, refusalOf, Outcome, ended, shapeOf, toldWith, refusedBy, acceptedOf, readOf, SoundExactly}
 use Rattle.stl.proofs.Ladder.{sound, accepted, behind-head}
 
 module _ (bytes : List ℕ) where
@@ -56,9 +57,9 @@ module _ (bytes : List ℕ) where
         unfolding readOf
         accepted-is n o p a = rw (← e, ← p) (taken _ _ _ _ (eq-eqb k 0 z) a)
 
-        -- the count stands within the bytes, and so do all numbers, which have room
+        -- the count stands within the bytes, and so do all numbers, which have room and are finite
         pub count-within : 84 ≤ length bytes
         count-within = let s = sound bytes _ (sym e ∙ z) in omega (arith, s .whole)
 
-        pub ready : (n : ℕ) → n ≡ value count bytes → (84 + 50 * n ≤ length bytes) × (9 * n ≤ length mesh)
-        ready n p = let s = sound bytes _ (sym e ∙ z) in (omega (arith, s .whole), omega (arith, s .few .1))
+        pub ready : (n : ℕ) → n ≡ value count bytes → ((84 + 50 * n ≤ length bytes) × (9 * n ≤ length mesh)) × ((i : ℕ) → i < 9 * n → finite (numberOf bytes i) ≡ true)
+        ready n p = let s = sound bytes _ (sym e ∙ z) in ((omega (arith, s .whole), omega (arith, s .few .1)), λ i h. s .finite-all i (omega arith))

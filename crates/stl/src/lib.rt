@@ -3,10 +3,11 @@
 // Every reason to refuse it is looked for before the first number is written, so a refused file leaves the lent mesh as it was.
 ghost use mathlib.Core.Path.{_≡_};
 ghost use mathlib.Core.List.{_++_};
-ghost use Prim.Native.Nat.{_+_, _*_, _/_, _≤_, _<_};
+ghost use mathlib.Core.Bool.{true};
+ghost use Prim.Native.Nat.{ℕ, _+_, _*_, _/_, _≤_, _<_};
 ghost use lib.ListN.{length, drop};
 ghost use lib.Seq.{sets};
-ghost use Rattle.fields.specs.Rows.{row};
+ghost use Rattle.fields.specs.Rows.{finite, row};
 ghost use Rattle.single.specs.Single.{valueOf};
 ghost use Rattle.stl.specs.Layout.{shape as shapeOf};
 ghost use Rattle.stl.specs.Reader.{numberOf, badAmong, refusalOfNumbers, refusalOfLength, refusalOfCount, refusalOf};
@@ -153,6 +154,7 @@ fn bad_in(bytes: &[u8], t: usize) -> bool
 // Puts an accepted file's numbers into the mesh.
 fn decoded(bytes: &[u8], n: u32, mesh: &mut [f64]) -> Read
     requires { ⌜ (84 + 50 * n ≤ length (now bytes)) × (9 * n ≤ length (now mesh)) ⌝ }
+    requires { ⌜ ((k : ℕ) → k < 9 * n → finite (numberOf (now bytes) k) ≡ true) ⌝ }
     ensures { λ r. ⌜ ended r (now (mesh .exit)) ≡ acceptedOf (now (bytes .entry)) n (now (mesh .entry)) ⌝ }
 {
     fill(bytes, n as usize, mesh);
@@ -162,6 +164,7 @@ fn decoded(bytes: &[u8], n: u32, mesh: &mut [f64]) -> Read
 // Puts the vertices of the first n triangles at the start of out; the rest of out stays.
 fn fill(bytes: &[u8], n: usize, out: &mut [f64])
     requires { ⌜ (84 + 50 * n ≤ length (now bytes)) × (9 * n ≤ length (now out)) ⌝ }
+    requires { ⌜ ((k : ℕ) → k < 9 * n → finite (numberOf (now bytes) k) ≡ true) ⌝ }
     ensures { λ _. ⌜ now (out .exit) ≡ row (numberOf (now (bytes .entry))) 0 (9 * n) ++ drop (9 * n) (now (out .entry)) ⌝ }
 {
     for t in 0..n {
@@ -172,6 +175,7 @@ fn fill(bytes: &[u8], n: usize, out: &mut [f64])
 // Puts the nine numbers of triangle t into their places in out.
 fn put(bytes: &[u8], t: usize, out: &mut [f64])
     requires { ⌜ (84 + 50 * (t + 1) ≤ length (now bytes)) × (9 * (t + 1) ≤ length (now out)) ⌝ }
+    requires { ⌜ ((j : ℕ) → j < 9 → finite (numberOf (now bytes) (9 * t + j)) ≡ true) ⌝ }
     ensures { λ _. ⌜ now (out .exit) ≡ sets (now (out .entry)) (9 * t) (row (numberOf (now (bytes .entry))) (9 * t) 9) ⌝ }
 {
     for j in 0..9usize {

@@ -1,21 +1,20 @@
 use mathlib.Core.Path.{refl}
+use Rattle.fields.proofs.Finite.{finite-bits}
 use Rattle.single.specs.Single.{valueOf}
-use Rattle.single.proofs.Value.{number, no-nan, kept, a-nan}
+use Rattle.single.proofs.Value.{number, kept}
 use Rattle.single.proofs.widened.Statement.{statement}
 use Rattle.single.proofs.widened.Tie as tie
 
-returns : tie.Need-returns
-returns c = let p = a-nan (c .before .args .bits) (c .if1 .taken) in (p, number _ _ p)
-
 float-from-bits-result : tie.Need-float-from-bits-result
-float-from-bits-result c = no-nan _ (c .if1 .left)
+unfolding valueOf
+float-from-bits-result c = finite-bits _ _ (c .pre)
 
 float-to-float-result : tie.Need-float-to-float-result
-float-to-float-result c = kept _ (no-nan _ (c .before .if1 .left))
+float-to-float-result c = kept _ (c .before .pre)
 
-returns-2 : tie.Need-returns-2
+returns : tie.Need-returns
 unfolding valueOf
-returns-2 c = (refl, number _ _ refl)
+returns c = (refl, number _ _ refl (c .before .pre))
 
 pub widened-spec : {M : Type 1} → statement M
-widened-spec = tie.close (tie.spec returns float-from-bits-result float-to-float-result returns-2)
+widened-spec = tie.close (tie.spec float-from-bits-result float-to-float-result returns)

@@ -29,6 +29,9 @@ loop-holds c =
 bits-at-requires : tie.Need-bits-at-requires Inv-loop μ-loop
 bits-at-requires c κs = (omega arith, omega arith)
 
+widened-requires : tie.Need-widened-requires Inv-loop μ-loop
+widened-requires c κs = rw (c .bits-at .ensures) (c .before .before .before .before .before .pre .1 _ (omega arith))
+
 loop-again : tie.Need-loop-again Inv-loop μ-loop
 loop-again c =
     let l = c .before .before .before .loop in
@@ -41,4 +44,4 @@ returns : tie.Need-returns Inv-loop μ-loop
 returns c = all-stored _ _ _ _ _ (omega arith) (c .before .loop .inv .0)
 
 pub put-spec : {M : Type 1} → statement M
-put-spec = tie.close (tie.spec Inv-loop μ-loop loop-holds bits-at-requires (λ c κs. tt) (λ c. omega arith) (λ c. omega arith) (λ c. omega arith) (λ c. omega arith) (λ c. omega arith) (λ c. omega arith) loop-again same-length returns)
+put-spec = tie.close (tie.spec Inv-loop μ-loop loop-holds bits-at-requires widened-requires (λ c. omega arith) (λ c. omega arith) (λ c. omega arith) (λ c. omega arith) (λ c. omega arith) (λ c. omega arith) loop-again same-length returns)
