@@ -5,6 +5,7 @@ use crate::MISSING;
 use crate::doors::{Handed, raw};
 use crate::inputs;
 use crate::rng::Rng;
+use crate::stl;
 use oracle_doc::flat::door as doc;
 use oracle_doc::numbers::Numbers;
 use oracle_shipped::flat::door as shipped;
@@ -125,6 +126,7 @@ pub fn run() {
     println!("|---|---|---|---|---|---|");
     numbers();
     contacts();
+    readers();
     let bed = bed(plate(100, 20));
     build(&bed);
     heights(&bed);
@@ -223,6 +225,23 @@ fn contacts() {
             &mut || (0..n).for_each(|i| used(docs[i].section_contact(points[i], sections[i]))),
         ],
     );
+}
+
+/// camlib reads no files: both columns are a plain Rust reader with the same tests.
+fn readers() {
+    for n in [1_000, 65_536] {
+        let bytes = stl::sample(n);
+        let (mut ours, mut rust, mut again) = (vec![0.; 9 * n], vec![0.; 9 * n], vec![0.; 9 * n]);
+        let mut count = [0];
+        row(
+            &format!("read_stl, {n} triangles, {} bytes", bytes.len()), &["read_stl"], 40, 1,
+            [
+                &mut || used(unsafe { stl::mandrikelo_read_stl(bytes.as_ptr(), bytes.len(), ours.as_mut_ptr(), ours.len(), count.as_mut_ptr()) }),
+                &mut || used(stl::plain(black_box(&bytes), &mut rust)),
+                &mut || used(stl::plain(black_box(&bytes), &mut again)),
+            ],
+        );
+    }
 }
 
 fn build(bed: &Bed) {

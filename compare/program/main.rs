@@ -1,9 +1,11 @@
-//! The Rust beside the planner: `run` compares, `fuzz` compares damaged calls only, `bench` times, `shipped` counts where camlib as shipped differs.
+//! The Rust beside the planner: `run` compares, `fuzz` compares damaged calls only, `bench` times, `shipped` counts where camlib as shipped differs,
+//! `singles` reads every f32.
 //!
 //!     compare run  [--cases N] [--seed S] [--part NAME] [--case 'LINE']
 //!     compare fuzz [--cases N] [--seed S] [--part NAME]
 //!     compare bench [WORD..]
 //!     compare shipped [--cases N] [--seed S]
+//!     compare singles
 
 mod bench;
 mod case;
@@ -17,6 +19,7 @@ mod rng;
 mod sheet;
 mod shipped;
 mod writer;
+mod stl;
 include!(concat!(env!("OUT"), "/missing.rs"));
 
 use case::Case;
@@ -38,11 +41,14 @@ fn main() {
     if what == "bench" {
         return bench::run();
     }
+    if what == "singles" {
+        return stl::singles();
+    }
     if what == "shipped" {
         return shipped::run();
     }
     if what != "run" && what != "fuzz" {
-        eprintln!("compare run|fuzz|bench|shipped [--cases N] [--seed S] [--part NAME] [--case 'LINE']");
+        eprintln!("compare run|fuzz|bench|shipped|singles [--cases N] [--seed S] [--part NAME] [--case 'LINE']");
         std::process::exit(2);
     }
     let mut wanted = Wanted { cases: 10_000, seed: 1, part: None, case: None, damage: what == "fuzz" };

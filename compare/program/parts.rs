@@ -171,6 +171,7 @@ pub const PARTS: &[Part] = &[
     },
     crate::sheet::PART,
     crate::writer::PART,
+    crate::stl::PART,
 ];
 
 /// Questions asked of one mesh.
