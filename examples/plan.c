@@ -1,12 +1,14 @@
-/* Prints the plan of a job file's mesh as a listing, for people and for examples/draw:
+/* Prints the plan of a job file's mesh, or of a binary STL file's, as a listing, for people and for examples/draw:
  *
  *     plan JOB x|y TOLERANCE LEVEL_TOLERANCE STEPOVER STOCK_TO_LEAVE STOCK_BOTTOM STOCK_TOP CUTTING_LENGTH
+ *     plan PART.stl FLOOR RADIUS x|y TOLERANCE ..
  *
  * To build it: ./archive && cc -Iinclude examples/plan.c target/staticlib/libmandrikelo.a -o target/plan
  *
  * A line an entry: axis, floor, radius, parameters, then each triangle, level and run, the number of rows, the cut length and the
  * dropped length. Every number is printed with 17 digits, so that it can be read back to the bit. The job's questions are not used.
- * A refusal is told as `WHO refused NUMBER`, and the status is then 1. */
+ * A refusal is told as `WHO refused NUMBER`, of a cut file also how many triangles stand whole before the cut, and the status is then
+ * 1. */
 #include <stdio.h>
 #include <stdlib.h>
 #include <string.h>
@@ -47,33 +49,60 @@ static void passed(const char *who, uint32_t refusal)
     }
 }
 
-int main(int argc, char **argv)
+/* A file's first bytes, one more than the longest that is accepted has. */
+static size_t read_file(const char *path, uint8_t *bytes, size_t most)
 {
-    if (argc != 10) {
-        fprintf(stderr, "plan JOB x|y TOLERANCE LEVEL_TOLERANCE STEPOVER STOCK_TO_LEAVE STOCK_BOTTOM STOCK_TOP CUTTING_LENGTH\n");
-        return 2;
-    }
-    double parameters[7];
-    for (int i = 0; i < 7; i++)
-        parameters[i] = strtod(argv[3 + i], NULL);
-    uint32_t axis = !strcmp(argv[2], "x") ? 0 : !strcmp(argv[2], "y") ? 1 : 2;
-
-    size_t most = 30 + 72 * (size_t)MOST + 40 * (size_t)MOST + 1;
-    uint8_t *bytes = room(most, 1);
-    FILE *file = fopen(argv[1], "rb");
+    FILE *file = fopen(path, "rb");
     if (!file) {
-        perror(argv[1]);
-        return 2;
+        perror(path);
+        exit(2);
     }
     size_t length = fread(bytes, 1, most, file);
     fclose(file);
+    return length;
+}
 
-    double *mesh = room(9 * (size_t)MOST, sizeof *mesh), *questions = room(5 * (size_t)MOST, sizeof *questions);
-    double place[2];
-    uint32_t read[2];
-    passed("job", mandrikelo_read_job(bytes, length, mesh, 9 * (size_t)MOST, questions, 5 * (size_t)MOST, place, read));
+/* The mesh of a job or of an STL file, and how many triangles it has; place gets floor and radius, the words behind the path. */
+static uint32_t read_mesh(int argc, char **argv, double *mesh, double place[2])
+{
+    size_t most = 30 + 72 * (size_t)MOST + 40 * (size_t)MOST + 1;
+    uint8_t *bytes = room(most, 1);
+    size_t length = read_file(argv[1], bytes, most);
+    uint32_t told[2] = {0, 0}, refusal;
+    const char *who = argc == 12 ? "stl" : "job";
+    if (argc == 12) {
+        place[0] = strtod(argv[2], NULL);
+        place[1] = strtod(argv[3], NULL);
+        refusal = mandrikelo_read_stl(bytes, length, mesh, 9 * (size_t)MOST, told);
+    } else {
+        double *questions = room(5 * (size_t)MOST, sizeof *questions);
+        refusal = mandrikelo_read_job(bytes, length, mesh, 9 * (size_t)MOST, questions, 5 * (size_t)MOST, place, told);
+        free(questions);
+    }
+    if (refusal == 19)
+        printf("%s cut behind %u whole triangles\n", who, (unsigned)told[0]);
+    passed(who, refusal);
+    free(bytes);
+    return told[0];
+}
 
-    uint32_t n = read[0];
+int main(int argc, char **argv)
+{
+    size_t name = argc > 1 ? strlen(argv[1]) : 0;
+    int stl = name > 4 && !strcmp(argv[1] + name - 4, ".stl");
+    if (argc != (stl ? 12 : 10)) {
+        fprintf(stderr, "plan JOB | PART.stl FLOOR RADIUS, then\n"
+            "    x|y TOLERANCE LEVEL_TOLERANCE STEPOVER STOCK_TO_LEAVE STOCK_BOTTOM STOCK_TOP CUTTING_LENGTH\n");
+        return 2;
+    }
+    char **asked = argv + argc - 8;
+    double parameters[7];
+    for (int i = 0; i < 7; i++)
+        parameters[i] = strtod(asked[1 + i], NULL);
+    uint32_t axis = !strcmp(asked[0], "x") ? 0 : !strcmp(asked[0], "y") ? 1 : 2;
+
+    double *mesh = room(9 * (size_t)MOST, sizeof *mesh), place[2];
+    uint32_t n = read_mesh(argc, argv, mesh, place);
     uint32_t *starts = room(CELLS + 1, sizeof *starts), *members = room(MEMBERS, sizeof *members);
     double measures[6];
     uint32_t sizes[3], bad[2];
@@ -84,7 +113,7 @@ int main(int argc, char **argv)
     passed("plan", mandrikelo_plan(mesh, 9 * (size_t)n, measures, sizes, starts, CELLS + 1, members, MEMBERS, marks, n, parameters, axis,
         levels, 5 * (size_t)n, runs, 5 * (size_t)RUNS, lengths, counts));
 
-    printf("axis %s\n", argv[2]);
+    printf("axis %s\n", asked[0]);
     row("floor", place, 1);
     row("radius", place + 1, 1);
     row("parameters", parameters, 7);

@@ -141,6 +141,12 @@ uint32_t mandrikelo_read_job(const uint8_t *bytes, size_t bytes_len, double *mes
 uint32_t mandrikelo_write_job(const double *mesh, size_t mesh_len, double floor, double radius,
     const double *questions, size_t questions_len, uint8_t *bytes, size_t bytes_len, size_t length[1]);
 
+/* A binary STL file: 80 bytes of heading, a count, 50 bytes a triangle. `mesh` gets 9 numbers a triangle, each the double of the same
+ * value as the file's f32; entries beyond those keep what they held. Heading, normals and the u16 of a triangle may hold anything, and
+ * a heading that begins with "solid" means nothing. Refusals in their order: 14 under 84 bytes; 18 no triangle, over 65,536 or over
+ * mesh_len / 9; 19 too short for its count; 21 surplus bytes; 20 a vertex number is not finite. */
+uint32_t mandrikelo_read_stl(const uint8_t *bytes, size_t bytes_len, double *mesh, size_t mesh_len,
+    uint32_t count[1] /* triangles read; after 19 those that stand whole before the cut; else 0 */);
 /* The numbers that everything rests on. */
 double mandrikelo_root(double x);                 /* the nearest f64 to the square root */
 double mandrikelo_round_down(double x);           /* the largest whole number not above x */
