@@ -55,7 +55,7 @@ fn are_numbers(p: Parameters) -> bool
 }
 
 // The same of three numbers.
-fn are_three(a: f64, b: f64, c: f64) -> bool
+pub fn are_three(a: f64, b: f64, c: f64) -> bool
     ensures { λ r. ⌜ r ≡ areThree a b c ⌝ }
 {
     if spans::is_coordinate(a) {
