@@ -14,7 +14,7 @@
  * and sets fixed results to zero, the stamp to the one handed; only 4 tells a place and 19 a count, as said at their lines:
  *
  *    1  the mesh's length is no multiple of 9 or over 65,536 triangles; in questions and plan: marks_len is not the mesh's n; in
- *       joining: runs_len is no multiple of 5; of a tool sheet: holders_len is no multiple of 4
+ *       joining and moves: runs_len is no multiple of 5; of a tool sheet: holders_len is no multiple of 4
  *    2  a question's number, r or floor outside its range (points 3e6, radii 0 to 1e6, lift and floor 1e6 in magnitude); in joining
  *       and of a tool sheet: a number that is not finite
  *    3  the mesh is empty
@@ -37,6 +37,11 @@
  *   19  it has fewer bytes than its counts ask for: a copy that broke off; sizes[0] tells how many triangles stand whole before the cut
  *   21  it has more bytes than its counts ask for, in 19's place in the order
  *   20  a number in it is not finite
+ *   26  unless feed <= retract <= clearance <= start z, every run's z at most feed, and all of these numbers, the runs' and the
+ *       start's finite with magnitude at most 1e6
+ *   27  the first id is 0, or first id + 7 * runs + 1 lies beyond a uint64_t
+ *   29  a state, not ended, whose run is not in the table (lift without runs excepted) or whose next id is the largest uint64_t;
+ *       or a phase above 7
  *
  * 10 to 13 leave levels, runs and marks all zero.
  */
@@ -127,6 +132,18 @@ uint32_t mandrikelo_sections_of(uint32_t shape, bool enclose, bool neck,
     const double sheet[8] /* diameter, tip diameter, tip height, cutting length, stickout, neck length, radius above the cutting
         length, radius above the neck */,
     const double *holders, size_t holders_len, double *sections, size_t sections_len, uint32_t count[1]);
+
+/* The moves for a table of runs, step by step. `begin` gives the state before the first move: the position and, in `state`, phase, run
+ * and next id. Each `next` gives one move, from the position as it was before the call to `end`, and the state after it; move[0] is its
+ * kind, and 0 at the end, where `end` is zero. A move whose end equals its start is left out. The heights are clearance, retract and
+ * feed. The phases: 0 lift to the clearance height; for each run 1 approach over its start, 2 descend to the feed height, 3 plunge to its
+ * z, 4 cut, 5 retract to the feed height, 6 rise to the retract height, after the last run to the clearance height; 7 ended. From an
+ * accepted beginning the end comes after at most 7 * runs + 1 moves, ids count up by one, and every rapid that changes x or y lies at or
+ * above the retract height. A refusal (1, 26, 27; 1, 29) leaves position and state as they were, and end and move zero. */
+uint32_t mandrikelo_moves_begin(const double *runs, size_t runs_len, const double heights[3] /* clearance, retract, feed */,
+    const double start[3], uint64_t first_id, double position[3], uint64_t state[3] /* phase, run, next id */);
+uint32_t mandrikelo_moves_next(const double *runs, size_t runs_len, const double heights[3],
+    double position[3], uint64_t state[3], double end[3], uint64_t move[2] /* 0 the end, 1 rapid, 2 plunge, 3 cut, 4 retract; id */);
 
 /* A job file (docs: "The job file"). `mesh` gets 9 numbers a triangle, `questions` 5 each (px, py, qx, qy, r); entries beyond those
  * keep what they held. A part of a job that is accepted never is: see 14 and 19; nor is a job with more behind it: see 21. */

@@ -140,10 +140,9 @@ pub struct Plan {
     pub lengths: [f64; 2],
 }
 
-/// `parameters`: tolerance, level tolerance, stepover, stock to leave, stock bottom, stock top, cutting length.
-pub fn plan(mesh: &SurfaceMesh, floor: f64, r: f64, parameters: &[f64; 7], axis: u32, room: usize) -> Plan {
-    let [tolerance, level_tolerance, stepover, leave, bottom, top, cutting] = *parameters;
-    let op = FlatOperation {
+fn operation(mesh: &SurfaceMesh, floor: f64, parameters: &[f64; 7], axis: u32) -> FlatOperation {
+    let [tolerance, level_tolerance, stepover, leave, ..] = *parameters;
+    FlatOperation {
         id: "plan".into(),
         tool: "mill".into(),
         surface: mesh.clone(),
@@ -164,7 +163,13 @@ pub fn plan(mesh: &SurfaceMesh, floor: f64, r: f64, parameters: &[f64; 7], axis:
         retract_z_mm: None,
         feed_z_mm: None,
         limits: None,
-    };
+    }
+}
+
+/// `parameters`: tolerance, level tolerance, stepover, stock to leave, stock bottom, stock top, cutting length.
+pub fn plan(mesh: &SurfaceMesh, floor: f64, r: f64, parameters: &[f64; 7], axis: u32, room: usize) -> Plan {
+    let [_, _, _, _, bottom, top, cutting] = *parameters;
+    let op = operation(mesh, floor, parameters, axis);
     let holders: Vec<HolderSection> = vec![];
     let tool = ToolAssembly {
         id: "mill".into(),
@@ -223,5 +228,77 @@ pub fn sheet_sections(shape: u32, enclose: bool, neck: bool, sheet: &[f64; 8], h
         Ok(list) => Ok(list.iter().flat_map(|s| [s.z0, s.r0, s.r1, s.rise]).collect()),
         Err(why) if why.starts_with("tool sections cover") => Err(24),
         Err(_) => Err(8),
+    }
+}
+
+/// Where the moves stand, in camlib's own plan; the heights come as clearance, retract and feed, the state as phase, run and next id.
+pub struct Moves {
+    plan: FlatPlan,
+    stock: Stock,
+}
+
+/// A move as camlib gives it: start, end, kind (1 rapid, 2 plunge, 3 cut, 4 retract) and id.
+pub struct Move {
+    pub start: Vec3,
+    pub end: Vec3,
+    pub kind: u64,
+    pub id: u64,
+}
+
+const PHASES: [Phase; 8] = [
+    Phase::Lift, Phase::Approach, Phase::Descend, Phase::Plunge, Phase::Cut, Phase::Retract, Phase::Rise, Phase::Done,
+];
+
+impl Moves {
+    pub fn new(runs: &[f64], heights: &[f64; 3], position: Vec3, state: &[u64; 3]) -> Self {
+        let spec = StockSpec { min_mm: [0.; 3], max_mm: [0.; 3] };
+        let plan = FlatPlan {
+            op: operation(&surface(&[]), 0., &[0.; 7], 0),
+            spec: spec.clone(),
+            heights: crate::heights::Heights { clearance: heights[0], retract: heights[1], feed: heights[2] },
+            runs: runs.chunks_exact(5).map(|r| Run { a: [r[0], r[1]], b: [r[2], r[3]], z: r[4] }).collect(),
+            run: state[1] as usize,
+            phase: PHASES[state[0] as usize],
+            initial: position,
+            position,
+            next_id: state[2],
+            expected_generation: None,
+            drained: false,
+            report: FlatReport {
+                strategy: "flat",
+                geometric_residual_status: ResidualStatus::Pending,
+                levels_z_mm: vec![],
+                rows: 0,
+                runs: 0,
+                cut_length_mm: 0.,
+                dropped_length_mm: 0.,
+                runs_completed: 0,
+                clearance_proof: "",
+            },
+        };
+        Moves { plan, stock: Stock { spec, generation: 0 } }
+    }
+    /// The next move, or the end.
+    pub fn next(&mut self) -> Result<Option<Move>, String> {
+        let Some(motion) = self.plan.next_motion_with_stock(&self.stock, &NeverCancelled)? else {
+            return Ok(None);
+        };
+        self.stock.generation += 1;
+        let kind = match motion.kind {
+            MoveKind::Rapid => 1,
+            MoveKind::Plunge => 2,
+            MoveKind::Cut => 3,
+            MoveKind::Retract => 4,
+        };
+        let Curve::Line { start, end } = motion.curve;
+        Ok(Some(Move { start, end, kind, id: motion.id }))
+    }
+    pub fn position(&self) -> Vec3 {
+        self.plan.position
+    }
+    /// Phase, run, next id.
+    pub fn state(&self) -> [u64; 3] {
+        let phase = PHASES.iter().position(|p| *p == self.plan.phase).unwrap();
+        [phase as u64, self.plan.run as u64, self.plan.next_id]
     }
 }

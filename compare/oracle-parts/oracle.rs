@@ -161,13 +161,17 @@ pub mod stock {
             Ok(())
         }
     }
-    pub struct Stock;
+    /// Stock generations are left behind: the moves ask for the one after the last.
+    pub struct Stock {
+        pub spec: StockSpec,
+        pub generation: u64,
+    }
     impl Stock {
         pub fn spec(&self) -> &StockSpec {
-            unreachable!("left behind")
+            &self.spec
         }
         pub fn generation(&self) -> u64 {
-            unreachable!("left behind")
+            self.generation
         }
     }
 }

@@ -82,6 +82,12 @@ impl Word for u32 {
         self == other
     }
 }
+impl Word for u64 {
+    const GUARD: u64 = 0x5a5a_5a5a_5a5a_5a5a;
+    fn same(self, other: u64) -> bool {
+        self == other
+    }
+}
 impl Word for u8 {
     const GUARD: u8 = 0x5a;
     fn same(self, other: u8) -> bool {

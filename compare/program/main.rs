@@ -14,6 +14,7 @@ mod doors;
 mod inputs;
 mod join;
 mod model;
+mod moves;
 mod parts;
 mod rng;
 mod sheet;

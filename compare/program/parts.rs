@@ -160,6 +160,7 @@ pub const PARTS: &[Part] = &[
     },
     crate::join::PART,
     crate::copies::PART,
+    crate::moves::PART,
     Part {
         name: "job",
         doors: &["read_job"],

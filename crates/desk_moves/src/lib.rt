@@ -70,12 +70,12 @@ pub extern "C" fn mandrikelo_moves_next(
     if k != 0 {
         return k;
     }
-    let s = a.state;
-    let p = s.position;
-    let phase = s.phase;
+    let after = a.state;
+    let q = after.position;
+    let phase = after.phase;
     let number = moves::phase_number(phase);
-    *position = [p.x, p.y, p.z];
-    *state = [number, s.run as u64, s.next_id];
+    *position = [q.x, q.y, q.z];
+    *state = [number, after.run as u64, after.next_id];
     k
 }
 

@@ -60,7 +60,7 @@ fn join_all(runs: &mut [f64]) -> usize
 }
 
 // Run m of a table.
-fn run_at(runs: &[f64], m: usize) -> Run
+pub fn run_at(runs: &[f64], m: usize) -> Run
     requires { ⌜ m * 5 + 5 ≤ length (now runs) ⌝ }
     ensures { λ r. ⌜ r ≡ runIn (now (runs .entry)) m ⌝ }
 {

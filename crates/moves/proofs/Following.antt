@@ -20,6 +20,7 @@ use Rattle.grid.specs.Ladder.{refuse, demand}
 use Rattle.grid.proofs.Ladder.{demanded}
 use Rattle.terms.specs.Terms.{areThree}
 use Rattle.fives.specs.Tables.{roomOf}
+use Rattle.join.specs.Join.{runIn, runsIn}
 use Rattle.moves.specs.declared.Point.{Point}
 use Rattle.moves.specs.declared.Heights.{Heights}
 use Rattle.moves.specs.declared.State.{State}
@@ -27,8 +28,8 @@ use Rattle.moves.specs.declared.Move.{Move}
 use Rattle.moves.specs.declared.Stepped.{Stepped}
 use Rattle.moves.specs.declared.Step.the-variants.{Nothing, Go}
 use Rattle.moves.specs.declared.Phase.the-variants.{Lift}
-use Rattle.moves.specs.Phases.{point, runIn, legOf, sameOf, phaseNumber, isLift, isEnded}
-use Rattle.moves.specs.Begin.{largest, runsIn, inOrder, areHeights, isRun, areRuns, areIds, refusalOfRuns, refusalOfBegin, stateAt, begun, beginOf}
+use Rattle.moves.specs.Phases.{point, legOf, sameOf, phaseNumber, isLift, isEnded}
+use Rattle.moves.specs.Begin.{largest, inOrder, areHeights, isRun, areRuns, areIds, refusalOfRuns, refusalOfBegin, stateAt, begun, beginOf}
 use Rattle.moves.specs.Next.{moveBy, movedBy, passedBy, linesLeft, stepped, goOn, isWithin, isSpent, refusalOfState, nextOf}
 use Rattle.moves.specs.Whole.{Whole, before, movesOf, walked}
 use Rattle.moves.specs.Laws.{cutsIn, fullOf, CutsAre, Lawful, Followed}

@@ -16,6 +16,7 @@ use Rattle.spans.proofs.Sizes.{le-self}
 use Rattle.bound.proofs.Order.{le-trans}
 use Rattle.fives.specs.Tables.{roomOf}
 use Rattle.runs.specs.declared.Run.{Run}
+use Rattle.join.specs.Join.{runIn, runsIn}
 use Rattle.moves.specs.declared.Point.{Point}
 use Rattle.moves.specs.declared.Heights.{Heights}
 use Rattle.moves.specs.declared.Leg.{Leg}
@@ -24,8 +25,7 @@ use Rattle.moves.specs.declared.Phase.{Phase}
 use Rattle.moves.specs.declared.Phase.the-variants.{Lift, Approach, Descend, Plunge, Cut, Retract, Rise, Ended}
 use Rattle.moves.specs.declared.Kind.{Kind}
 use Rattle.moves.specs.declared.Kind.the-variants as kind
-use Rattle.moves.specs.Phases.{point, runIn, startOf, endOf, leg, lineOf, sameOf, phaseNumber, kindNumber, isEnded}
-use Rattle.moves.specs.Begin.{runsIn}
+use Rattle.moves.specs.Phases.{point, startOf, endOf, leg, lineOf, sameOf, phaseNumber, kindNumber, isEnded}
 use Rattle.moves.specs.Laws.{SafeRapid, cutsIn, fullOf, CutsAre}
 use Rattle.moves.proofs.Equal.{eq-le, eq-self, max-above, same-parts, same-of, same-to}
 

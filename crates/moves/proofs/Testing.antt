@@ -5,8 +5,8 @@ use mathlib.Core.Path.{_≡_, refl, sym, _∙_}
 use Prim.Native.Nat.{ℕ, suc, _+_, _-_, _≤_, _<_}
 use native.Mathlib.Omega.{arith}
 use lib.Ieee.{Float}
-use Rattle.moves.specs.Phases.{runIn}
-use Rattle.moves.specs.Begin.{runsIn, isRun, areRuns}
+use Rattle.join.specs.Join.{runIn, runsIn}
+use Rattle.moves.specs.Begin.{isRun, areRuns}
 
 module _ (feed : Float) (t : List Float) where
   pub all-next : (m n : ℕ) → m < n → areRuns feed (runsIn t m (n - m)) ≡ (isRun feed (runIn t m) && areRuns feed (runsIn t (m + 1) (n - (m + 1))))

@@ -1,7 +1,7 @@
 -- Document 02, request 9: where the moves begin. Refusals 1, 26, 27.
 use mathlib.Core.Bool.{Bool, true, false, cond, _&&_}
 use mathlib.Core.List.{List, [], _∷_}
-use Prim.Native.Nat.{ℕ, zero, suc, _+_, _*_, _%_}
+use Prim.Native.Nat.{ℕ, _+_, _*_, _%_}
 use lib.Dec.{eqb, leb}
 use lib.Ieee.{Float, le}
 use lib.ListN.{length}
@@ -11,22 +11,19 @@ use Rattle.spans.specs.Mesh.{isCoordinate}
 use Rattle.grid.specs.Ladder.{demand}
 use Rattle.terms.specs.Terms.{areThree}
 use Rattle.runs.specs.declared.Run.{Run}
+use Rattle.join.specs.Join.{runsIn}
 use Rattle.moves.specs.declared.Point.{Point}
 use Rattle.moves.specs.declared.Heights.{Heights}
 use Rattle.moves.specs.declared.State.{State}
 use Rattle.moves.specs.declared.Begun.{Begun}
 use Rattle.moves.specs.declared.Phase.the-variants.{Lift}
-use Rattle.moves.specs.Phases.{point, runIn}
+use Rattle.moves.specs.Phases.{point}
 
 -- The largest u64.
 abbrev pub largest : ℕ
 largest = 18446744073709551615
 
--- Runs m, m + 1, .. n of them; all runs of a table.
-unfoldable pub runsIn : List Float → ℕ → ℕ → List Run
-runsIn t m zero = []
-runsIn t m (suc n) = runIn t m ∷ runsIn t (m + 1) n
-
+-- All runs of a table.
 abbrev pub runsOf : List Float → List Run
 runsOf t = runsIn t 0 (roomOf t)
 

@@ -1,12 +1,13 @@
 -- Document 02, request 9: the phase table, as the source has it. For each phase where its move ends, the move's kind, and the phase after it.
 use mathlib.Core.Bool.{Bool, true, false, cond, _&&_}
 use mathlib.Core.List.{List}
-use Prim.Native.Nat.{ℕ, _+_, _*_}
+use Prim.Native.Nat.{ℕ, _+_}
 use lib.Dec.{eqb}
 use lib.Ieee.{Float, eq}
-use Rattle.numbers.specs.Reals.{num, maxOf}
+use Rattle.numbers.specs.Reals.{maxOf}
 use Rattle.fives.specs.Tables.{roomOf}
 use Rattle.runs.specs.declared.Run.{Run}
+use Rattle.join.specs.Join.{runIn}
 use Rattle.moves.specs.declared.Point.{Point}
 use Rattle.moves.specs.declared.Heights.{Heights}
 use Rattle.moves.specs.declared.State.{State}
@@ -18,10 +19,6 @@ use Rattle.moves.specs.declared.Kind.the-variants as kind
 
 abbrev pub point : Float → Float → Float → Point
 point x y z = record { x = x; y = y; z = z }
-
--- Run m of a table.
-abbrev pub runIn : List Float → ℕ → Run
-runIn t m = record { ax = num t (m * 5); ay = num t (m * 5 + 1); bx = num t (m * 5 + 2); by = num t (m * 5 + 3); z = num t (m * 5 + 4) }
 
 -- Where a run begins and where it ends.
 abbrev pub startOf : Run → Point

@@ -4,7 +4,7 @@ ghost use mathlib.Core.Bool.{true, false};
 ghost use Prim.Native.Nat.{_+_, _*_, _≤_, _<_};
 ghost use lib.ListN.{length};
 ghost use Rattle.fives.specs.Tables.{roomOf};
-ghost use Rattle.moves.specs.Phases.{point, runIn, lineOf, legOf, sameOf, phaseNumber, kindNumber, isLift, isEnded};
+ghost use Rattle.moves.specs.Phases.{point, lineOf, legOf, sameOf, phaseNumber, kindNumber, isLift, isEnded};
 ghost use Rattle.moves.specs.Begin.{largest, runsOf, inOrder, areHeights, isRun, areRuns, areIds, refusalOfRuns, refusalOfBegin, stateAt, beginOf};
 ghost use Rattle.moves.specs.Next.{moveBy, movedBy, passedBy, stepped, linesLeft, goOn, isWithin, isSpent, refusalOfState, nextOf};
 ghost use Rattle.moves.specs.Laws.{Followed};
@@ -107,10 +107,10 @@ pub fn begin(runs: &[f64], h: Heights, start: Point, first_id: u64) -> Begun
 pub fn next(runs: &[f64], h: Heights, s: State) -> Stepped
     ensures { λ a. ⌜ a ≡ nextOf (now (runs .entry)) h s ⌝ }
 {
-    let k = refusal_of_state(runs, s);
-    if k != 0 {
+    let n = refusal_of_state(runs, s);
+    if n != 0 {
         return Stepped {
-            refusal: k,
+            refusal: n,
             step: Step::Nothing,
             state: s,
         };
@@ -191,7 +191,7 @@ fn are_runs(feed: f64, runs: &[f64]) -> bool
     ensures { λ b. ⌜ b ≡ areRuns feed (runsOf (now (runs .entry))) ⌝ }
 {
     for m in 0..runs.len() / 5 {
-        if !is_run(feed, run_at(runs, m)) {
+        if !is_run(feed, join::run_at(runs, m)) {
             return false;
         }
     }
@@ -214,21 +214,6 @@ fn is_run(feed: f64, r: Run) -> bool
         }
     } else {
         false
-    }
-}
-
-// Run m of a table.
-fn run_at(runs: &[f64], m: usize) -> Run
-    requires { ⌜ m * 5 + 5 ≤ length (now runs) ⌝ }
-    ensures { λ r. ⌜ r ≡ runIn (now (runs .entry)) m ⌝ }
-{
-    let at = m * 5;
-    Run {
-        ax: runs[at],
-        ay: runs[at + 1],
-        bx: runs[at + 2],
-        by: runs[at + 3],
-        z: runs[at + 4],
     }
 }
 
@@ -460,7 +445,7 @@ fn approach(runs: &[f64], h: Heights, m: usize, p: Point) -> Leg
     requires { ⌜ m < roomOf (now runs) ⌝ }
     ensures { λ l. ⌜ l ≡ lineOf (now (runs .entry)) h Phase.Approach m p ⌝ }
 {
-    let r = run_at(runs, m);
+    let r = join::run_at(runs, m);
     line(r.ax, r.ay, p.z, Kind::Rapid, Phase::Descend, m)
 }
 
@@ -469,7 +454,7 @@ fn plunge(runs: &[f64], h: Heights, m: usize, p: Point) -> Leg
     requires { ⌜ m < roomOf (now runs) ⌝ }
     ensures { λ l. ⌜ l ≡ lineOf (now (runs .entry)) h Phase.Plunge m p ⌝ }
 {
-    let r = run_at(runs, m);
+    let r = join::run_at(runs, m);
     line(p.x, p.y, r.z, Kind::Plunge, Phase::Cut, m)
 }
 
@@ -478,7 +463,7 @@ fn cut(runs: &[f64], h: Heights, m: usize, p: Point) -> Leg
     requires { ⌜ m < roomOf (now runs) ⌝ }
     ensures { λ l. ⌜ l ≡ lineOf (now (runs .entry)) h Phase.Cut m p ⌝ }
 {
-    let r = run_at(runs, m);
+    let r = join::run_at(runs, m);
     line(r.bx, r.by, r.z, Kind::Cut, Phase::Retract, m)
 }
 

@@ -3,8 +3,8 @@ use Prim.Native.Nat.{_≤_, _-_}
 use mathlib.Core.Path.{_≡_, sym, ap, _∙_}
 use native.Mathlib.Omega.{arith}
 use borrow.Author.Tests.{not-true, not-false}
-use Rattle.moves.specs.Phases.{runIn}
-use Rattle.moves.specs.Begin.{runsIn, isRun, areRuns}
+use Rattle.join.specs.Join.{runIn, runsIn}
+use Rattle.moves.specs.Begin.{isRun, areRuns}
 use Rattle.moves.proofs.Testing.{all-starts, all-fails, all-goes, all-end}
 use Rattle.moves.proofs.are_runs.Statement.{statement}
 use Rattle.moves.proofs.are_runs.Tie as tie
