@@ -19,8 +19,8 @@ mod parts;
 mod rng;
 mod sheet;
 mod shipped;
-mod writer;
 mod stl;
+mod writer;
 include!(concat!(env!("OUT"), "/missing.rs"));
 
 use case::Case;

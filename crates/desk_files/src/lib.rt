@@ -6,12 +6,11 @@ ghost use lib.ListN.{length};
 ghost use Rattle.job.specs.Reader.{readOf, SoundExactly, NeverTakenForAPart};
 ghost use Rattle.desk_files.specs.Jobs.{jobLeft, jobLeftBy};
 
-pub mod stl_files;
+mod stl_files;
+mod write;
 
 // Reads a job into the lent tables; measures get the floor and the radius, sizes the numbers of triangles and questions. After 19 the first of sizes
 // holds how many triangles stand whole before the cut.
-mod write;
-
 #[no_mangle]
 pub extern "C" fn mandrikelo_read_job(
     bytes: &[u8],
