@@ -173,7 +173,7 @@ module _ (m : ℕ) (low : 2 ^ 52 ≤ m) (high : m < 2 ^ 53) where
 
 -- ---- a number from 2 ^ -511 to 1e6
 
-abbrev pub corner : Float
+abbrev corner : Float
 corner = fin false 1 (negsuc 510)
 
 scaled : (a i j l : ℕ) → i + j ≡ l → a * 2 ^ i * 2 ^ j ≡ a * 2 ^ l

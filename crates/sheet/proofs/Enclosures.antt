@@ -3,7 +3,7 @@ use mathlib.Core.Bool.{Bool, true, false, _||_}
 use mathlib.Core.List.{List}
 use mathlib.Core.Path.{_≡_, refl, ap, sym, _∙_}
 use lib.Dec.{T}
-use lib.Ieee.{Float, binary64, mul, round, fits, lt, le, ofBits}
+use lib.Ieee.{Float, binary64, mul, round, fits, lt, le}
 use lib.Ieee.Fits.{mul-fits, div-fits}
 use lib.Ieee.Scale.{finite}
 use lib.ListN.{length}
@@ -26,10 +26,10 @@ use Rattle.sheet.specs.declared.Sheet.{Sheet}
 use Rattle.sheet.specs.declared.Part.the-variants.{There}
 use Rattle.sheet.specs.declared.Body.{Body}
 use Rattle.sheet.specs.Sheet.{cylinderOf, radiusOf, enclosedOf, endOf, bodyOf, listed, sectionsOf, allValid, isAbsent, refusalOf, placed}
-use Rattle.sheet.specs.Enclosing.{leastCorner, isCorner, isCurved, Encloses}
+use Rattle.sheet.specs.Enclosing.{leastCorner, leastCorner-is, isCorner, isCurved, Encloses}
 use Rattle.sheet.proofs.Sheets.{accepted}
 use Rattle.sheet.proofs.Curved.{not-below-tip}
-use Rattle.sheet.proofs.Corners.{corner, root-square}
+use Rattle.sheet.proofs.Corners.{root-square}
 
 -- ---- the corner radii
 
@@ -40,10 +40,6 @@ zero-square = refl
 zero-root : rootOf O ≡ O
 unfolding rootOf
 zero-root = refl
-
-corner-is : leastCorner ≡ corner
-unfolding ofBits
-corner-is = refl
 
 either-true : (x y : Bool) → (x || y) ≡ true → (x ≡ false → y ≡ true)
 either-true true y e n = absurd (no (sym n))
@@ -63,7 +59,7 @@ module _ (rc : Float) (fit : T (fits binary64 rc)) (c₀ : T (le O rc)) (c₁ : 
   root-back e =
       by-test (le rc f0)
       (λ z. none (rw f0-is at (holds (le rc f0) z)))
-      (λ z. root-square rc fit (rw corner-is at (holds (le leastCorner rc) (either-true (le rc f0) (le leastCorner rc) e z))) c₁ square-fine)
+      (λ z. root-square rc fit (rw leastCorner-is at (holds (le leastCorner rc) (either-true (le rc f0) (le leastCorner rc) e z))) c₁ square-fine)
 
 -- ---- the flat end
 

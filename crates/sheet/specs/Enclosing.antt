@@ -17,7 +17,7 @@ use Rattle.sheet.specs.declared.Shape.the-variants.{Flat, Ball, Bull, Dr
 abbrev pub leastCorner : Float
 leastCorner = ofBits binary64 0x2000_0000_0000_0000
 
-leastCorner-is : leastCorner ≡ fin false 1 (negsuc 510)
+pub leastCorner-is : leastCorner ≡ fin false 1 (negsuc 510)
 unfolding ofBits
 leastCorner-is = refl
 
