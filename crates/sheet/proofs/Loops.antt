@@ -1,32 +1,12 @@
--- The loops over a table's numbers and over the holders: what is left gives what the whole gave.
+-- The loop over the holders: what is left gives what the whole gave.
 use mathlib.Core.Bool.{Bool, true, false, _&&_}
 use mathlib.Core.List.{List}
 use mathlib.Core.Path.{_≡_, sym, _∙_}
 use Prim.Native.Nat.{ℕ, suc, _+_, _-_, _≤_, _<_}
-use native.Mathlib.Numerals.{add-one}
 use native.Mathlib.Omega.{arith}
-use lib.Ieee.{Float, nan}
-use lib.ListN.{length, drop, drop-of-length-le}
-use lib.Seq.{drop-cons}
-use Rattle.numbers.specs.Reals.{num}
-use Rattle.golden.specs.Upper.{finiteOf}
+use lib.Ieee.{Float}
 use Rattle.section.specs.Section.{validSection}
-use Rattle.sheet.specs.Sheet.{holderAt, holdersFrom, allFinite, allValid}
-
-module _ (xs : List Float) (i : ℕ) (r : Bool) where
-  next-number : i < length xs → allFinite (drop i xs) ≡ (finiteOf (num xs i) && allFinite (drop (i + 1) xs))
-  unfolding allFinite
-  next-number h = rw (add-one i, drop-cons xs i nan h)
-
-  pub number-stops : i < length xs → finiteOf (num xs i) ≡ false → allFinite (drop i xs) ≡ r → false ≡ r
-  number-stops h t e = (rw t at (sym (next-number h))) ∙ e
-
-  pub number-goes : i < length xs → finiteOf (num xs i) ≡ true → allFinite (drop i xs) ≡ r → allFinite (drop (i + 1) xs) ≡ r
-  number-goes h t e = (rw t at (sym (next-number h))) ∙ e
-
-  pub numbers-end : length xs ≤ i → allFinite (drop i xs) ≡ r → true ≡ r
-  unfolding allFinite
-  numbers-end h e = rw (drop-of-length-le xs h) at e
+use Rattle.sheet.specs.Sheet.{holderAt, holdersFrom, allValid}
 
 module _ (hs : List Float) (i n : ℕ) (r : Bool) where
   next-holder : i < n → allValid (holdersFrom hs i (n - i)) ≡ (validSection (holderAt hs i) && allValid (holdersFrom hs (i + 1) (n - (i + 1))))

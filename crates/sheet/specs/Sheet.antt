@@ -7,7 +7,7 @@ use lib.Dec.{eqb, leb}
 use lib.Ieee.{Float, lt}
 use lib.ListN.{length, take, drop}
 use Rattle.numbers.specs.Reals.{_⊕_, _⊖_, _⊘_, num, f0, f2}
-use Rattle.golden.specs.Upper.{finiteOf}
+use Rattle.fields.specs.Rows.{allFinite}
 use Rattle.section.specs.declared.Section.{Section}
 use Rattle.section.specs.Section.{validSection}
 use Rattle.flatten.specs.Flat.{flatOf}
@@ -121,11 +121,6 @@ abbrev pub numbersOf : Sheet → List Float
 numbersOf p =
     p .diameter ∷ p .«tip_diameter» ∷ p .«tip_height» ∷ p .«cutting_length» ∷ p .stickout ∷ p .«neck_length»
     ∷ p .«above_cut» ∷ p .«above_neck» ∷ []
-
--- Each is finite.
-unfoldable pub allFinite : List Float → Bool
-allFinite [] = true
-allFinite (x ∷ xs) = finiteOf x && allFinite xs
 
 -- Each is valid and in document 01's ranges.
 unfoldable pub allValid : List Section → Bool

@@ -6,15 +6,13 @@ ghost use mathlib.Core.Bool.{true, _&&_};
 ghost use mathlib.Core.List.{[], _∷_};
 ghost use Prim.Native.Nat.{min, _+_, _*_, _/_, _^_, _≤_, _<_};
 ghost use lib.ListN.{length, take};
-ghost use Rattle.golden.specs.Upper.{finiteOf};
+ghost use Rattle.fields.specs.Rows.{allFinite};
 ghost use Rattle.tool.specs.Tool.{isTool};
 ghost use Rattle.sheet.specs.Enclosing.{isCurved, Encloses};
 ghost use Rattle.sheet.specs.Sheet.{shapeNumber, shapeFrom, cylinderOf, radiusOf, enclosedOf, chamferOf, drillOf, endOf};
 ghost use Rattle.sheet.specs.Sheet.{belowOf, neckOf, bodyOf, holderOf, holderAt, holdersFrom, listed, sectionsOf, numbersOf};
-ghost use Rattle.sheet.specs.Sheet.{allFinite, allValid, refusalOfList, refusalOfEnd, refusalOf, ended, placed, sheetOf};
+ghost use Rattle.sheet.specs.Sheet.{allValid, refusalOfList, refusalOfEnd, refusalOf, ended, placed, sheetOf};
 use section::Section;
-
-const MINUS_ONE: f64 = -1.0;
 
 // The shapes of a cutter's end.
 pub enum Shape {
@@ -228,7 +226,7 @@ fn refusal(p: Sheet, b: Body, holders: &[f64], room: usize) -> u32
     if !sheet_finite(p) {
         return 2;
     }
-    if !all_finite(holders) {
+    if !fields::all_finite(holders) {
         return 2;
     }
     refusal_of_end(b, holders, room)
@@ -279,30 +277,7 @@ fn sheet_finite(p: Sheet) -> bool
         p.above_cut,
         p.above_neck,
     ];
-    all_finite(&numbers)
-}
-
-// Whether every number of a table is finite.
-fn all_finite(xs: &[f64]) -> bool
-    ensures { λ r. ⌜ r ≡ allFinite (now (xs .entry)) ⌝ }
-{
-    for i in 0..xs.len() {
-        if !finite(xs[i]) {
-            return false;
-        }
-    }
-    true
-}
-
-// Whether x is neither infinite nor a NaN.
-fn finite(x: f64) -> bool
-    ensures { λ r. ⌜ r ≡ finiteOf x ⌝ }
-{
-    if MINUS_ONE / 0.0 < x {
-        x < 1.0 / 0.0
-    } else {
-        false
-    }
+    fields::all_finite(&numbers)
 }
 
 // How many sections there are, with n holders.
