@@ -2,6 +2,7 @@
 ghost use mathlib.Core.Path.{_≡_};
 ghost use Rattle.grid.specs.Index.{indexOf};
 ghost use Rattle.runs.specs.Pieces.{piecesOf};
+ghost use Rattle.runs.specs.Chains.{Whole};
 ghost use Rattle.runs.specs.Tallies.{work, takenAll};
 ghost use Rattle.probe.specs.Probe.{heightUnder, clear};
 ghost use Rattle.probe.specs.Asked.{Askable, Marked};
@@ -16,7 +17,8 @@ pub struct Stand {
     pub stamp: u32,
 }
 
-// The pieces of a run taken, one after the other. A stack holds where the pieces that wait end, the next one on top, and how often each may still be halved.
+// The pieces of a run taken, one after the other, none of it lost.
+// A stack holds where the pieces that wait end, the next one on top, and how often each may still be halved.
 pub fn halve(
     mesh: &[f64],
     h: Header,
@@ -32,7 +34,9 @@ pub fn halve(
     ensures { λ e. ⌜ (work (now (runs .exit)) (e .tally)
         ≡ takenAll (work (now (runs .entry)) (s .tally))
         (piecesOf (clear (heightUnder (indexOf (now (mesh .entry)) h (now (starts .entry)) (now (members .entry)))) a) (a .least) 32 r))
-        × Marked (h .n) (e .stamp) (now (marks .exit)) ⌝ }
+        × Marked (h .n) (e .stamp) (now (marks .exit))
+        × Whole (clear (heightUnder (indexOf (now (mesh .entry)) h (now (starts .entry)) (now (members .entry)))) a) r
+        (piecesOf (clear (heightUnder (indexOf (now (mesh .entry)) h (now (starts .entry)) (now (members .entry)))) a) (a .least) 32 r) ⌝ }
 {
     let z = r.z;
     let mut bx = [0.0; 33];

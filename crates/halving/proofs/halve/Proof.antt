@@ -11,6 +11,7 @@ use Rattle.grid.specs.Index.{indexOf}
 use Rattle.numbers.specs.Reals.{num}
 use Rattle.runs.specs.declared.Run.{Run}
 use Rattle.runs.specs.Pieces.{piecesOf}
+use Rattle.runs.proofs.Chaining.{whole}
 use Rattle.runs.specs.Tallies.{work, takenBy, takenAll}
 use Rattle.probe.specs.Probe.{heightUnder, clear}
 use Rattle.probe.specs.Asked.{Marked, splitsOf}
@@ -112,6 +113,7 @@ returns c =
       stack-ends _ _ _ _ _ _ (l .top) _ _ _ _ (omega arith) (l .inv .0)
           ∙ ap (takenAll (work (s .args .runs .now) (s .args .s .tally))) (waiting-first (clear (heightUnder (indexOf (s .args .mesh .now) (s .args .h) (s .args .starts .now) (s .args .members .now))) (s .args .a)) (s .args .a .least) (s .args .r) _ _ _ refl refl refl),
       l .inv .2,
+      whole _ _ 32 (s .args .r),
     )
 
 pub halve-spec : {M : Type 1} → statement M
