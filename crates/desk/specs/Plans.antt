@@ -4,12 +4,15 @@ use mathlib.Core.List.{List, [], _∷_}
 use Prim.Native.Nat.{ℕ, min}
 use lib.Dec.{eqb}
 use lib.Ieee.{Float}
+use lib.ListN.{getD}
 use Rattle.numbers.specs.Reals.{num}
 use Rattle.grid.specs.Index.{Index}
 use Rattle.grid.specs.Ladder.{demand}
 use Rattle.query.specs.Asked.{isMarked}
+use Rattle.rows.specs.declared.Axis.{Axis}
 use Rattle.rows.specs.declared.Axis.the-variants.{X, Y}
 use Rattle.terms.specs.declared.Parameters.{Parameters}
+use Rattle.plan.specs.declared.Planned.{Planned}
 use Rattle.plan.specs.Plan.{Outcome, outcome, refusedBy, planOf}
 
 -- The parameters from their seven numbers.
@@ -31,6 +34,10 @@ planAlong ix marks levels runs p axis =
     cond (eqb axis 0) (planOf ix marks levels runs p X)
     (cond (eqb axis 1) (planOf ix marks levels runs p Y)
     (outcome (refusedBy (demand (isMarked (ix .mesh) marks) 1 9)) levels runs marks))
+
+-- The axis of a number, where it has one.
+abbrev pub axisFrom : ℕ → Axis
+axisFrom n = cond (eqb n 0) X Y
 
 -- A count as C gets it: 4294967295 stands for all that are more.
 abbrev pub narrowed : ℕ → ℕ
@@ -54,3 +61,7 @@ planLeftBy o =
     planLeft (a .refusal) (o .levels) (o .runs) (o .marks)
     (a .cut ∷ a .dropped ∷ [])
     (narrowed (a .levels) ∷ narrowed (a .rows) ∷ narrowed (a .runs) ∷ [])
+
+-- The plan's answer that C reads off its arrays.
+abbrev pub plannedFrom : ℕ → List Float → List ℕ → Planned
+plannedFrom k fs ns = record { refusal = k; levels = getD ns 0 0; rows = getD ns 1 0; runs = getD ns 2 0; cut = num fs 0; dropped = num fs 1 }

@@ -13,7 +13,8 @@ ghost use Rattle.height.specs.Demand.{DiskPromise};
 ghost use Rattle.contact.specs.Contact.{maxBullOf, BullPromise, maxSectionsOf, SectionsPromise};
 ghost use Rattle.chords.specs.Chords.{bullChordOf, BullChordPromise, sectionsChordOf, SectionsChordPromise};
 ghost use Rattle.plan.specs.Plan.{outcome, refusedBy, NeverSeven};
-ghost use Rattle.desk.specs.Plans.{parametersFrom, planAlong, narrowed, planLeft, planLeftBy};
+ghost use Rattle.plan.specs.Lost.{NothingLost};
+ghost use Rattle.desk.specs.Plans.{parametersFrom, axisFrom, planAlong, narrowed, planLeft, planLeftBy, plannedFrom};
 use grid::Header;
 use plan::Planned;
 use reach::Chord;
@@ -400,6 +401,8 @@ fn plan_along(
     ensures { λ a. ⌜ outcome a (now (levels .exit)) (now (runs .exit)) (now (marks .exit))
         ≡ planAlong (indexOf (now (mesh .entry)) h (now (starts .entry)) (now (members .entry)))
         (now (marks .entry)) (now (levels .entry)) (now (runs .entry)) p axis ⌝ }
+    ensures { λ a. ⌜ (a .refusal ≡ 0 → NothingLost (indexOf (now (mesh .entry)) h (now (starts .entry)) (now (members .entry)))
+        p (axisFrom axis) a) ⌝ }
 {
     if axis == 0 {
         return plan::plan(mesh, h, starts, members, marks, levels, runs, p, Axis::X);
@@ -433,6 +436,9 @@ pub extern "C" fn mandrikelo_plan(
         (now (marks .entry)) (now (levels .entry)) (now (runs .entry)) (parametersFrom (now (parameters .entry))) axis) ⌝ }
     ensures { λ k. ⌜ NeverSeven
         (indexFrom (now (mesh .entry)) (now (measures .entry)) (now (sizes .entry)) (now (starts .entry)) (now (members .entry))) k ⌝ }
+    ensures { λ k. ⌜ (k ≡ 0 → NothingLost
+        (indexFrom (now (mesh .entry)) (now (measures .entry)) (now (sizes .entry)) (now (starts .entry)) (now (members .entry)))
+        (parametersFrom (now (parameters .entry))) (axisFrom axis) (plannedFrom k (now (lengths .exit)) (now (counts .exit)))) ⌝ }
 {
     let h = header_from(measures, sizes);
     let p = parameters_from(parameters);

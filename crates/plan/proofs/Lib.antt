@@ -1,3 +1,4 @@
 pub mod Counting
 pub mod Surveying
 pub mod Answering
+pub mod Losing

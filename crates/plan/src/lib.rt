@@ -10,6 +10,7 @@ ghost use Rattle.terms.specs.Terms.{tooFine, anyOf};
 ghost use Rattle.terms.specs.Tested.{levelsIn};
 ghost use Rattle.probe.specs.Asked.{Askable, Marked};
 ghost use Rattle.plan.specs.Plan.{refusalOfInput, foundOn, outcome, refusedBy, workedOf, planOf, NeverSeven};
+ghost use Rattle.plan.specs.Lost.{NothingLost};
 ghost use Rattle.plan.specs.Stages.{Ready, Surveys, settled, givenUp, settledOf, finishedOf};
 use grid::Header;
 use rows::Axis;
@@ -48,6 +49,7 @@ pub fn plan(
         ≡ planOf (indexOf (now (mesh .entry)) h (now (starts .entry)) (now (members .entry))) (now (marks .entry)) (now (levels .entry))
         (now (runs .entry)) p axis ⌝ }
     ensures { λ a. ⌜ NeverSeven (indexOf (now (mesh .entry)) h (now (starts .entry)) (now (members .entry))) (a .refusal) ⌝ }
+    ensures { λ a. ⌜ (a .refusal ≡ 0 → NothingLost (indexOf (now (mesh .entry)) h (now (starts .entry)) (now (members .entry))) p axis a) ⌝ }
 {
     let k = refusal(mesh, h, starts, members, marks, p);
     if k != 0 {

@@ -1,13 +1,14 @@
 use borrow.Author.Needs.{needs}
 use mathlib.Core.Path.{sym, _∙_}
 use Rattle.plan.proofs.Answering.{passed, input-refused, input-passed, never-seven}
+use Rattle.plan.proofs.Losing.{lost-none}
 use Rattle.plan.proofs.plan.Statement.{statement}
 use Rattle.plan.proofs.plan.Tie as tie
 
 returns : tie.Need-returns
 returns c =
     let e = input-refused _ _ _ _ _ _ _ (c .before .before .refusal .ensures) _ (c .before .if1 .taken) (c .refused .ensures) in
-    (e, never-seven _ _ _ _ _ _ _ _ _ _ e)
+    (e, (never-seven _ _ _ _ _ _ _ _ _ _ e, lost-none _ _ _ _ _ _ _ _ _ _ e))
 
 work-requires : tie.Need-work-requires
 work-requires c κs =
@@ -19,7 +20,7 @@ returns-2 c =
     let d = c .before .before .before .before .before .before in
     let e = d .before .before .before .before in
     let o = input-passed _ _ _ _ _ _ _ (e .before .refusal .ensures) _ (e .if1 .left) (d .work .ensures) in
-    (o, never-seven _ _ _ _ _ _ _ _ _ _ o)
+    (o, (never-seven _ _ _ _ _ _ _ _ _ _ o, lost-none _ _ _ _ _ _ _ _ _ _ o))
 
 pub plan-spec : {M : Type 1} → statement M
 plan-spec =
