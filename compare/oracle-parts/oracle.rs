@@ -50,15 +50,34 @@ pub mod tap {
     use std::cell::RefCell;
 
     pub type Level = (f64, [f64; 2], [f64; 2]);
+    /// A stretch or a piece: its ends and z.
+    pub type Piece = ([f64; 2], [f64; 2], f64);
     pub const TOO_MANY_LEVELS: &str = "11";
     pub const TOO_MANY_SAMPLES: &str = "12";
 
     thread_local! {
         static LEVELS: RefCell<Vec<Level>> = const { RefCell::new(vec![]) };
         static ROOM: RefCell<usize> = const { RefCell::new(0) };
+        static STRETCHES: RefCell<Vec<Piece>> = const { RefCell::new(vec![]) };
+        static PIECES: RefCell<Vec<(Piece, bool)>> = const { RefCell::new(vec![]) };
+    }
+
+    pub fn stretch(a: [f64; 2], b: [f64; 2], z: f64) {
+        STRETCHES.with(|all| all.borrow_mut().push((a, b, z)));
+    }
+
+    pub fn piece(a: [f64; 2], b: [f64; 2], z: f64, kept: bool) {
+        PIECES.with(|all| all.borrow_mut().push(((a, b, z), kept)));
+    }
+
+    /// The stretches and the pieces of the last plan, in the order made. (The build "as shipped" tells none.)
+    pub fn pieces() -> (Vec<Piece>, Vec<(Piece, bool)>) {
+        (STRETCHES.with(|all| all.borrow().clone()), PIECES.with(|all| all.borrow().clone()))
     }
 
     pub fn room(levels: usize) {
+        STRETCHES.with(|all| all.borrow_mut().clear());
+        PIECES.with(|all| all.borrow_mut().clear());
         ROOM.with(|room| *room.borrow_mut() = levels);
     }
 

@@ -11,6 +11,7 @@ mod bench;
 mod case;
 mod copies;
 mod doors;
+mod halves;
 mod inputs;
 mod join;
 mod model;

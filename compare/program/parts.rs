@@ -158,6 +158,7 @@ pub const PARTS: &[Part] = &[
         unit: "plans",
         share: 20,
     },
+    crate::halves::PART,
     crate::join::PART,
     crate::copies::PART,
     crate::moves::PART,
@@ -929,7 +930,7 @@ fn make_meeting(rng: &mut Rng) -> Case {
         .words("room", vec![20, 2_000])
 }
 
-fn make_plan(rng: &mut Rng, case: u64, damage: bool) -> Case {
+pub fn make_plan(rng: &mut Rng, case: u64, damage: bool) -> Case {
     if case % 1000 == 999 {
         return make_strip(rng);
     }
