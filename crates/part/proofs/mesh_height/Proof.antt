@@ -1,3 +1,5 @@
+use denote.Ref.{now}
+use Rattle.height.specs.Sweep.{sweep}
 use borrow.Author.Needs.{needs}
 use Rattle.part.proofs.Composed.{mesh-refused, mesh-asked}
 use Rattle.part.proofs.mesh_height.Statement.{statement}
@@ -11,9 +13,10 @@ returns c =
 returns-2 : tie.Need-returns-2
 returns-2 c =
     let d = c .before .before .before .before .before .before in
+    let a = d .before .before .before .before .before .before .before .before .before .before .before .before .before .args in
     let b = d .before .before .before .before .before .before .build in
     let q = c .before .before .max-height in
-    mesh-asked _ _ _ _ _ _ _ _ _ _ _ (b .ensures .0) _ _ (d .if1 .left) (b .ensures .1) (q .ensures .0) (q .ensures .1)
+    mesh-asked (a .floor) (a .radius) (now (a .starts)) (now (a .members)) (now (a .marks)) (a .stamp) (sweep (a .px) (a .py) (a .qx) (a .qy) (a .r)) (now (a .mesh)) (b .result) _ _ (b .ensures .0) (q .result) _ (d .if1 .left) (b .ensures .1) (q .ensures .0) (q .ensures .1)
 
 pub mesh-height-spec : {M : Type 1} → statement M
 mesh-height-spec =

@@ -1,5 +1,7 @@
 use mathlib.Core.Path.{sym}
 use lib.Seq.{length-take-le}
+use denote.Ref.{now}
+use Rattle.height.specs.Sweep.{sweep}
 use borrow.Author.Needs.{needs}
 use Rattle.part.proofs.Composed.{part-refused, part-asked, fits}
 use Rattle.part.proofs.part_height.Statement.{statement}
@@ -18,8 +20,10 @@ slice-aggregate-mesh-height c = sym (length-take-le _ _ (fits _ _ _ (c .before .
 returns-2 : tie.Need-returns-2
 returns-2 c =
     let d = c .before .before .before .before .before .before .before .before .before .before .before in
-    let q = c .before .before .before .before .before .before .mesh-height .ensures in
-    part-asked _ _ _ _ _ _ _ _ _ _ (d .before .before .before .before .read-stl .ensures .0) (d .if1 .left) _ (q .0) (q .1)
+    let a = d .before .before .before .before .before .before .before .before .before .before .before .args in
+    let o = d .before .before .before .before .read-stl in
+    let q = c .before .before .before .before .before .before .mesh-height in
+    part-asked (a .floor) (a .radius) (now (a .starts)) (now (a .members)) (now (a .marks)) (a .stamp) (sweep (a .px) (a .py) (a .qx) (a .qy) (a .r)) (now (a .bytes)) (now (a .mesh)) _ (o .ensures .0) (d .if1 .left) _ (q .ensures .0) (q .ensures .1)
 
 pub part-height-spec : {M : Type 1} → statement M
 part-height-spec =
