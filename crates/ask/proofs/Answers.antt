@@ -10,7 +10,7 @@ use lib.Ieee.{Float}
 use lib.ListN.{length, replicate, length-replicate}
 use Rattle.numbers.proofs.Branches.{either, taken, left, both-true}
 use Rattle.walk.specs.Walk.{Walk, nextStamp, readyMarks, fold, walked, chased}
-use Rattle.walk.specs.Steps.{Below, Room, Walkable, seen, judged, look, strike}
+use Rattle.walk.specs.Inside.{Below, Room, Walkable, seen, judged, look, strike}
 use Rattle.walk.specs.declared.Seen.{Seen}
 use Rattle.walk.specs.declared.Verdict.{Verdict}
 use Rattle.walk.proofs.Rings.{Kept, unmarked-length, look-keeps, fold-keeps}

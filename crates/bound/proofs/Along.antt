@@ -12,7 +12,7 @@ use Rattle.numbers.proofs.Branches.{either}
 use Rattle.spans.proofs.Ranges.{finite-between, sub-mono}
 use Rattle.spans.proofs.Sizes.{by-test, either-of, le-self, not-below, max-least}
 use Rattle.spans.proofs.Extremes.{min-either, max-first}
-use Rattle.bound.specs.Nearer.{nearerOf}
+use Rattle.bound.specs.Inside.{nearerOf}
 use Rattle.bound.proofs.Order.{O, le-trans, sub-turns, add-left, add-right, mul-up, mul-down, no-lower, no-upper, square-up, square-down}
 use Rattle.bound.proofs.Roots.{lt-le, min-first, min-second, nearest-square}
 use Rattle.bound.proofs.Unit.{I, Unit, unit-finite}

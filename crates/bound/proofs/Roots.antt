@@ -18,7 +18,7 @@ use Rattle.numbers.proofs.Monotone.{root-mono}
 use Rattle.spans.proofs.Signed.{le→parts, parts→le}
 use Rattle.spans.proofs.Sizes.{by-test, either-of, le-self, not-below, max-least, f0-is}
 use Rattle.spans.proofs.Extremes.{min-either, max-first}
-use Rattle.bound.specs.Nearer.{nearerOf}
+use Rattle.bound.specs.Inside.{nearerOf}
 use Rattle.bound.proofs.Order.{O, le-trans, no-lower, square-up, square-down}
 
 -- ---- roots

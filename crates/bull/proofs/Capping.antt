@@ -19,7 +19,7 @@ use Rattle.spans.specs.Mesh.{isCoordinate, isRadius}
 use Rattle.spans.proofs.Ranges.{finite-between, sub-mono}
 use Rattle.spans.proofs.Sizes.{either-of}
 use Rattle.spans.proofs.Extremes.{min-either}
-use Rattle.bound.specs.Nearer.{nearerOf}
+use Rattle.bound.specs.Inside.{nearerOf}
 use Rattle.bound.proofs.Order.{O, le-trans, sub-turns, add-left, add-right}
 use Rattle.bound.proofs.Roots.{root-finite, root-le, min-second, min-up}
 use Rattle.bound.proofs.Unit.{I, Unit}
@@ -28,7 +28,7 @@ use Rattle.bound.proofs.Along.{Between, at, sub-parts, along-between, side-betw
 use Rattle.bound.proofs.Small.{M, Small, small, small-finite, small-radius, small-between, square-nonneg, square-finite, sum-nonneg, sum-finite}
 use Rattle.bull.specs.declared.Bull.{Bull}
 use Rattle.bull.specs.Bull.{bullProfile, bullAt}
-use Rattle.bull.specs.Cap.{sideOf, leastOf, capOf, underOf, sideTame, sidesTame, tameOf, beatenOf, isUnit}
+use Rattle.bull.specs.Inside.{sideOf, leastOf, capOf, underOf, sideTame, sidesTame, tameOf, beatenOf, isUnit}
 use Rattle.bull.proofs.Profile.{profile-finite, profile-finite′, profile-up}
 
 picked : (a b : Bool) → cond a false b ≡ true → (a ≡ false) × (b ≡ true)

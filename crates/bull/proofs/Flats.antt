@@ -23,8 +23,8 @@ use Rattle.bound.proofs.Near.{sum-fine, near, min-under}
 use Rattle.bull.specs.declared.Bull.{Bull}
 use Rattle.bull.specs.declared.Way.{Way}
 use Rattle.bull.specs.Bull.{bullProfile}
-use Rattle.bull.specs.Way.{wayAt}
-use Rattle.bull.specs.Flat.{FlatTo}
+use Rattle.bull.specs.Inside.{wayAt}
+use Rattle.bull.specs.Inside.{FlatTo}
 
 holds : (b : Bool) → b ≡ true → T b
 holds b e = rw e tt

@@ -15,7 +15,7 @@ use Rattle.touch.specs.Touch.{offerOf, distanceAt, reachedOf}
 use Rattle.bull.specs.declared.Bull.{Bull}
 use Rattle.bull.specs.declared.Way.{Way}
 use Rattle.bull.specs.Bull.{bullAt, bullStretch, tooLow, bullEdge}
-use Rattle.bull.specs.Way.{wayOf, wayAt}
+use Rattle.bull.specs.Inside.{wayOf, wayAt}
 
 module _ (k : Bull) (e : Edge) (c : Contact) (s : Stretch) where
   pub nowhere-on : s ≡ Nowhere → c ≡ offerOf c (bullStretch k e s)

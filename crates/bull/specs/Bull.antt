@@ -2,7 +2,7 @@
 -- is concave along an edge and over the facet, so it is largest at a vertex, at one place of an edge, or where the corner's slope is the facet's.
 use mathlib.Core.Bool.{Bool, cond}
 use lib.Ieee.{Float, lt, le}
-use Rattle.numbers.specs.Reals.{_⊕_, _⊖_, _⊗_, _⊘_, f0, f1, level, maxOf, minOf}
+use Rattle.numbers.specs.Reals.{_⊕_, _⊖_, _⊗_, _⊘_, f0, f1, noSlope, maxOf, minOf}
 use Rattle.numbers.specs.Root.{rootOf}
 use Rattle.numbers.specs.Hypot.{hypotOf}
 use Rattle.plane.specs.declared.Triangle.{Triangle}
@@ -73,7 +73,7 @@ bullSloped k g root = restOf g (k .x) (k .y) (k .r ⊖ k .rc ⊕ k .rc ⊗ g .st
 
 unfoldable pub bullRest : Bull → Gradient → Rest
 bullRest k g =
-    cond (lt (g .steep) level) (record { x = k .x; y = k .y; drop = f0 }) (bullSloped k g (rootOf (f1 ⊕ g .steep ⊗ g .steep)))
+    cond (lt (g .steep) noSlope) (record { x = k .x; y = k .y; drop = f0 }) (bullSloped k g (rootOf (f1 ⊕ g .steep ⊗ g .steep)))
 
 -- The candidate of the facet: none on an upright triangle.
 unfoldable pub bullFacet : Bull → Triangle → Facing → Contact

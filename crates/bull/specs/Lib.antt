@@ -1,4 +1,2 @@
 pub mod Bull
-pub mod Cap
-pub mod Way
-pub mod Flat
+pub mod Inside

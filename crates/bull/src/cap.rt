@@ -1,7 +1,7 @@
 // What the tip's height over an edge does not exceed, so that an edge that cannot exceed the best so far is not searched.
 ghost use mathlib.Core.Path.{_≡_};
 ghost use mathlib.Core.Bool.{_&&_};
-ghost use Rattle.bull.specs.Cap.{sideOf, leastOf, underOf, sideTame, sidesTame, tameOf, beatenOf, isUnit};
+ghost use Rattle.bull.specs.Inside.{sideOf, leastOf, underOf, sideTame, sidesTame, tameOf, beatenOf, isUnit};
 use crate::Bull;
 use touch::Edge;
 

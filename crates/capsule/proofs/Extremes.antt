@@ -11,14 +11,14 @@ use Rattle.plane.specs.declared.Triangle.{Triangle}
 use Rattle.plane.specs.declared.Weights.{Weights}
 use Rattle.plane.specs.declared.Contact.{Contact}
 use Rattle.plane.specs.declared.Spot.{Spot}
-use Rattle.plane.specs.declared.Spot.the-variants.{Flat, At}
+use Rattle.plane.specs.declared.Spot.the-variants.{Nowhere, At}
 use Rattle.plane.specs.Distance.{baryOf, atLeast}
 use Rattle.capsule.specs.declared.Capsule.{Capsule}
 use Rattle.capsule.specs.declared.Place.{Place}
 use Rattle.capsule.specs.declared.Point.{Point}
 use Rattle.capsule.specs.declared.Rise.{Rise}
 use Rattle.capsule.specs.Region.{offerOf, gathered}
-use Rattle.capsule.specs.Candidates.{each, ends, upright, riseOf, tangents, flanks, places, pointOver, raised, over, inner}
+use Rattle.capsule.specs.Candidates.{each, ends, determinantOf, riseOf, tangents, flanks, places, pointOver, raised, over, inner}
 use Rattle.capsule.proofs.Picking.{front, back}
 use Rattle.capsule.proofs.Gathering.{on}
 
@@ -64,7 +64,7 @@ module _ (k : Capsule) (h : Rise) (i : ℕ) (r : Place) where
 
 -- over a place that has no weights, over one beside the triangle, and over one on it
 module _ (k : Capsule) (c : Contact) (t : Triangle) (p : Place) where
-  pub none-over : baryOf t (p .x) (p .y) ≡ Flat → c ≡ gathered k c (over t p)
+  pub none-over : baryOf t (p .x) (p .y) ≡ Nowhere → c ≡ gathered k c (over t p)
   unfolding over raised gathered
   none-over e = rw e
 
@@ -79,11 +79,11 @@ module _ (k : Capsule) (c : Contact) (t : Triangle) (p : Place) where
 
 -- the inner points of a triangle that rises by h
 pub rising : (k : Capsule) (r c : Contact) (t : Triangle) (h : Rise) →
-    lt tiny (absOf (upright t)) ≡ true →
+    lt tiny (absOf (determinantOf t)) ≡ true →
     h ≡ riseOf t (k .r) →
     r ≡ gathered k c (each (over t) (places k h)) →
     r ≡ gathered k c (inner k t)
 unfolding inner
 rising k r c t h e p q =
-    on k r c (lt tiny (absOf (upright t))) (each (over t) (places k (riseOf t (k .r)))) e
+    on k r c (lt tiny (absOf (determinantOf t))) (each (over t) (places k (riseOf t (k .r)))) e
     (q ∙ ap (λ s. gathered k c (each (over t) (places k s))) p)

@@ -10,7 +10,7 @@ use Rattle.numbers.specs.Hypot.{hypotOf}
 use Rattle.plane.specs.declared.Triangle.{Triangle}
 use Rattle.plane.specs.declared.Weights.{Weights}
 use Rattle.plane.specs.declared.Spot.{Spot}
-use Rattle.plane.specs.declared.Spot.the-variants.{Flat, At}
+use Rattle.plane.specs.declared.Spot.the-variants.{Nowhere, At}
 use Rattle.plane.specs.declared.Contact.{Contact}
 use Rattle.plane.specs.declared.Contact.the-variants.{Nothing}
 use Rattle.plane.specs.Distance.{baryOf, atLeast}
@@ -99,13 +99,13 @@ crossed k e =
     cond (lt f0 (squared e)) (each (circled k e) (ends k) ++ cond (lt f0 (k .len)) (each (sided k e) sides) []) []
 
 -- the determinant of a triangle: 0 if it stands upright
-unfoldable pub upright : Triangle → Float
-upright t = (t .bx ⊖ t .ax) ⊗ (t .cy ⊖ t .ay) ⊖ (t .cx ⊖ t .ax) ⊗ (t .by ⊖ t .ay)
+unfoldable pub determinantOf : Triangle → Float
+determinantOf t = (t .bx ⊖ t .ax) ⊗ (t .cy ⊖ t .ay) ⊖ (t .cx ⊖ t .ax) ⊗ (t .by ⊖ t .ay)
 
 -- how a triangle rises: its slope g, and r in the direction of the gradient
 unfoldable pub riseOf : Triangle → Float → Rise
 riseOf t r =
-    let nz = upright t in
+    let nz = determinantOf t in
     let gx = ((t .bz ⊖ t .az) ⊗ (t .cy ⊖ t .ay) ⊖ (t .cz ⊖ t .az) ⊗ (t .by ⊖ t .ay)) ⊘ nz in
     let gy = ((t .bx ⊖ t .ax) ⊗ (t .cz ⊖ t .az) ⊖ (t .cx ⊖ t .ax) ⊗ (t .bz ⊖ t .az)) ⊘ nz in
     let g = hypotOf gx gy in
@@ -138,7 +138,7 @@ pointOver t p w = record { x = p .x; y = p .y; z = w .u ⊗ t .az ⊕ w .v ⊗ t
 
 -- the same if no weight is below -1e-12
 unfoldable pub raised : Triangle → Place → Spot → List Point
-raised t p Flat = []
+raised t p Nowhere = []
 raised t p (At w) = cond (atLeast w minusSlack) (pointOver t p w ∷ []) []
 
 -- the point of a triangle over a place, if it lies on the triangle
@@ -147,7 +147,7 @@ over t p = raised t p (baryOf t (p .x) (p .y))
 
 -- the inner points of a triangle that does not stand upright
 unfoldable pub inner : Capsule → Triangle → List Point
-inner k t = cond (lt tiny (absOf (upright t))) (each (over t) (places k (riseOf t (k .r)))) []
+inner k t = cond (lt tiny (absOf (determinantOf t))) (each (over t) (places k (riseOf t (k .r)))) []
 
 -- all of them
 unfoldable pub candidates : Capsule → Triangle → List Point

@@ -9,7 +9,7 @@ ghost use Rattle.numbers.specs.Reals.{f0};
 ghost use Rattle.plane.specs.Contacts.{takeOf};
 ghost use Rattle.capsule.specs.Region.{normalOf, capsuleOf, offerOf, gathered, Among, contactOf};
 ghost use Rattle.capsule.specs.Candidates.{each, corners, edgeOf, edges, ends, onEdge, reached, circled, sided, sides, crossed};
-ghost use Rattle.capsule.specs.Candidates.{upright, riseOf, tangents, flank, flanks, places, over, inner, candidates, highestIn, maxInCapsule};
+ghost use Rattle.capsule.specs.Candidates.{determinantOf, riseOf, tangents, flank, flanks, places, over, inner, candidates, highestIn, maxInCapsule};
 use plane::Contact;
 use plane::Spot;
 use plane::Triangle;
@@ -490,7 +490,7 @@ fn offer_over(k: Capsule, best: Best, t: Triangle, p: Place) -> Best
     ensures { λ c. ⌜ contactOf c ≡ gathered k (contactOf best) (over t p) ⌝ }
 {
     match plane::bary(t, p.x, p.y) {
-        Spot::Flat => best,
+        Spot::Nowhere => best,
         Spot::At(w) => {
             if plane::at_least(w, MINUS_SLACK) {
                 offer(

@@ -8,7 +8,7 @@ use native.Mathlib.Omega.{arith}
 use lib.ListN.{length, getD, drop, length-append, length-drop, List·getD-append}
 use lib.Seq.{ext-getD, getD-append-add, getD-append-seam, getD-drop}
 use Rattle.cells.specs.Cover.{Cover, membersOf, listed, startOf, entries, startsOf, membersTable, weight}
-use Rattle.cells.specs.Steps.{entry, sums, Cleared, Room, CountedAll, Summed, Ready, Filled, Fits}
+use Rattle.cells.specs.Inside.{entry, sums, Cleared, Room, CountedAll, Summed, Ready, Filled, Fits}
 use Rattle.cells.proofs.Sets.{by-lt, by-test, weight-off}
 use Rattle.cells.proofs.Members.{members-suc, start-more, all-members}
 

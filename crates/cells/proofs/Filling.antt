@@ -6,7 +6,7 @@ use Prim.Native.Nat.{ℕ, _+_, _≤_, _<_}
 use native.Mathlib.Omega.{arith}
 use lib.ListN.{length, getD}
 use Rattle.cells.specs.Cover.{Cover, membersOf, startOf}
-use Rattle.cells.specs.Steps.{Open, Placed, Ready, Filled}
+use Rattle.cells.specs.Inside.{Open, Placed, Ready, Filled}
 use Rattle.cells.proofs.Sets.{by-lt, by-test, weight-on, weight-off}
 use Rattle.cells.proofs.Members.{members-more, members-mono, member-at, start-more, cell-before}
 

@@ -8,7 +8,7 @@ use borrow.Author.Tests.{lt-ltb, le-ltb, le-leb, lt-leb, eq-eqb, ne-eqb, ltb-tru
 use lib.Dec.{leb, ltb, eqb}
 use Rattle.cells.specs.declared.Cells.{Cells}
 use Rattle.cells.specs.Cover.{isFrom, covers, weight}
-use Rattle.cells.specs.Steps.{Set, between}
+use Rattle.cells.specs.Inside.{Set, between}
 
 -- ---- by cases
 pub by-lt : {P : Type 0} (a b : ℕ) → (a < b → P) → (b ≤ a → P) → P

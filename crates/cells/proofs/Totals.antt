@@ -8,7 +8,7 @@ use native.Mathlib.Omega.{arith}
 use lib.ListN.{length-append}
 use Rattle.cells.specs.declared.Cells.{Cells}
 use Rattle.cells.specs.Cover.{Cover, covers, areaOf, membersOf, listed, startOf, weight}
-use Rattle.cells.specs.Steps.{Set, between, sums}
+use Rattle.cells.specs.Inside.{Set, between, sums}
 use Rattle.cells.proofs.Sets.{Split, by-lt, rowsUnder, row-more, rows-none, rows-all, under-between, in-between, over-between, none-covered}
 use Rattle.cells.proofs.Members.{members-suc}
 

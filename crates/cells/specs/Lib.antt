@@ -1,2 +1,2 @@
 pub mod Cover
-pub mod Steps
+pub mod Inside

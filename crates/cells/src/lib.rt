@@ -4,7 +4,7 @@ ghost use mathlib.Core.Path.{_≡_};
 ghost use Prim.Native.Nat.{_+_, _*_, _^_, _<_, _≤_};
 ghost use lib.ListN.{length};
 ghost use Rattle.cells.specs.Cover.{covers, areaOf};
-ghost use Rattle.cells.specs.Steps.{Fitting, between, entry, sums, Countable, Counted, Cleared, Summed, Open, Placed};
+ghost use Rattle.cells.specs.Inside.{Fitting, between, entry, sums, Countable, Counted, Cleared, Summed, Open, Placed};
 
 // The cells that a triangle covers: columns left to right of rows bottom to top, both ends included.
 pub struct Cells {

@@ -6,7 +6,7 @@ use Prim.Native.Nat.{ℕ, _<_}
 use lib.Ieee.{Float}
 use lib.ListN.{length}
 use Rattle.walk.specs.Walk.{Walk}
-use Rattle.walk.specs.Steps.{strike}
+use Rattle.walk.specs.Inside.{strike}
 use Rattle.walk.proofs.Rings.{Kept, strike-keeps}
 use Rattle.grid.specs.Index.{Index}
 use Rattle.query.specs.declared.Patch.{Patch}

@@ -4,7 +4,7 @@ ghost use mathlib.Core.Bool.{true, cond};
 ghost use Prim.Native.Nat.{_+_, _*_, _≤_, _<_};
 ghost use lib.ListN.{length};
 ghost use Rattle.walk.specs.Walk.{block, fold};
-ghost use Rattle.walk.specs.Steps.{judged, strike, Room, Walkable};
+ghost use Rattle.walk.specs.Inside.{judged, strike, Room, Walkable};
 ghost use Rattle.grid.specs.Index.{indexOf};
 ghost use Rattle.ask.specs.Ask.{ended, refusedChord, blockedEarly};
 ghost use Rattle.chords.specs.Chords.{isEnd, isChord, blockedAtOnce, bullBlocksAt, isRide, bullChordOf, BullChordPromise};

@@ -11,7 +11,7 @@ use lib.Ieee.{Float}
 use lib.ListN.{length}
 use Rattle.numbers.proofs.Branches.{taken, left, by-test}
 use Rattle.spans.specs.Mesh.{isCoordinate, isRadius, badFrom, firstBad}
-use Rattle.spans.specs.Good.{AllGood}
+use Rattle.spans.specs.Inside.{AllGood}
 use Rattle.spans.specs.declared.Place.{Place}
 use Rattle.spans.specs.declared.Place.the-variants.{Nowhere, At}
 use Rattle.spans.proofs.Searching.{all-good}
@@ -22,7 +22,7 @@ use Rattle.grid.specs.declared.Built.{Built}
 use Rattle.grid.specs.Grid.{trianglesIn, gridOf, cellsIn, coverOf, totalOf}
 use Rattle.grid.specs.Header.{headerOf}
 use Rattle.grid.specs.Build.{isNowhere, placeOf, toldWith, refusalOfNumbers, refusalOfMesh, refusalOfGrid, refusalOfMembers, Outcome, outcome, refusedBy, acceptedWith, unless, filledOf, gridded, buildOf}
-use Rattle.grid.specs.Parts.{Gridded}
+use Rattle.grid.specs.Inside.{Gridded}
 use Rattle.grid.proofs.Ladder.{refused-not, demanded}
 use Rattle.grid.proofs.Gridding.{counted}
 

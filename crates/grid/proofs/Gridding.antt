@@ -13,13 +13,13 @@ use Rattle.spans.specs.Axis.{spanOf, sizeOf, cellsAlong, stretchOf}
 use Rattle.spans.specs.declared.Extent.{Extent}
 use Rattle.spans.specs.declared.Stretch.{Stretch}
 use Rattle.cells.specs.Cover.{areaOf, startOf}
-use Rattle.cells.specs.Steps.{Fitting, Fits, sums}
+use Rattle.cells.specs.Inside.{Fitting, Fits, sums}
 use Rattle.cells.specs.declared.Cells.{Cells}
 use Rattle.cells.proofs.Sets.{covered-row}
 use Rattle.cells.proofs.Totals.{total-is}
 use Rattle.grid.specs.declared.Grid.{Grid}
 use Rattle.grid.specs.Grid.{gridOf, cellsIn, cellsOf, coverOf, totalOf}
-use Rattle.grid.specs.Parts.{Gridded}
+use Rattle.grid.specs.Inside.{Gridded}
 
 -- a stretch of columns and one of rows
 abbrev pub joined : Stretch → Stretch → Cells

@@ -23,7 +23,7 @@ use Rattle.grid.specs.Grid.{trianglesIn, gridOf, cellsIn, cellsOf, cover
 use Rattle.grid.specs.Header.{headerOf, inRanges}
 use Rattle.grid.specs.Build.{Outcome, outcome, refusedBy, acceptedWith, unless, filledOf, gridded, buildOf}
 use Rattle.grid.specs.Index.{Index, indexOf, InGrid, BuiltFrom, SoundIndex, BuildPromise}
-use Rattle.grid.specs.Parts.{NearBox, Gridded}
+use Rattle.grid.specs.Inside.{NearBox, Gridded}
 use Rattle.grid.proofs.Gridding.{within}
 use Rattle.grid.proofs.Accepting.{Accepted, accepted, Passed, passed}
 

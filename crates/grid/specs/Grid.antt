@@ -6,7 +6,7 @@ use lib.Ieee.{Float}
 use Rattle.spans.specs.Mesh.{boxOf, extentOf}
 use Rattle.spans.specs.Axis.{spanOf, sizeOf, cellsAlong, stretchOf}
 use Rattle.cells.specs.Cover.{Cover, covers, areaOf}
-use Rattle.cells.specs.Steps.{sums}
+use Rattle.cells.specs.Inside.{sums}
 use Rattle.cells.specs.declared.Cells.{Cells}
 use Rattle.grid.specs.declared.Grid.{Grid}
 

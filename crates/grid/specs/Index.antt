@@ -6,7 +6,7 @@ use mathlib.Core.Path.{_≡_}
 use Prim.Native.Nat.{ℕ, _+_, _*_, _≤_, _<_}
 use lib.ListN.{length, getD}
 use lib.Ieee.{Float}
-use Rattle.spans.specs.Good.{AllGood}
+use Rattle.spans.specs.Inside.{AllGood}
 use Rattle.cells.specs.Cover.{Cover, membersOf, stretch, weight, times}
 use Rattle.cells.specs.declared.Cells.{Cells}
 use Rattle.grid.specs.declared.Grid.{Grid}

@@ -3,4 +3,4 @@ pub mod Grid
 pub mod Header
 pub mod Build
 pub mod Index
-pub mod Parts
+pub mod Inside

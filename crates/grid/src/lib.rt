@@ -3,15 +3,15 @@ ghost use mathlib.Core.Path.{_≡_};
 ghost use Prim.Native.Nat.{_+_, _*_, _/_, _^_, _<_, _≤_};
 ghost use lib.ListN.{length};
 ghost use Rattle.spans.specs.Mesh.{boxOf};
-ghost use Rattle.spans.specs.Good.{AllGood};
+ghost use Rattle.spans.specs.Inside.{AllGood};
 ghost use Rattle.cells.specs.Cover.{startsOf, membersTable};
-ghost use Rattle.cells.specs.Steps.{Room, CountedAll, Ready, Filled, Fits};
+ghost use Rattle.cells.specs.Inside.{Room, CountedAll, Ready, Filled, Fits};
 ghost use Rattle.grid.specs.Grid.{trianglesIn, gridOf, cellsIn, cellsOf, coverOf, totalOf};
 ghost use Rattle.grid.specs.Header.{headerOf};
 ghost use Rattle.grid.specs.Build.{toldWith, refusalOfNumbers, refusalOfMesh, refusalOfGrid, refusalOfMembers};
 ghost use Rattle.grid.specs.Build.{outcome, refusedBy, filledOf, gridded, buildOf};
 ghost use Rattle.grid.specs.Index.{indexOf, BuildPromise};
-ghost use Rattle.grid.specs.Parts.{NearBox, Gridded};
+ghost use Rattle.grid.specs.Inside.{NearBox, Gridded};
 
 // Where a grid begins, how large its cells are, and how many there are.
 pub struct Grid {

@@ -15,9 +15,9 @@ use Rattle.numbers.specs.Reals.{num}
 use Rattle.runs.specs.declared.Run.{Run}
 use Rattle.runs.specs.Runs.{lengthOf}
 use Rattle.runs.specs.Pieces.{Piece, piece, piecesOf, firstHalf, secondHalf, middle}
-use Rattle.runs.specs.Tallies.{Work, work, takenBy, takenAll}
+use Rattle.runs.specs.Inside.{Work, work, takenBy, takenAll}
 use Rattle.runs.proofs.Tallying.{taken-append}
-use Rattle.probe.specs.Asked.{splitsOf}
+use Rattle.probe.specs.Inside.{splitsOf}
 
 clash : {A : Type 0} → true ≡ false → A
 clash e = let z : _≡_ {A = ℕ} (cond true 1 0) (cond false 1 0) = ap {B = ℕ} (λ b. cond b 1 0) e in absurd (omega arith)

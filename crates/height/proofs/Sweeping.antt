@@ -6,7 +6,7 @@ use native.Mathlib.Omega.{arith}
 use lib.Ieee.{Float}
 use lib.ListN.{length}
 use Rattle.walk.specs.Walk.{Walk, fold, nextStamp, readyMarks}
-use Rattle.walk.specs.Steps.{seen, look, Room}
+use Rattle.walk.specs.Inside.{seen, look, Room}
 use Rattle.walk.proofs.Rings.{unmarked-length}
 use Rattle.walk.proofs.Lists.{walk-is}
 use Rattle.grid.specs.Index.{Index}

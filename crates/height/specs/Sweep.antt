@@ -9,7 +9,7 @@ use Rattle.capsule.specs.declared.Capsule.{Capsule}
 use Rattle.capsule.specs.Region.{capsuleOf}
 use Rattle.capsule.specs.Candidates.{highestIn}
 use Rattle.walk.specs.Walk.{Walk, walked, nextStamp}
-use Rattle.walk.specs.Steps.{Walkable}
+use Rattle.walk.specs.Inside.{Walkable}
 use Rattle.grid.specs.declared.Header.{Header}
 use Rattle.grid.specs.Index.{Index}
 use Rattle.query.specs.declared.Patch.{Patch}

@@ -11,7 +11,7 @@ use Rattle.fives.specs.Tables.{roomOf, written}
 use Rattle.fives.proofs.Grouping.{Opened, opened-ends}
 use Rattle.runs.specs.Runs.{touchesOf, lengthened, joinedOf, fiveOf}
 use Rattle.runs.specs.Pieces.{Piece, piece, keptOf}
-use Rattle.runs.specs.Tallies.{Work, work, takenBy, closedOf, begun}
+use Rattle.runs.specs.Inside.{Work, work, takenBy, closedOf, begun}
 use Rattle.runs.specs.declared.Run.{Run}
 use Rattle.runs.specs.declared.Tally.{Tally}
 use Rattle.runs.proofs.Tallying.{Tallied, Written, tallied-starts, tallied-goes, tallied-ends}

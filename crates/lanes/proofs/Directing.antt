@@ -12,7 +12,7 @@ use Rattle.runs.specs.declared.Run.{Run}
 use Rattle.runs.specs.declared.Tally.{Tally}
 use Rattle.runs.specs.Runs.{touchesOf, lengthened, lengthOf, fiveOf}
 use Rattle.runs.specs.Pieces.{Piece, piecesOf}
-use Rattle.runs.specs.Tallies.{Work, work, onTo, takenBy, takenAll, keptBy, leftBy, closedOf}
+use Rattle.runs.specs.Inside.{Work, work, onTo, takenBy, takenAll, keptBy, leftBy, closedOf}
 use Rattle.levels.specs.declared.Level.{Level}
 use Rattle.rows.specs.declared.Axis.{Axis}
 use Rattle.rows.specs.declared.Lane.{Lane}
@@ -24,7 +24,7 @@ use Rattle.probe.specs.declared.Aim.{Aim}
 use Rattle.probe.specs.Probe.{onLevel, clear}
 use Rattle.terms.specs.declared.Parameters.{Parameters}
 use Rattle.search.specs.Search.{directed, aimOf, laneOf}
-use Rattle.search.specs.Steps.{numberOf, numbered, counting, rowTaken, laneTaken, lanesTaken, levelTaken, Coarse}
+use Rattle.search.specs.Inside.{numberOf, numbered, counting, rowTaken, laneTaken, lanesTaken, levelTaken, Coarse}
 
 -- ---- which way a row is walked
 
@@ -116,6 +116,6 @@ module _ (p : Parameters) (axis : Axis) (r : Float) (l : Level) where
   unfolding Coarse laneOf
   coarse-samples row lane e h = rw e (h .1)
 
-  pub level-is : (under : Run → Float) (w₀ w : Work) (a : Aim) (s : Spread) (n : ℕ) → a ≡ aimOf p r l → s ≡ spreadOf axis r l → n ≡ intervalsOf s (p .stepover) → w ≡ lanesTaken under a (laneOf p axis r l) w₀ 0 (n + 1) → w ≡ levelTaken under p axis r w₀ l
+  pub noSlope-is : (under : Run → Float) (w₀ w : Work) (a : Aim) (s : Spread) (n : ℕ) → a ≡ aimOf p r l → s ≡ spreadOf axis r l → n ≡ intervalsOf s (p .stepover) → w ≡ lanesTaken under a (laneOf p axis r l) w₀ 0 (n + 1) → w ≡ levelTaken under p axis r w₀ l
   unfolding levelTaken
-  level-is under w₀ w a s n x y z e = e ∙ (rw (x, z, y))
+  noSlope-is under w₀ w a s n x y z e = e ∙ (rw (x, z, y))

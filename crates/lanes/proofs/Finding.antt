@@ -12,7 +12,7 @@ use Rattle.runs.specs.declared.Run.{Run}
 use Rattle.runs.specs.declared.Tally.{Tally}
 use Rattle.runs.specs.Runs.{touchesOf, lengthened, lengthOf, fiveOf}
 use Rattle.runs.specs.Pieces.{Piece, piecesOf}
-use Rattle.runs.specs.Tallies.{Work, work, onTo, takenBy, takenAll, keptBy, leftBy, closedOf, begun}
+use Rattle.runs.specs.Inside.{Work, work, onTo, takenBy, takenAll, keptBy, leftBy, closedOf, begun}
 use Rattle.runs.proofs.Tallying.{taken-append, Tallied, tallied-starts, tallied-all, tallied-ends}
 use Rattle.rows.specs.declared.Axis.{Axis}
 use Rattle.rows.specs.declared.Lane.{Lane}
@@ -22,8 +22,8 @@ use Rattle.terms.specs.declared.Parameters.{Parameters}
 use Rattle.probe.specs.declared.Aim.{Aim}
 use Rattle.probe.specs.Probe.{onLevel, clear}
 use Rattle.search.specs.Search.{Found, piecesAlong, empty, directed, rowFound, rowsFound, levelFound, levelsFound}
-use Rattle.search.specs.Steps.{counting, rowTaken, laneTaken, lanesTaken, levelTaken, levelsTaken}
-use Rattle.lanes.specs.Searched.{Searched}
+use Rattle.search.specs.Inside.{counting, rowTaken, laneTaken, lanesTaken, levelTaken, levelsTaken}
+use Rattle.lanes.specs.Inside.{Searched}
 
 -- ---- taking pieces does not turn on the number of rows
 

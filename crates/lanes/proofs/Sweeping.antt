@@ -7,19 +7,19 @@ use native.Mathlib.Omega.{arith}
 use borrow.Author.Tests.{ltb-false}
 use lib.Ieee.{Float}
 use Rattle.levels.specs.declared.Level.{Level}
-use Rattle.levels.specs.Steps.{levelIn}
+use Rattle.levels.specs.Inside.{levelIn}
 use Rattle.runs.specs.declared.Run.{Run}
-use Rattle.runs.specs.Tallies.{Work}
+use Rattle.runs.specs.Inside.{Work}
 use Rattle.rows.specs.declared.Axis.{Axis}
 use Rattle.rows.specs.declared.Lane.{Lane}
 use Rattle.rows.specs.Lanes.{spreadOf, intervalsOf}
 use Rattle.terms.specs.declared.Parameters.{Parameters}
 use Rattle.terms.specs.Terms.{anyOf, tooFine}
-use Rattle.terms.specs.Tested.{levelsIn}
+use Rattle.terms.specs.Inside.{levelsIn}
 use Rattle.terms.proofs.Testing.{any-next}
 use Rattle.probe.specs.declared.Aim.{Aim}
 use Rattle.search.specs.Search.{aimOf, laneOf}
-use Rattle.search.specs.Steps.{laneTaken, lanesTaken, levelTaken, levelsTaken, Coarse}
+use Rattle.search.specs.Inside.{laneTaken, lanesTaken, levelTaken, levelsTaken, Coarse}
 use Rattle.lanes.proofs.Directing.{lane-rows}
 
 neither : (a b : Bool) → (a || b) ≡ false → (a ≡ false) × (b ≡ false)

@@ -14,7 +14,7 @@ use Rattle.fives.specs.Groups.{grouped}
 use Rattle.fives.proofs.Writing.{written-more}
 use Rattle.fives.proofs.Grouping.{Opened, opened-first, opened-joins, opened-next, opened-ends}
 use Rattle.levels.specs.Levels.{openedBy, joinsLevel, widenedBy, levelsFrom, fiveOf}
-use Rattle.levels.specs.Steps.{Grown, grown, grownBy}
+use Rattle.levels.specs.Inside.{Grown, grown, grownBy}
 use Rattle.levels.specs.declared.Level.{Level}
 use Rattle.levels.specs.declared.Group.{Group}
 

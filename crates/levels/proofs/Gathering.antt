@@ -13,12 +13,12 @@ use lib.ListN.{length, getD, set, take, drop, length-append, length-drop, List·
 use lib.Seq.{take-at, drop-at, drop-cons, set-at, getD-append-add}
 use Rattle.plane.specs.Mesh.{triangleOf}
 use Rattle.numbers.specs.Reals.{_⊕_}
-use Rattle.sort.specs.Heap.{Within}
+use Rattle.sort.specs.Inside.{Within}
 use Rattle.sort.specs.Ranks.{before, sortedBy}
 use Rattle.sort.proofs.Orders.{sorted-length}
 use Rattle.levels.specs.Levels.{sortedFlats, listLeft}
 use Rattle.levels.specs.Flats.{isFlat, flatsOf}
-use Rattle.levels.specs.Steps.{Listed, listed, gatheredOne}
+use Rattle.levels.specs.Inside.{Listed, listed, gatheredOne}
 
 module _ (mesh : List Float) (tolerance least : Float) where
   flats : ℕ → List ℕ

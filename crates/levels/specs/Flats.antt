@@ -8,7 +8,7 @@ use Rattle.plane.specs.Mesh.{triangleOf}
 use Rattle.plane.specs.Distance.{baryOf}
 use Rattle.plane.specs.declared.Triangle.{Triangle}
 use Rattle.plane.specs.declared.Spot.{Spot}
-use Rattle.plane.specs.declared.Spot.the-variants.{Flat, At}
+use Rattle.plane.specs.declared.Spot.the-variants.{Nowhere, At}
 
 -- Whether z lies within the tolerance of z0.
 unfoldable pub nearTo : Float → Float → Float → Bool
@@ -20,7 +20,7 @@ evenOf t tolerance = nearTo tolerance (t .az) (t .az) && (nearTo tolerance (t .a
 
 -- Whether `bary` answers.
 unfoldable pub answers : Spot → Bool
-answers Flat = false
+answers Nowhere = false
 answers (At w) = true
 
 -- A flat triangle: even, `bary` at the first vertex answers, and z is above `least`, which is floor + level tolerance.

@@ -1,3 +1,3 @@
 pub mod Flats
 pub mod Levels
-pub mod Steps
+pub mod Inside

@@ -7,10 +7,10 @@ ghost use Rattle.numbers.specs.Reals.{_⊕_};
 ghost use Rattle.plane.specs.Mesh.{triangleOf};
 ghost use Rattle.plane.specs.Distance.{baryOf};
 ghost use Rattle.fives.specs.Tables.{putAt, written};
-ghost use Rattle.sort.specs.Heap.{Within};
+ghost use Rattle.sort.specs.Inside.{Within};
 ghost use Rattle.levels.specs.Flats.{nearTo, evenOf, answers, isFlat, flatsOf};
 ghost use Rattle.levels.specs.Levels.{openedBy, widenedBy, levelsFrom, sortedFlats, listLeft, levelsOf, fiveOf};
-ghost use Rattle.levels.specs.Steps.{listed, gatheredOne, grown, grownBy, levelIn};
+ghost use Rattle.levels.specs.Inside.{listed, gatheredOne, grown, grownBy, levelIn};
 use plane::Spot;
 use plane::Triangle;
 
@@ -134,7 +134,7 @@ fn bary_answers(t: Triangle) -> bool
     ensures { λ r. ⌜ r ≡ answers (baryOf t (t .ax) (t .ay)) ⌝ }
 {
     match plane::bary(t, t.ax, t.ay) {
-        Spot::Flat => false,
+        Spot::Nowhere => false,
         Spot::At(_) => true,
     }
 }

@@ -11,7 +11,7 @@ use lib.ListN.{length, getD, take, drop, set, length-append}
 use lib.Seq.{take-suc-set, take-suc, take-all, drop-drop, drop-set-lt}
 use Rattle.numbers.proofs.Branches.{either}
 use Rattle.lines.specs.Lines.{glyphOf, spelled}
-use Rattle.lines.specs.Wrote.{Wrote}
+use Rattle.lines.specs.Inside.{Wrote}
 
 pub nothing : (out : List ℕ) (at : ℕ) → Wrote out out at at []
 nothing out at = record { text = sym (append-nil (take at out)); ends = sym (add-zero at); rest = refl }

@@ -9,7 +9,7 @@ ghost use lib.Dec.{eqb};
 ghost use lib.Ieee.{binary64, toBits};
 ghost use lib.ListN.{length};
 ghost use Rattle.lines.specs.Lines.{glyphOf, spelled, decimal, hexBits, headLine, answerLine, refusedLine};
-ghost use Rattle.lines.specs.Wrote.{Wrote};
+ghost use Rattle.lines.specs.Inside.{Wrote};
 
 // The first line of a listing.
 pub fn head_line(out: &mut [u8], at: usize, n: u32, m: u32, columns: usize, rows: usize) -> usize

@@ -7,7 +7,7 @@ use borrow.Rule.Slice.PartMut.{midOf, putMid, same-len-mid}
 use lib.ListN.{length, drop, length-take, length-drop}
 use Rattle.list.specs.declared.Input.{Input}
 use Rattle.list.specs.declared.Input.the-variants.{Length}
-use Rattle.list.specs.Input.{Within}
+use Rattle.list.specs.Inside.{Within}
 
 pub within-is : (r : Input) (n room : ℕ) → r ≡ Length n → Within r room → n ≤ room
 within-is r n room e w = rw e at w

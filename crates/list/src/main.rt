@@ -3,7 +3,7 @@ use libc::STDIN_FILENO;
 use libc::STDOUT_FILENO;
 ghost use Prim.Native.Nat.{_≤_};
 ghost use lib.ListN.{length};
-ghost use Rattle.list.specs.Input.{Within};
+ghost use Rattle.list.specs.Inside.{Within};
 
 // How an input ended.
 enum Input {

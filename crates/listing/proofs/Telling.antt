@@ -18,7 +18,7 @@ use Rattle.grid.specs.Index.{Index, indexOf}
 use Rattle.ask.specs.declared.Answer.{Answer}
 use Rattle.ask.specs.Ask.{ended}
 use Rattle.lines.specs.Lines.{headLine, answerLine, refusedLine}
-use Rattle.lines.specs.Wrote.{Wrote}
+use Rattle.lines.specs.Inside.{Wrote}
 use Rattle.lines.proofs.Texts.{nothing, _then_, as-well}
 use Rattle.listing.specs.Listing.{meshRoom, questionRoom, startRoom, memberRoom, askedOf, answersOf, listedOf, listingOf, inputRoom, Enough}
 

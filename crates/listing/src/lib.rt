@@ -5,7 +5,7 @@ ghost use Prim.Native.Nat.{_+_, _*_, _≤_, _<_};
 ghost use lib.ListN.{length, take, drop, replicate};
 ghost use Rattle.grid.specs.Index.{indexOf};
 ghost use Rattle.ask.specs.Ask.{ended};
-ghost use Rattle.lines.specs.Wrote.{Wrote};
+ghost use Rattle.lines.specs.Inside.{Wrote};
 ghost use Rattle.listing.specs.Listing.{askedOf, answersOf, listedOf, listingOf, Enough};
 use ask::Answer;
 use grid::Header;

@@ -14,7 +14,7 @@ use lib.Ieee.Bits.{is-true, is-false}
 use mir.Syntax.{w64}
 use mir.Val.{Fits, SFits, toZ, ofZ}
 use mir.ValLaws.{toZ-pos, toZ-ofZ}
-use Rattle.numbers.specs.Parts.{Exponent, lifted}
+use Rattle.numbers.specs.Inside.{Exponent, lifted}
 
 -- ---- a - b
 either-way : {X : Type 0} (p q : Bool) (x y : X) → (T p → T q → ⊥) → (T (not p) → T (not q) → ⊥) → cond p x y ≡ cond q y x

@@ -14,7 +14,7 @@ use lib.Ieee.Digits.{minus-val}
 use lib.Ieee.Fits.{down-pos, eq→eqb}
 use lib.Ieee.Exact.{HasValue}
 use Rattle.numbers.specs.Root.{rootOf}
-use Rattle.numbers.specs.Parts.{Exponent}
+use Rattle.numbers.specs.Inside.{Exponent}
 use Rattle.numbers.proofs.Patterns.{subnormal-value, normal-value, special}
 use Rattle.numbers.proofs.Units.{root-same}
 

@@ -11,7 +11,7 @@ use lib.Pow.{pow-pos}
 use lib.Bits.{and-mask}
 use lib.Ieee.{Float, nan, inf, binary64, fits, isNan, ofFields, ofBits, toBits, le}
 use lib.Ieee.Exact.{HasValue}
-use Rattle.numbers.specs.Parts.{leastNormal}
+use Rattle.numbers.specs.Inside.{leastNormal}
 use Rattle.numbers.proofs.Patterns.{apart, exponentOf, fractionOf, exponent-lt, fraction-lt, special, normal-value, subnormal-value}
 use Rattle.numbers.proofs.Signs.{le-of-signed, under-of-le}
 

@@ -13,7 +13,7 @@ use lib.Ieee.Nearest.{div-same}
 use lib.Ieee.Order.{transfer}
 use lib.Ieee.Positive.{num, den, positive, den-pos, value→cross, positive-of-value}
 use Rattle.numbers.specs.Root.{nearestRoot, Nearest, rootOfUnits, rootOf}
-use Rattle.numbers.specs.Parts.{Exponent, lifted}
+use Rattle.numbers.specs.Inside.{Exponent, lifted}
 use Rattle.numbers.proofs.Squares.{is-nearest-root, nearest-ge, nearest-lt}
 use Rattle.numbers.proofs.Significands.{size-is, plain-pattern, plain-no-nan}
 use Rattle.numbers.proofs.Exponents.{lifted-lt, exponent-down}

@@ -1,7 +1,7 @@
 pub mod Reals
 pub mod Root
 pub mod Rounding
-pub mod Parts
+pub mod Inside
 pub mod Hypot
 pub mod Order
 pub mod Golden

@@ -1,12 +1,12 @@
--- Document 01, "Numbers": the operators of IEEE 754-2019 at binary64, each rounded once; the constants of the source and of document 01, by their bits; max, min,
--- the magnitude and the clamp. At the end a line for each constant says what number its bits are.
+-- Document 01, "Numbers": the operators of IEEE 754-2019 at binary64, each rounded once; the constants of the source and of document 01, by their bits, each decimal
+-- fraction with a line that computes it as the rounding of a quotient; max, min, the magnitude and the clamp. At the end a line for each constant says what number its bits are.
 use mathlib.Core.Bool.{true, false, cond}
 use mathlib.Core.Path.{_≡_, refl}
 use mathlib.Core.List.{List}
-use Prim.Native.Nat.{ℕ}
+use Prim.Native.Nat.{ℕ, _^_}
 use lib.IntN.{pos, negsuc}
 use lib.ListN.{getD}
-use lib.Ieee.{Float, nan, inf, fin, binary64, ofBits, add, sub, mul, div, lt, isNan}
+use lib.Ieee.{Float, nan, inf, fin, binary64, ofBits, round, add, sub, mul, div, lt, isNan}
 
 infixl 60 _⊕_ _⊖_
 infixl 70 _⊗_ _⊘_
@@ -58,9 +58,17 @@ minus1 = ofBits binary64 0xbff0_0000_0000_0000
 abbrev pub tiny : Float
 tiny = ofBits binary64 0x01a5_6e1f_c2f8_f359
 
+tiny-rounded : tiny ≡ round binary64 false 1 (10 ^ 300)
+unfolding ofBits round
+tiny-rounded = refl
+
 -- 1e-12, what eps is of the largest coordinate
 abbrev pub slack : Float
 slack = ofBits binary64 0x3d71_9799_812d_ea11
+
+slack-rounded : slack ≡ round binary64 false 1 (10 ^ 12)
+unfolding ofBits round
+slack-rounded = refl
 
 -- -1e-12, down to which a weight counts as not negative, and a place as on its edge
 abbrev pub minusSlack : Float
@@ -71,12 +79,20 @@ abbrev pub pastOne : Float
 pastOne = ofBits binary64 0x3ff0_0000_0000_1198
 
 -- 1e-15, below which a slope counts as none
-abbrev pub level : Float
-level = ofBits binary64 0x3cd2_03af_9ee7_5616
+abbrev pub noSlope : Float
+noSlope = ofBits binary64 0x3cd2_03af_9ee7_5616
+
+noSlope-rounded : noSlope ≡ round binary64 false 1 (10 ^ 15)
+unfolding ofBits round
+noSlope-rounded = refl
 
 -- 1e-6, the least cell size
 abbrev pub millionth : Float
 millionth = ofBits binary64 0x3eb0_c6f7_a0b5_ed8d
+
+millionth-rounded : millionth ≡ round binary64 false 1 (10 ^ 6)
+unfolding ofBits round
+millionth-rounded = refl
 
 -- 1e6, the largest coordinate
 abbrev pub million : Float
@@ -94,6 +110,10 @@ threeMillion = ofBits binary64 0x4146_e360_0000_0000
 abbrev pub twoMillionths : Float
 twoMillionths = ofBits binary64 0x3ec0_c6f7_a0b5_ed8d
 
+twoMillionths-rounded : twoMillionths ≡ round binary64 false 2 (10 ^ 6)
+unfolding ofBits round
+twoMillionths-rounded = refl
+
 -- 1e9, the steepest rise
 abbrev pub billion : Float
 billion = ofBits binary64 0x41cd_cd65_0000_0000
@@ -102,13 +122,25 @@ billion = ofBits binary64 0x41cd_cd65_0000_0000
 abbrev pub finest : Float
 finest = ofBits binary64 0x3e7a_d7f2_9abc_af48
 
+finest-rounded : finest ≡ round binary64 false 1 (10 ^ 7)
+unfolding ofBits round
+finest-rounded = refl
+
 -- 0.01, the largest tolerance
 abbrev pub coarsest : Float
 coarsest = ofBits binary64 0x3f84_7ae1_47ae_147b
 
+coarsest-rounded : coarsest ≡ round binary64 false 1 100
+unfolding ofBits round
+coarsest-rounded = refl
+
 -- 0.1, the largest level tolerance
 abbrev pub tenth : Float
 tenth = ofBits binary64 0x3fb9_9999_9999_999a
+
+tenth-rounded : tenth ≡ round binary64 false 1 10
+unfolding ofBits round
+tenth-rounded = refl
 
 -- max and min: a NaN yields the other operand; if the two compare equal, the first operand.
 unfoldable pub maxOf : Float → Float → Float
@@ -172,9 +204,9 @@ pub pastOne-is : pastOne ≡ fin false 562949953421875 (negsuc 48)
 unfolding ofBits
 pastOne-is = refl
 
-pub level-is : level ≡ fin false 2535301200456459 (negsuc 100)
+pub noSlope-is : noSlope ≡ fin false 2535301200456459 (negsuc 100)
 unfolding ofBits
-level-is = refl
+noSlope-is = refl
 
 pub millionth-is : millionth ≡ fin false 4722366482869645 (negsuc 71)
 unfolding ofBits

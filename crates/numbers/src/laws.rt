@@ -18,7 +18,7 @@ pub fn root_is_nearest(x: f64) -> f64
 
 // Roots stand in the order of what they are roots of.
 pub fn roots_in_order(x: f64, y: f64) -> bool
-    ensures { λ r. ⌜ (T (positive x) → T (positive y) → T (le x y) → T r) ⌝ }
+    ensures { λ r. ⌜ (r ≡ le (rootOf x) (rootOf y)) × (T (positive x) → T (positive y) → T (le x y) → T r) ⌝ }
 {
     crate::root(x) <= crate::root(y)
 }

@@ -11,7 +11,7 @@ ghost use Rattle.numbers.specs.Order.{totalLess};
 ghost use Rattle.numbers.specs.Golden.{phiOf, phi60Of};
 ghost use Rattle.numbers.specs.Hypot.{hypotOf, infinite};
 ghost use Rattle.numbers.specs.Root.{rootOf};
-ghost use Rattle.numbers.specs.Parts.{leastNormal};
+ghost use Rattle.numbers.specs.Inside.{leastNormal};
 
 pub mod laws;
 pub mod roots;

@@ -6,7 +6,7 @@ ghost use Prim.Native.Nat.{_+_, _*_, _/_, _%_, _^_, _≤_, _<_};
 ghost use lib.IntN.{negsuc};
 ghost use lib.Ieee.{fin, minus};
 ghost use Rattle.numbers.specs.Root.{Nearest, rootOf};
-ghost use Rattle.numbers.specs.Parts.{Exponent, lifted};
+ghost use Rattle.numbers.specs.Inside.{Exponent, lifted};
 
 // An f64's fraction has 52 digits; a normal number leaves out the one before them.
 pub const FRACTION: u64 = 0xf_ffff_ffff_ffff;

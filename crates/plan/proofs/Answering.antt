@@ -30,15 +30,15 @@ use Rattle.runs.specs.Pieces.{keptOf}
 use Rattle.rows.specs.declared.Axis.{Axis}
 use Rattle.terms.specs.declared.Parameters.{Parameters}
 use Rattle.terms.specs.Terms.{areTerms, tooFine, anyOf, refusalOfLevels}
-use Rattle.terms.specs.Tested.{levelsIn}
+use Rattle.terms.specs.Inside.{levelsIn}
 use Rattle.terms.proofs.Testing.{levels-read}
-use Rattle.probe.specs.Asked.{Askable, Marked}
+use Rattle.probe.specs.Inside.{Askable, Marked}
 use Rattle.search.specs.Search.{Found}
-use Rattle.lanes.specs.Searched.{Searched}
+use Rattle.lanes.specs.Inside.{Searched}
 use Rattle.plan.specs.declared.Planned.{Planned}
 use Rattle.plan.specs.declared.Surveyed.{Surveyed}
 use Rattle.plan.specs.Plan.{refusalOfInput, refusalOfTables, levelsUnder, foundOn, Outcome, outcome, refusedBy, acceptedWith, wiped, workedOf, planOf, NeverSeven}
-use Rattle.plan.specs.Stages.{Ready, Surveys, Settled, settled, givenUp, settledOf, finishedOf}
+use Rattle.plan.specs.Inside.{Ready, Surveys, Settled, settled, givenUp, settledOf, finishedOf}
 use Rattle.plan.proofs.Counting.{levels-few}
 use Rattle.plan.proofs.Surveying.{Taken, survey-taken}
 

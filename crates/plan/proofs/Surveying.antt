@@ -18,9 +18,9 @@ use Rattle.levels.specs.Levels.{fiveOf}
 use Rattle.rows.specs.declared.Axis.{Axis}
 use Rattle.terms.specs.declared.Parameters.{Parameters}
 use Rattle.terms.specs.Terms.{tooDeep, tooFine, anyOf, refusalOfLevels}
-use Rattle.terms.specs.Tested.{refusalOfCount}
+use Rattle.terms.specs.Inside.{refusalOfCount}
 use Rattle.terms.proofs.Testing.{levels-read}
-use Rattle.plan.specs.Stages.{Surveys}
+use Rattle.plan.specs.Inside.{Surveys}
 
 module _ (t : List Float) (ls : List Level) (p : Parameters) (axis : Axis) (r : Float) where
   abbrev table : List Float

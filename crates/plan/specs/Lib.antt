@@ -1,3 +1,3 @@
 pub mod Plan
-pub mod Stages
+pub mod Inside
 pub mod Lost

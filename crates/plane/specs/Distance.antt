@@ -7,7 +7,7 @@ use Rattle.numbers.specs.Root.{rootOf}
 use Rattle.plane.specs.declared.Triangle.{Triangle}
 use Rattle.plane.specs.declared.Weights.{Weights}
 use Rattle.plane.specs.declared.Spot.{Spot}
-use Rattle.plane.specs.declared.Spot.the-variants.{Flat, At}
+use Rattle.plane.specs.declared.Spot.the-variants.{Nowhere, At}
 
 -- where along the segment p-q the point nearest to x lies, from 0 to 1; 0 on a segment of no length
 unfoldable pub nearestT : Float → Float → Float → Float → Float → Float → Float
@@ -37,7 +37,7 @@ baryOf t x y =
     let det = bx ⊗ cy ⊖ cx ⊗ by in
     let l1 = (dx ⊗ cy ⊖ cx ⊗ dy) ⊘ det in
     let l2 = (bx ⊗ dy ⊖ dx ⊗ by) ⊘ det in
-    cond (lt (absOf det) tiny) Flat (At (record { u = f1 ⊖ l1 ⊖ l2; v = l1; w = l2 }))
+    cond (lt (absOf det) tiny) Nowhere (At (record { u = f1 ⊖ l1 ⊖ l2; v = l1; w = l2 }))
 
 -- whether each weight is at least `least`
 unfoldable pub atLeast : Weights → Float → Bool
@@ -45,7 +45,7 @@ atLeast p least = le least (p .u) && (le least (p .v) && le least (p .w))
 
 -- whether a place lies on its triangle: it has weights, none below 0
 unfoldable pub inside : Spot → Bool
-inside Flat = false
+inside Nowhere = false
 inside (At p) = atLeast p f0
 
 -- plus infinity: farther than any edge

@@ -43,7 +43,7 @@ pub struct Weights {
 
 // A place on a triangle: none where the triangle stands upright.
 pub enum Spot {
-    Flat,
+    Nowhere,
     At(Weights),
 }
 
@@ -146,7 +146,7 @@ pub fn bary(t: Triangle, x: f64, y: f64) -> Spot
     let dy = y - t.ay;
     let det = bx * cy - cx * by;
     if numbers::abs(det) < 1e-300 {
-        return Spot::Flat;
+        return Spot::Nowhere;
     }
     let l1 = (dx * cy - cx * dy) / det;
     let l2 = (bx * dy - dx * by) / det;
@@ -184,7 +184,7 @@ pub fn distance_xy(t: Triangle, x: f64, y: f64) -> f64
     ensures { λ r. ⌜ r ≡ distanceXy t x y ⌝ }
 {
     match bary(t, x, y) {
-        Spot::Flat => edge_distance(t, x, y),
+        Spot::Nowhere => edge_distance(t, x, y),
         Spot::At(p) => {
             if at_least(p, 0.0) {
                 0.0

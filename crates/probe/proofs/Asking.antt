@@ -14,7 +14,7 @@ use Rattle.grid.specs.Index.{Index}
 use Rattle.height.specs.Sweep.{Sweep, sweep, capsuleFor, diskStep, capsuleWalk, sweepWalk}
 use Rattle.runs.specs.declared.Run.{Run}
 use Rattle.probe.specs.Probe.{heightUnder}
-use Rattle.probe.specs.Asked.{Marked}
+use Rattle.probe.specs.Inside.{Marked}
 
 on-or-off : (b : Bool) → (b ≡ true) ⊎ (b ≡ false)
 on-or-off true = inl refl

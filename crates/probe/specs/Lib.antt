@@ -1,2 +1,2 @@
 pub mod Probe
-pub mod Asked
+pub mod Inside

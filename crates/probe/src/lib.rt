@@ -2,7 +2,7 @@
 ghost use mathlib.Core.Path.{_≡_};
 ghost use Rattle.grid.specs.Index.{indexOf};
 ghost use Rattle.probe.specs.Probe.{heightUnder, onLevel, clear};
-ghost use Rattle.probe.specs.Asked.{Askable, Marked, splitsOf};
+ghost use Rattle.probe.specs.Inside.{Askable, Marked, splitsOf};
 use grid::Header;
 use rows::Lane;
 use runs::Run;

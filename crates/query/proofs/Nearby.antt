@@ -19,7 +19,7 @@ use Rattle.spans.proofs.Signed.{upSigned, round-up}
 use Rattle.spans.proofs.Ranges.{million-is, finite-between, le-trans-finite}
 use Rattle.spans.proofs.Scales.{true-of}
 use Rattle.query.specs.Usable.{every, triangleUsable}
-use Rattle.query.specs.Near.{squaresOf}
+use Rattle.query.specs.Inside.{squaresOf}
 
 -- 9e11 and 1e12
 abbrev most : Float

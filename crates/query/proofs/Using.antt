@@ -18,7 +18,7 @@ use Rattle.grid.specs.Index.{Index}
 use Rattle.header.specs.Head.{headUsable}
 use Rattle.header.proofs.Ranges.{Headed, headed-is}
 use Rattle.walk.specs.Walk.{cell}
-use Rattle.walk.specs.Steps.{Walkable}
+use Rattle.walk.specs.Inside.{Walkable}
 use Rattle.query.specs.declared.Patch.{Patch}
 use Rattle.query.specs.Usable.{every, each, triangleUsable, memberUsable, cellUsable, rowUsable, cellsUsable, usable}
 use Rattle.query.proofs.Testing.{in-rows}

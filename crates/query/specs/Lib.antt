@@ -1,5 +1,5 @@
 pub mod Asked
 pub mod Patch
-pub mod Near
+pub mod Inside
 pub mod Usable
 pub mod Looked

@@ -15,6 +15,7 @@ abbrev pub nowhere : Span
 nowhere = record { first = 0; past = 0 }
 
 -- From lo to hi, both rounded down, held to the grid, which has `count` cells on that axis; none if the end is below 0 or the start at or past the count.
+-- Truncating is right here: both are whole by then, so that it changes nothing, but for a start below 0, which becomes 0, the first cell.
 unfoldable pub heldTo : ℕ → Float → Float → Span
 heldTo count lo hi =
     cond (lt hi f0) nowhere

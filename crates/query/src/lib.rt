@@ -6,7 +6,7 @@ ghost use Rattle.grid.specs.Index.{indexOf};
 ghost use Rattle.query.specs.Asked.{isMarked, isPoint};
 ghost use Rattle.query.specs.Patch.{heldTo, axisSpan, patchOf};
 ghost use Rattle.query.specs.Looked.{UsablePromise};
-ghost use Rattle.query.specs.Near.{squaresOf};
+ghost use Rattle.query.specs.Inside.{squaresOf};
 ghost use Rattle.query.specs.Usable.{each, triangleUsable, memberUsable, cellUsable, rowUsable, cellsUsable, usable};
 use grid::Header;
 

@@ -17,7 +17,7 @@ use Rattle.fives.proofs.Writing.{written-more, written-length}
 use Rattle.fives.proofs.Grouping.{Opened, opened-first, opened-joins, opened-next, opened-ends}
 use Rattle.runs.specs.Runs.{lengthOf, touchesOf, lengthened, joinedOf, summed, cutOf, fiveOf}
 use Rattle.runs.specs.Pieces.{Piece, piece, keptOf, droppedBy}
-use Rattle.runs.specs.Tallies.{Work, work, onTo, closedOf, keptBy, leftBy, takenBy, takenAll, begun}
+use Rattle.runs.specs.Inside.{Work, work, onTo, closedOf, keptBy, leftBy, takenBy, takenAll, begun}
 use Rattle.runs.specs.declared.Run.{Run}
 use Rattle.runs.specs.declared.Tally.{Tally}
 

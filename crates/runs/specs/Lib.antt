@@ -1,4 +1,4 @@
 pub mod Runs
 pub mod Pieces
 pub mod Chains
-pub mod Tallies
+pub mod Inside

@@ -5,7 +5,7 @@ ghost use Prim.Native.Nat.{_+_, _≤_, _<_};
 ghost use mathlib.Core.Bool.{true};
 ghost use Rattle.runs.specs.Runs.{lengthOf, touchesOf, lengthened};
 ghost use Rattle.runs.specs.Pieces.{firstHalf};
-ghost use Rattle.runs.specs.Tallies.{work, onTo, closedOf, keptBy, leftBy, takenBy, begun};
+ghost use Rattle.runs.specs.Inside.{work, onTo, closedOf, keptBy, leftBy, takenBy, begun};
 
 // A straight cut at height z, from a to b.
 pub struct Run {

@@ -8,14 +8,14 @@ use borrow.Author.Tests.{lt-ltb, le-ltb}
 use lib.Ieee.{Float}
 use Rattle.runs.specs.declared.Run.{Run}
 use Rattle.runs.specs.Pieces.{piecesOf}
-use Rattle.runs.specs.Tallies.{Work, work, takenAll}
+use Rattle.runs.specs.Inside.{Work, work, takenAll}
 use Rattle.rows.specs.declared.Lane.{Lane}
 use Rattle.rows.specs.Lanes.{between}
 use Rattle.rows.specs.Stretches.{Ends, ends, sampled, endedAt, stretchesFrom, stretchesOf}
 use Rattle.probe.specs.declared.Aim.{Aim}
 use Rattle.probe.specs.Probe.{onLevel, clear}
 use Rattle.search.specs.declared.Walked.{Walked}
-use Rattle.search.specs.Steps.{numberOf, numbered, counting, rowTaken, Advanced}
+use Rattle.search.specs.Inside.{numberOf, numbered, counting, rowTaken, Advanced}
 
 sampled-next : (f : ℕ → Bool) (a s : ℕ) → a ≤ s → sampled f a (s + 1 - a) ≡ f a ∷ sampled f (a + 1) (s + 1 - (a + 1))
 unfolding sampled

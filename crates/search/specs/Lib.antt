@@ -1,3 +1,3 @@
 pub mod Search
-pub mod Steps
+pub mod Inside
 pub mod Sampled

@@ -16,7 +16,7 @@ use Rattle.bound.proofs.Near.{sum-fine, near, min-under}
 use Rattle.section.specs.declared.Section.{Section}
 use Rattle.section.specs.declared.Surface.the-variants.{Beyond, Over}
 use Rattle.section.specs.Section.{profileOf, heightOver, sectionAt}
-use Rattle.section.specs.Flat.{FlatTo}
+use Rattle.section.specs.Inside.{FlatTo}
 
 holds : (b : Bool) → b ≡ true → T b
 holds b e = rw e tt

@@ -1,2 +1,2 @@
 pub mod Section
-pub mod Flat
+pub mod Inside

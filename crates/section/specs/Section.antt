@@ -2,7 +2,7 @@
 -- is level to r0, at z0 over the tip, and rises in a straight line to r1.
 use mathlib.Core.Bool.{Bool, cond, _&&_}
 use lib.Ieee.{Float, lt, le}
-use Rattle.numbers.specs.Reals.{_⊕_, _⊖_, _⊗_, f0, level, million, billion, minOf, absOf}
+use Rattle.numbers.specs.Reals.{_⊕_, _⊖_, _⊗_, f0, noSlope, million, billion, minOf, absOf}
 use Rattle.numbers.specs.Root.{rootOf}
 use Rattle.numbers.specs.Hypot.{hypotOf}
 use Rattle.plane.specs.declared.Triangle.{Triangle}
@@ -93,7 +93,7 @@ sectionSloped s x y g reach = restOf g x y reach (heightOver (profileOf s reach)
 
 unfoldable pub sectionRest : Section → Float → Float → Gradient → Rest
 sectionRest s x y g =
-    cond (lt (g .steep) level) (record { x = x; y = y; drop = s .z0 }) (sectionSloped s x y g (reachOf s (g .steep)))
+    cond (lt (g .steep) noSlope) (record { x = x; y = y; drop = s .z0 }) (sectionSloped s x y g (reachOf s (g .steep)))
 
 -- The candidate of the facet: none on an upright triangle.
 unfoldable pub sectionFacet : Section → Float → Float → Triangle → Facing → Contact

@@ -1,7 +1,7 @@
 // A section of a tool: its profile, its validity, and its contact with one triangle.
 ghost use mathlib.Core.Path.{_≡_};
 ghost use Rattle.golden.specs.Search.{rises, goldenStart, goldenStep, goldenMax, goldenMaxBound};
-ghost use Rattle.section.specs.Flat.{FlatTo};
+ghost use Rattle.section.specs.Inside.{FlatTo};
 ghost use Rattle.section.specs.Section.{within, positiveReach, validSection, profileOf, heightOver, sectionUnder, sectionVertex, sectionVertices, sectionAt, lipschitzOf, sectionStretch, sectionEdge, sectionEdges, reachOf, sectionSloped, sectionRest, sectionFacet, sectionContact};
 use golden::Golden;
 use plane::Contact;

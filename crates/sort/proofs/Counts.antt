@@ -9,7 +9,7 @@ use borrow.Author.Tests.{eqb-true, eqb-false}
 use lib.Dec.{eqb}
 use lib.ListN.{length, getD, set, length-set}
 use lib.Seq.{getD-set-same, getD-set-other}
-use Rattle.sort.specs.Heap.{count, Rearranged, swapped}
+use Rattle.sort.specs.Inside.{count, Rearranged, swapped}
 
 pub on-or-off : (b : Bool) → (b ≡ true) ⊎ (b ≡ false)
 on-or-off true = inl refl

@@ -8,7 +8,7 @@ use native.Mathlib.Omega.{arith}
 use borrow.Author.Tests.{ltb-true, ltb-false}
 use lib.Dec.{eqb, ltb}
 use lib.ListN.{length, getD, set}
-use Rattle.sort.specs.Heap.{Rearranged, swapped, Heap, Within, laterOf}
+use Rattle.sort.specs.Inside.{Rearranged, swapped, Heap, Within, laterOf}
 use Rattle.sort.proofs.Counts.{on-or-off, same-or-not, swapped-at-a, swapped-at-b, swapped-else, swap-rearranges, rearranged-twice}
 
 -- what makes `less` a strict order of all numbers

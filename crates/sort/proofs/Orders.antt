@@ -11,7 +11,7 @@ use lib.ListN.{length, getD, take, drop, length-take, length-drop, take-append-d
 use lib.Seq.{ext-getD, getD-take, getD-drop}
 use Rattle.numbers.proofs.Branches.{either}
 use Rattle.sort.specs.Ranks.{insert, sortedBy}
-use Rattle.sort.specs.Heap.{count, Rearranged}
+use Rattle.sort.specs.Inside.{count, Rearranged}
 use Rattle.sort.proofs.Counts.{on-or-off, same-or-not, count-append}
 use Rattle.sort.proofs.Heaps.{Strict, Tail}
 

@@ -1,2 +1,2 @@
 pub mod Ranks
-pub mod Heap
+pub mod Inside

@@ -4,7 +4,7 @@ ghost use mathlib.Core.List.{_++_};
 ghost use Prim.Native.Nat.{_+_, _*_, _≤_, _<_};
 ghost use lib.ListN.{length, getD, take, drop};
 ghost use Rattle.sort.specs.Ranks.{before, sortedBy};
-ghost use Rattle.sort.specs.Heap.{Rearranged, swapped, Heap, Within, laterOf};
+ghost use Rattle.sort.specs.Inside.{Rearranged, swapped, Heap, Within, laterOf};
 
 // The first k numbers of the list sorted; the others stay.
 pub fn sort(mesh: &[f64], n: usize, list: &mut [u32], k: usize)

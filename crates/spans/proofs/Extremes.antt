@@ -13,7 +13,7 @@ use Rattle.numbers.specs.Reals.{_⊖_, _⊘_, num, maxOf, minOf}
 use Rattle.plane.specs.Mesh.{triangleOf, lowest, highest, boundsOf}
 use Rattle.spans.specs.Mesh.{isCoordinate, boxOf, widened, extentOf}
 use Rattle.spans.specs.Axis.{cellAt, cellsAlong, stretchOf}
-use Rattle.spans.specs.Good.{Near}
+use Rattle.spans.specs.Inside.{Near}
 use Rattle.spans.proofs.Rounding.{round-down-cuts}
 use Rattle.spans.proofs.Ranges.{Coordinate, coordinate, coordinate-finite, le-trans-finite}
 use Rattle.spans.proofs.Sizes.{Size, f0-is, by-test, either-of, le-self, not-below, quotient-low, cells-few, cells-mono}

@@ -13,7 +13,7 @@ use Rattle.numbers.specs.Reals.{f0, million, maxOf, minOf, absOf}
 use Rattle.numbers.proofs.Branches.{no}
 use Rattle.plane.specs.Mesh.{triangleOf}
 use Rattle.spans.specs.Mesh.{isCoordinate, widened, extentOf, farther}
-use Rattle.spans.specs.Good.{Good, AllGood, Corners, Ends, upright}
+use Rattle.spans.specs.Inside.{Good, AllGood, Corners, Ends, notNegative}
 use Rattle.spans.proofs.Signed.{le-apart}
 use Rattle.spans.proofs.Ranges.{million-is}
 use Rattle.spans.proofs.Sizes.{by-test, either-of}
@@ -69,14 +69,14 @@ pub max-not-nan : (x y : Float) → isNan x ≡ false → isNan y ≡ false → 
 max-not-nan x y p q = either-of (λ v. isNan v ≡ false) x y p q
 
 -- ---- magnitudes
-upright-not-nan : (m : Float) → upright m ≡ true → isNan m ≡ false
-unfolding upright isNan
-upright-not-nan nan e = sym e
-upright-not-nan (inf s) e = refl
-upright-not-nan (fin s n k) e = refl
+notNegative-not-nan : (m : Float) → notNegative m ≡ true → isNan m ≡ false
+unfolding notNegative isNan
+notNegative-not-nan nan e = sym e
+notNegative-not-nan (inf s) e = refl
+notNegative-not-nan (fin s n k) e = refl
 
-not-under : (m : Float) (n : ℕ) (k : ℤ) → upright m ≡ true → lt m (fin true n k) ≡ false
-unfolding upright lt
+not-under : (m : Float) (n : ℕ) (k : ℤ) → notNegative m ≡ true → lt m (fin true n k) ≡ false
+unfolding notNegative lt
 not-under nan n k e = refl
 not-under (inf false) n k e = refl
 not-under (inf true) n k e = sym e
@@ -99,34 +99,34 @@ bad-inf : (s : Bool) → Good (inf s) → ⊥
 unfolding isCoordinate absOf
 bad-inf s g = over (rw million-is at g)
 
-size-upright : (x : Float) → Good x → upright (absOf x) ≡ true
-unfolding upright absOf
-size-upright nan g = absurd (bad-nan g)
-size-upright (inf s) g = refl
-size-upright (fin s n k) g = refl
+size-notNegative : (x : Float) → Good x → notNegative (absOf x) ≡ true
+unfolding notNegative absOf
+size-notNegative nan g = absurd (bad-nan g)
+size-notNegative (inf s) g = refl
+size-notNegative (fin s n k) g = refl
 
-pub upright-more : (m x : Float) → upright m ≡ true → Good x → upright (maxOf m (absOf x)) ≡ true
-upright-more m x u g = either-of (λ v. upright v ≡ true) m (absOf x) u (size-upright x g)
+pub notNegative-more : (m x : Float) → notNegative m ≡ true → Good x → notNegative (maxOf m (absOf x)) ≡ true
+notNegative-more m x u g = either-of (λ v. notNegative v ≡ true) m (absOf x) u (size-notNegative x g)
 
-pub upright-zero : upright f0 ≡ true
-unfolding upright ofBits
-upright-zero = refl
+pub notNegative-zero : notNegative f0 ≡ true
+unfolding notNegative ofBits
+notNegative-zero = refl
 
-pub upright-farther : (m x y z : Float) → upright m ≡ true → Good x → Good y → Good z → upright (farther m x y z) ≡ true
+pub notNegative-farther : (m x y z : Float) → notNegative m ≡ true → Good x → Good y → Good z → notNegative (farther m x y z) ≡ true
 unfolding farther
-upright-farther m x y z u p q r = upright-more _ z (upright-more _ y (upright-more m x u p) q) r
+notNegative-farther m x y z u p q r = notNegative-more _ z (notNegative-more _ y (notNegative-more m x u p) q) r
 
-pub larger-not-nan : (m x : Float) → upright m ≡ true → Good x → (isNan m ≡ false) × (isNan (maxOf m x) ≡ false)
-larger-not-nan m x u g = let p = upright-not-nan m u in (p, max-not-nan m x p (good-not-nan x g))
+pub larger-not-nan : (m x : Float) → notNegative m ≡ true → Good x → (isNan m ≡ false) × (isNan (maxOf m x) ≡ false)
+larger-not-nan m x u g = let p = notNegative-not-nan m u in (p, max-not-nan m x p (good-not-nan x g))
 
-pub beyond-is : (m x : Float) → upright m ≡ true → Good x → maxOf (maxOf m x) (neg x) ≡ maxOf m (absOf x)
+pub beyond-is : (m x : Float) → notNegative m ≡ true → Good x → maxOf (maxOf m x) (neg x) ≡ maxOf m (absOf x)
 unfolding neg absOf
 beyond-is m nan u g = absurd (bad-nan g)
 beyond-is m (inf s) u g = absurd (bad-inf s g)
 beyond-is m (fin false n k) u g =
-    let v = either-of (λ v. upright v ≡ true) m (fin false n k) u (unfold upright in refl) in
-    max-stays _ _ (upright-not-nan _ v) (not-under _ n k v)
-beyond-is m (fin true n k) u g = ap (λ (v : Float). maxOf v (fin false n k)) (max-stays m (fin true n k) (upright-not-nan m u) (not-under m n k u))
+    let v = either-of (λ v. notNegative v ≡ true) m (fin false n k) u (unfold notNegative in refl) in
+    max-stays _ _ (notNegative-not-nan _ v) (not-under _ n k v)
+beyond-is m (fin true n k) u g = ap (λ (v : Float). maxOf v (fin false n k)) (max-stays m (fin true n k) (notNegative-not-nan m u) (not-under m n k u))
 
 -- ---- of a mesh
 module _ (mesh : List Float) (good : AllGood mesh) where

@@ -1,3 +1,3 @@
 pub mod Mesh
 pub mod Axis
-pub mod Good
+pub mod Inside

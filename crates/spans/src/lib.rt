@@ -8,7 +8,7 @@ ghost use lib.Dec.{T};
 ghost use lib.Ieee.{isNan, le};
 ghost use Rattle.numbers.specs.Reals.{f0, maxOf, minOf, absOf};
 ghost use Rattle.plane.specs.Mesh.{lowest, highest, boundsOf};
-ghost use Rattle.spans.specs.Good.{Good, AllGood, Corners, Ends, upright, Near};
+ghost use Rattle.spans.specs.Inside.{Good, AllGood, Corners, Ends, notNegative, Near};
 ghost use Rattle.spans.specs.Axis.{spanOf, sizeOf, truncated, cellAt, cellsAlong, stretchOf};
 
 const MILLION: f64 = 1e6;
@@ -154,7 +154,7 @@ pub fn extent_of(mesh: &[f64], n: usize) -> Extent
 
 // The larger of m and the magnitude of x: m, x or -x.
 fn beyond(m: f64, x: f64) -> f64
-    requires { ⌜ (upright m ≡ true) × Good x ⌝ }
+    requires { ⌜ (notNegative m ≡ true) × Good x ⌝ }
     ensures { λ d. ⌜ d ≡ maxOf m (absOf x) ⌝ }
 {
     higher(higher(m, x), -x)
@@ -162,7 +162,7 @@ fn beyond(m: f64, x: f64) -> f64
 
 // The larger of m and the magnitudes of a corner's numbers.
 fn far(m: f64, x: f64, y: f64, z: f64) -> f64
-    requires { ⌜ (upright m ≡ true) × Good x × Good y × Good z ⌝ }
+    requires { ⌜ (notNegative m ≡ true) × Good x × Good y × Good z ⌝ }
     ensures { λ d. ⌜ d ≡ farther m x y z ⌝ }
 {
     beyond(beyond(beyond(m, x), y), z)

@@ -11,7 +11,7 @@ use Rattle.fives.specs.Tables.{written}
 use Rattle.fives.proofs.Writing.{written-at}
 use Rattle.levels.specs.declared.Level.{Level}
 use Rattle.levels.specs.Levels.{fiveOf}
-use Rattle.levels.specs.Steps.{levelIn}
+use Rattle.levels.specs.Inside.{levelIn}
 use borrow.Author.Tests.{lt-ltb, le-ltb}
 use lib.Dec.{ltb}
 use Rattle.rows.specs.declared.Axis.{Axis}
@@ -19,7 +19,7 @@ use Rattle.rows.specs.declared.Spread.{Spread}
 use Rattle.rows.specs.Lanes.{spreadOf, intervalsOf, stepOf, samplesOf}
 use Rattle.terms.specs.declared.Parameters.{Parameters}
 use Rattle.terms.specs.Terms.{anyOf, tooFine}
-use Rattle.terms.specs.Tested.{levelsIn}
+use Rattle.terms.specs.Inside.{levelsIn}
 
 level-read : (t : List Float) (xs ys : List Level) (x : Level) → length xs * 5 + 5 ≤ length t → levelIn (written (map fiveOf (xs ++ x ∷ ys)) t) (length xs) ≡ x
 level-read t xs ys x h =

@@ -3,7 +3,7 @@ ghost use mathlib.Core.Path.{_≡_};
 ghost use Prim.Native.Nat.{_*_, _≤_};
 ghost use lib.ListN.{length};
 ghost use Rattle.terms.specs.Terms.{areThree, areNumbers, areSteps, areHeights, areTerms, tooDeep, tooFine, anyOf};
-ghost use Rattle.terms.specs.Tested.{levelsIn, refusalOfCount};
+ghost use Rattle.terms.specs.Inside.{levelsIn, refusalOfCount};
 use levels::Level;
 use rows::Axis;
 

@@ -9,7 +9,7 @@ use Rattle.plane.specs.declared.Triangle.{Triangle}
 use Rattle.plane.specs.declared.Contact.{Contact}
 use Rattle.plane.specs.declared.Contact.the-variants.{Nothing, Height}
 use Rattle.plane.specs.declared.Spot.{Spot}
-use Rattle.plane.specs.declared.Spot.the-variants.{Flat, At}
+use Rattle.plane.specs.declared.Spot.the-variants.{Nowhere, At}
 use Rattle.plane.specs.declared.Weights.{Weights}
 use Rattle.plane.specs.Contacts.{takeOf}
 use Rattle.plane.specs.Distance.{baryOf, atLeast}
@@ -102,7 +102,7 @@ weighedOf t drop p =
     cond (atLeast p minusSlack) (Height (p .u ⊗ t .az ⊕ p .v ⊗ t .bz ⊕ p .w ⊗ t .cz ⊖ drop)) Nothing
 
 unfoldable pub spotHeight : Triangle → Float → Spot → Contact
-spotHeight t drop Flat = Nothing
+spotHeight t drop Nowhere = Nothing
 spotHeight t drop (At p) = weighedOf t drop p
 
 unfoldable pub facetHeight : Triangle → Rest → Contact

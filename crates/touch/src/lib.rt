@@ -196,7 +196,7 @@ fn spot_height(t: Triangle, drop: f64, s: Spot) -> Contact
     ensures { λ r. ⌜ r ≡ spotHeight t drop s ⌝ }
 {
     match s {
-        Spot::Flat => Contact::Nothing,
+        Spot::Nowhere => Contact::Nothing,
         Spot::At(p) => weighed(t, drop, p),
     }
 }

@@ -8,7 +8,7 @@ use lib.Dec.{eqb}
 use lib.ListN.{length, getD, set}
 use Rattle.numbers.proofs.Branches.{taken, left}
 use Rattle.walk.specs.Walk.{Walk, looked, upTo, marked, fold, clearOf, gathered, walked, chased}
-use Rattle.walk.specs.Steps.{look, strike, struck}
+use Rattle.walk.specs.Inside.{look, strike, struck}
 use Rattle.walk.proofs.Rings.{stopped}
 
 module _ {A : Type 0} (stamp : ℕ) (step : A → ℕ → A) where

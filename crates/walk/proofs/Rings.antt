@@ -11,7 +11,7 @@ use lib.ListN.{length, getD, set, drop, length-set, drop-of-length-le}
 use lib.Seq.{drop-cons, set-getD}
 use Rattle.numbers.proofs.Branches.{either, taken, left}
 use Rattle.walk.specs.Walk.{Walk, over, fold}
-use Rattle.walk.specs.Steps.{look, strike, struck, unmarked, Below, Room}
+use Rattle.walk.specs.Inside.{look, strike, struck, unmarked, Below, Room}
 
 -- ---- a fold over a list taken apart
 module _ {W : Type 0} (s : W → ℕ → W) where

@@ -5,7 +5,7 @@ ghost use Prim.Native.Nat.{_<_};
 ghost use lib.Dec.{eqb};
 ghost use lib.ListN.{length, getD, set, replicate};
 ghost use Rattle.walk.specs.Walk.{cell, nextStamp, readyMarks};
-ghost use Rattle.walk.specs.Steps.{Stretch};
+ghost use Rattle.walk.specs.Inside.{Stretch};
 
 // How many triangles a height question has looked at, and the highest contact so far.
 pub struct Seen {

@@ -14,7 +14,7 @@ use Rattle.grid.specs.Index.{Index, SoundIndex}
 use Rattle.header.specs.Head.{headUsable}
 use Rattle.header.proofs.Ranges.{Headed, headed-is}
 use Rattle.walk.specs.Walk.{cell}
-use Rattle.walk.specs.Steps.{Walkable}
+use Rattle.walk.specs.Inside.{Walkable}
 use Rattle.query.specs.Usable.{every, each, triangleUsable, cellUsable, usableWhole}
 use Rattle.query.proofs.Testing.{in-rows}
 use Rattle.query.proofs.Using.{every-at, each-at}

@@ -1,5 +1,5 @@
 use Rattle.numbers.proofs.Branches.{branches}
-use Rattle.bound.specs.Nearer.{nearerOf}
+use Rattle.bound.specs.Inside.{nearerOf}
 use Rattle.bound.proofs.nearer.Statement.{statement}
 use Rattle.bound.proofs.nearer.Tie as tie
 

@@ -1,4 +1,4 @@
-use Rattle.bull.specs.Way.{wayAt}
+use Rattle.bull.specs.Inside.{wayAt}
 use Rattle.bull.proofs.Flats.{flat-at}
 use Rattle.bull.proofs.at.Statement.{statement}
 use Rattle.bull.proofs.at.Tie as tie

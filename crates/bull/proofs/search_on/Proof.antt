@@ -4,7 +4,7 @@ use borrow.Author.Needs.{needs}
 use native.Mathlib.Omega.{arith}
 use Rattle.golden.specs.Search.{rises, goldenAt}
 use Rattle.golden.proofs.Turns.{search-laws}
-use Rattle.bull.specs.Way.{wayAt}
+use Rattle.bull.specs.Inside.{wayAt}
 use Rattle.bull.proofs.search_on.Statement.{statement}
 use Rattle.bull.proofs.search_on.Tie as tie
 

@@ -1,9 +1,9 @@
-use Rattle.capsule.specs.Candidates.{riseOf, upright}
+use Rattle.capsule.specs.Candidates.{riseOf, determinantOf}
 use Rattle.capsule.proofs.rise_of.Statement.{statement}
 use Rattle.capsule.proofs.rise_of.Tie as tie
 
 returns : tie.Need-returns
-unfolding riseOf upright
+unfolding riseOf determinantOf
 returns c = rw (c .hypot .ensures)
 
 pub rise-of-spec : {M : Type 1} → statement M

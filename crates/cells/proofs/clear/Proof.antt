@@ -1,7 +1,7 @@
 -- `cells::clear` meets its contract. At entry c those before it are 0, the others as they were. What is left of 0..k falls.
 use Prim.Native.Nat.{_-_, _≤_}
 use native.Mathlib.Omega.{arith}
-use Rattle.cells.specs.Steps.{Cleared}
+use Rattle.cells.specs.Inside.{Cleared}
 use Rattle.cells.proofs.Entries.{cleared-none, cleared-more, cleared-as}
 use Rattle.cells.proofs.clear.Statement.{statement}
 use Rattle.cells.proofs.clear.Tie as tie

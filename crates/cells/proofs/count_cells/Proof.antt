@@ -2,7 +2,7 @@
 use Prim.Native.Nat.{_+_, _-_, _*_, _≤_, max}
 use mathlib.Core.Path.{_≡_}
 use native.Mathlib.Omega.{arith}
-use Rattle.cells.specs.Steps.{Counted}
+use Rattle.cells.specs.Inside.{Counted}
 use Rattle.cells.proofs.Sets.{rowsUnder, rows-none, rows-end, row-more, row-fits, row-covered, row-new, none-covered}
 use Rattle.cells.proofs.Entries.{counted-none, counted-join, counted-as}
 use Rattle.cells.proofs.count_cells.Statement.{statement}

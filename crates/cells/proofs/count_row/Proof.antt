@@ -3,7 +3,7 @@ use Prim.Native.Nat.{_+_, _-_, _^_, _≤_, _<_, max}
 use native.Mathlib.Omega.{arith}
 use lib.ListN.{length, getD}
 use denote.Ref.{now}
-use Rattle.cells.specs.Steps.{between, Counted}
+use Rattle.cells.specs.Inside.{between, Counted}
 use Rattle.cells.proofs.Sets.{between-more, between-none, between-on, between-ends, over-between}
 use Rattle.cells.proofs.Entries.{counted-one, counted-none, counted-join, counted-as}
 use Rattle.cells.proofs.count_row.Statement.{statement}

@@ -2,7 +2,7 @@
 use Prim.Native.Nat.{_+_, _-_, _*_, _≤_, max}
 use mathlib.Core.Path.{_≡_}
 use native.Mathlib.Omega.{arith}
-use Rattle.cells.specs.Steps.{Placed}
+use Rattle.cells.specs.Inside.{Placed}
 use Rattle.cells.proofs.Sets.{rowsUnder, rows-none, rows-end, row-more, row-fits, row-covered, row-new, none-covered}
 use Rattle.cells.proofs.Entries.{placed-none, placed-join, placed-as, open-part}
 use Rattle.cells.proofs.place_cells.Statement.{statement}

@@ -2,7 +2,7 @@
 use Prim.Native.Nat.{_-_, _≤_, _<_, max}
 use native.Mathlib.Omega.{arith}
 use lib.ListN.{length, getD}
-use Rattle.cells.specs.Steps.{between, Placed}
+use Rattle.cells.specs.Inside.{between, Placed}
 use Rattle.cells.proofs.Sets.{between-more, between-none, between-on, between-ends, over-between}
 use Rattle.cells.proofs.Entries.{placed-one, placed-none, placed-join, placed-as}
 use Rattle.cells.proofs.place_row.Statement.{statement}

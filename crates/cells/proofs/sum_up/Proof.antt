@@ -3,7 +3,7 @@ use Prim.Native.Nat.{_+_, _-_, _≤_, _<_}
 use native.Mathlib.Omega.{arith}
 use lib.ListN.{length}
 use denote.Ref.{now}
-use Rattle.cells.specs.Steps.{Summed, entry}
+use Rattle.cells.specs.Inside.{Summed, entry}
 use Rattle.cells.proofs.Entries.{summed-none, summed-more, summed-here, summed-as, sums-mono}
 use Rattle.cells.proofs.sum_up.Statement.{statement}
 use Rattle.cells.proofs.sum_up.Tie as tie

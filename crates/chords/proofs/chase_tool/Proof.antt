@@ -9,7 +9,7 @@ use borrow.Author.Tests.{not-true, not-false}
 use denote.Ref.{now}
 use lib.ListN.{length, getD, drop}
 use Rattle.walk.specs.Walk.{over, cell, row, block, fold}
-use Rattle.walk.specs.Steps.{judged, strike, Below}
+use Rattle.walk.specs.Inside.{judged, strike, Below}
 use Rattle.walk.proofs.Rings.{Going, going-starts, member-turns, members-end, ring-turns, ring-ends, member-blocks, ring-blocks, kept-trans, kept-room, strike-keeps}
 use Rattle.chords.specs.Chords.{toolBlocksAt}
 use Rattle.chords.proofs.Asking.{struck-keeps}

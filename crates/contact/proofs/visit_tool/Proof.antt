@@ -5,7 +5,7 @@ use native.Mathlib.Omega.{arith}
 use lib.ListN.{length}
 use denote.Ref.{now}
 use Rattle.walk.specs.Walk.{over, cell, row, block, fold}
-use Rattle.walk.specs.Steps.{seen, look, Below, Stretch}
+use Rattle.walk.specs.Inside.{seen, look, Below, Stretch}
 use Rattle.walk.proofs.Rings.{Going, going-starts, ring-turns, ring-ends, kept-trans, kept-room}
 use Rattle.contact.specs.Contact.{toolStep}
 use Rattle.ask.proofs.Answers.{cell-keeps}

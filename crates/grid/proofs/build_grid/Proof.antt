@@ -7,7 +7,7 @@ use lib.ListN.{length}
 use denote.Ref.{now}
 use Rattle.grid.specs.declared.Grid.{Grid}
 use Rattle.grid.specs.Grid.{trianglesIn, cellsIn}
-use Rattle.grid.specs.Parts.{Gridded}
+use Rattle.grid.specs.Inside.{Gridded}
 use Rattle.grid.proofs.Accepting.{accepted, gridded-refused, gridded-next, found-passed}
 use Rattle.grid.proofs.Indexing.{grid-fits, grid-gridded}
 use Rattle.grid.proofs.build_grid.Statement.{statement}

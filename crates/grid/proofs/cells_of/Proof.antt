@@ -2,7 +2,7 @@
 use mathlib.Core.Path.{subst⁻¹}
 use borrow.Author.Needs.{needs}
 use Rattle.plane.specs.declared.Bounds.{Bounds}
-use Rattle.grid.specs.Parts.{NearBox}
+use Rattle.grid.specs.Inside.{NearBox}
 use Rattle.grid.proofs.Gridding.{cells-are}
 use Rattle.grid.proofs.cells_of.Statement.{statement}
 use Rattle.grid.proofs.cells_of.Tie as tie

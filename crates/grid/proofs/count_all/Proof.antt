@@ -5,7 +5,7 @@ use native.Mathlib.Omega.{arith}
 use denote.Ref.{now}
 use Rattle.cells.specs.declared.Cells.{Cells}
 use Rattle.cells.specs.Cover.{covers}
-use Rattle.cells.specs.Steps.{CountedAll, Fitting, Countable}
+use Rattle.cells.specs.Inside.{CountedAll, Fitting, Countable}
 use Rattle.grid.specs.Grid.{coverOf}
 use Rattle.grid.proofs.Gridding.{fitting}
 use Rattle.cells.proofs.Members.{members-le}

@@ -4,7 +4,7 @@ use mathlib.Core.Path.{subst⁻¹}
 use native.Mathlib.Omega.{arith}
 use Rattle.cells.specs.declared.Cells.{Cells}
 use Rattle.cells.specs.Cover.{covers}
-use Rattle.cells.specs.Steps.{Fitting, Open, Filled}
+use Rattle.cells.specs.Inside.{Fitting, Open, Filled}
 use Rattle.grid.specs.Grid.{coverOf}
 use Rattle.grid.proofs.Gridding.{fitting}
 use Rattle.cells.proofs.Filling.{filled-none, filled-open, filled-more, filled-as}

@@ -12,9 +12,9 @@ use Rattle.numbers.specs.Reals.{num}
 use Rattle.runs.specs.declared.Run.{Run}
 use Rattle.runs.specs.Pieces.{piecesOf}
 use Rattle.runs.proofs.Chaining.{whole}
-use Rattle.runs.specs.Tallies.{work, takenBy, takenAll}
+use Rattle.runs.specs.Inside.{work, takenBy, takenAll}
 use Rattle.probe.specs.Probe.{heightUnder, clear}
-use Rattle.probe.specs.Asked.{Marked, splitsOf}
+use Rattle.probe.specs.Inside.{Marked, splitsOf}
 use Rattle.halving.proofs.Halving.{stackOf, waiting, weight, Stacked, stack-takes, takes-less, split-fits, split-stacked, stack-splits, splits-less, some-left, stack-ends, waiting-first, stacked-less, falls, one-more}
 use Rattle.halving.proofs.halve.Statement.{statement}
 use Rattle.halving.proofs.halve.Tie as tie

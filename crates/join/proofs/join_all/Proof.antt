@@ -7,7 +7,7 @@ use lib.Ieee.{Float}
 use lib.ListN.{length}
 use mathlib.Core.List.{List}
 use Rattle.fives.specs.Tables.{roomOf}
-use Rattle.runs.specs.Tallies.{Work, work, takenBy}
+use Rattle.runs.specs.Inside.{Work, work, takenBy}
 use Rattle.runs.specs.declared.Tally.{Tally}
 use Rattle.join.proofs.Taking.{Taken, taken-starts, taken-goes, taken-ends}
 use Rattle.join.proofs.join_all.Statement.{statement}

@@ -5,9 +5,9 @@ use native.Mathlib.Omega.{arith}
 use borrow.Author.Needs.{needs}
 use lib.ListN.{length}
 use Rattle.grid.specs.Index.{indexOf}
-use Rattle.runs.specs.Tallies.{work}
+use Rattle.runs.specs.Inside.{work}
 use Rattle.probe.specs.Probe.{heightUnder}
-use Rattle.probe.specs.Asked.{Marked}
+use Rattle.probe.specs.Inside.{Marked}
 use Rattle.search.specs.Search.{laneOf}
 use Rattle.lanes.proofs.Directing.{Laning, laning-starts, laning-goes, laning-ends, coarse-rows, coarse-samples, level-is}
 use Rattle.lanes.proofs.search_level.Statement.{statement}

@@ -6,9 +6,9 @@ use borrow.Author.Needs.{needs}
 use lib.ListN.{length}
 use Rattle.grid.specs.Index.{indexOf}
 use Rattle.runs.specs.declared.Tally.{Tally}
-use Rattle.runs.specs.Tallies.{work}
+use Rattle.runs.specs.Inside.{work}
 use Rattle.probe.specs.Probe.{heightUnder}
-use Rattle.probe.specs.Asked.{Marked}
+use Rattle.probe.specs.Inside.{Marked}
 use Rattle.lanes.proofs.Sweeping.{Sweeping, sweeping-starts, sweeping-coarse, sweeping-goes, sweeping-ends}
 use Rattle.lanes.proofs.Finding.{searched}
 use Rattle.lanes.proofs.search_levels.Statement.{statement}

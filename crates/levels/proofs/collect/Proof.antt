@@ -4,7 +4,7 @@ use mathlib.Core.Path.{_≡_, refl, sym, ap, _∙_}
 use Rattle.plane.specs.Mesh.{triangleOf}
 use Rattle.plane.specs.declared.Triangle.{Triangle}
 use Rattle.levels.specs.Levels.{openedBy}
-use Rattle.levels.specs.Steps.{grownBy}
+use Rattle.levels.specs.Inside.{grownBy}
 use native.Mathlib.Omega.{arith}
 use borrow.Author.Needs.{needs}
 use Rattle.levels.proofs.Gathering.{number-below}

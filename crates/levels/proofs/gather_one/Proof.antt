@@ -1,4 +1,4 @@
-use Rattle.levels.specs.Steps.{gatheredOne}
+use Rattle.levels.specs.Inside.{gatheredOne}
 use mathlib.Core.Path.{_≡_, refl, sym, ap, _∙_}
 use Rattle.numbers.proofs.Branches.{taken, left}
 use Rattle.plane.specs.Mesh.{triangleOf}

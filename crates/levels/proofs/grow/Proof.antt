@@ -3,7 +3,7 @@ use native.Mathlib.Omega.{arith}
 use mathlib.Core.Path.{_≡_, refl, sym, ap, _∙_}
 use Rattle.numbers.proofs.Branches.{taken, left}
 use Rattle.levels.specs.Levels.{joinsLevel}
-use Rattle.levels.specs.Steps.{grownBy}
+use Rattle.levels.specs.Inside.{grownBy}
 use Rattle.levels.proofs.grow.Statement.{statement}
 use Rattle.levels.proofs.grow.Tie as tie
 use Rattle.levels.proofs.grow.Reads as reads

@@ -4,7 +4,7 @@ use mathlib.Core.Path.{_≡_, refl}
 use native.Mathlib.Nat.{add-zero}
 use native.Mathlib.Omega.{arith}
 use lib.ListN.{length, take, length-set}
-use Rattle.lines.specs.Wrote.{Wrote}
+use Rattle.lines.specs.Inside.{Wrote}
 use Rattle.lines.proofs.Texts.{nothing, word-more, word-ends}
 use Rattle.lines.proofs.put_word.Statement.{statement}
 use Rattle.lines.proofs.put_word.Tie as tie

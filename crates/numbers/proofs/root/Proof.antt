@@ -10,7 +10,7 @@ use lib.Ieee.{fin, minus, binary64, fits, toBits, ofFields}
 use mir.Syntax.{w64}
 use mir.Val.{toZ, ofZ}
 use Rattle.numbers.specs.Root.{rootOf}
-use Rattle.numbers.specs.Parts.{Exponent, leastNormal}
+use Rattle.numbers.specs.Inside.{Exponent, leastNormal}
 use Rattle.numbers.proofs.Exponents.{returned}
 use Rattle.numbers.proofs.Patterns.{ordered, apart, exponentOf, fractionOf, exponent-lt, fraction-lt, leading}
 use Rattle.numbers.proofs.Fields.{root-infinite, root-normal, exponent-minus}

@@ -3,7 +3,7 @@ use mathlib.Core.Path.{_≡_, ap}
 use borrow.Author.Tests.{ne-eqb}
 use lib.Ieee.{Float, le}
 use Rattle.numbers.proofs.Branches.{left, branches}
-use Rattle.probe.specs.Asked.{splitsOf}
+use Rattle.probe.specs.Inside.{splitsOf}
 use Rattle.probe.proofs.splits.Statement.{statement}
 use Rattle.probe.proofs.splits.Tie as tie
 

@@ -1,6 +1,6 @@
 -- `query::squares` meets its contract.
 use mathlib.Core.Path.{refl}
-use Rattle.query.specs.Near.{squaresOf}
+use Rattle.query.specs.Inside.{squaresOf}
 use Rattle.query.proofs.squares.Statement.{statement}
 use Rattle.query.proofs.squares.Tie as tie
 

@@ -1,8 +1,8 @@
-use Rattle.runs.specs.Tallies.{Work, work}
+use Rattle.runs.specs.Inside.{Work, work}
 use Rattle.numbers.proofs.Branches.{bool-called}
 use mathlib.Core.Bool.{true}
 use mathlib.Core.Path.{_≡_, refl, ap}
-use Rattle.runs.specs.Tallies.{keptBy}
+use Rattle.runs.specs.Inside.{keptBy}
 use Rattle.numbers.proofs.Branches.{taken, left}
 use borrow.Author.Needs.{needs}
 use Rattle.runs.proofs.keep.Statement.{statement}

@@ -1,4 +1,4 @@
-use Rattle.runs.specs.Tallies.{leftBy}
+use Rattle.runs.specs.Inside.{leftBy}
 use borrow.Author.Needs.{needs}
 use Rattle.runs.proofs.leave.Statement.{statement}
 use Rattle.runs.proofs.leave.Tie as tie

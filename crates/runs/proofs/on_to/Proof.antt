@@ -1,4 +1,4 @@
-use Rattle.runs.specs.Tallies.{onTo}
+use Rattle.runs.specs.Inside.{onTo}
 use Rattle.numbers.proofs.Branches.{branches}
 use borrow.Author.Needs.{needs}
 use Rattle.runs.proofs.on_to.Statement.{statement}

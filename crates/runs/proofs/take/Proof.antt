@@ -1,6 +1,6 @@
-use Rattle.runs.specs.Tallies.{work}
+use Rattle.runs.specs.Inside.{work}
 use mathlib.Core.Path.{_≡_, refl, ap}
-use Rattle.runs.specs.Tallies.{takenBy}
+use Rattle.runs.specs.Inside.{takenBy}
 use Rattle.numbers.proofs.Branches.{taken, left}
 use borrow.Author.Needs.{needs}
 use Rattle.runs.proofs.take.Statement.{statement}

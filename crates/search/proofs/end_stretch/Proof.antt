@@ -4,7 +4,7 @@ use borrow.Author.Needs.{needs}
 use Rattle.grid.specs.Index.{indexOf}
 use Rattle.halving.specs.declared.Stand.{Stand}
 use Rattle.runs.specs.Pieces.{piecesOf}
-use Rattle.runs.specs.Tallies.{work, takenAll}
+use Rattle.runs.specs.Inside.{work, takenAll}
 use Rattle.probe.specs.Probe.{heightUnder, clear}
 use Rattle.search.proofs.Walking.{short-row, long-row}
 use Rattle.search.proofs.end_stretch.Statement.{statement}

@@ -1,6 +1,6 @@
 use native.Mathlib.Omega.{arith}
 use Rattle.numbers.proofs.Branches.{branches}
-use Rattle.search.specs.Steps.{numberOf}
+use Rattle.search.specs.Inside.{numberOf}
 use Rattle.search.proofs.number.Statement.{statement}
 use Rattle.search.proofs.number.Tie as tie
 

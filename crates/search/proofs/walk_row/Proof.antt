@@ -5,9 +5,9 @@ use native.Mathlib.Omega.{arith}
 use borrow.Author.Needs.{needs}
 use lib.ListN.{length}
 use Rattle.grid.specs.Index.{indexOf}
-use Rattle.runs.specs.Tallies.{work}
+use Rattle.runs.specs.Inside.{work}
 use Rattle.probe.specs.Probe.{heightUnder}
-use Rattle.probe.specs.Asked.{Marked}
+use Rattle.probe.specs.Inside.{Marked}
 use Rattle.search.proofs.Walking.{Rowing, rowing-starts, rowing-goes, rowing-ends}
 use Rattle.search.proofs.walk_row.Statement.{statement}
 use Rattle.search.proofs.walk_row.Tie as tie

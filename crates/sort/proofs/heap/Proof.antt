@@ -4,7 +4,7 @@ use native.Mathlib.Nat.{div-add-mod', mod-lt}
 use native.Mathlib.Omega.{arith}
 use borrow.Author.Needs.{needs}
 use Rattle.sort.specs.Ranks.{before}
-use Rattle.sort.specs.Heap.{Rearranged, Heap}
+use Rattle.sort.specs.Inside.{Rearranged, Heap}
 use Rattle.sort.proofs.Counts.{rearranged-none, rearranged-twice}
 use Rattle.sort.proofs.Heaps.{within-kept}
 use Rattle.sort.proofs.heap.Statement.{statement}

@@ -1,7 +1,7 @@
 use native.Mathlib.Omega.{arith}
 use borrow.Author.Tests.{ltb-true}
 use Rattle.numbers.proofs.Branches.{flags}
-use Rattle.sort.specs.Heap.{laterOf}
+use Rattle.sort.specs.Inside.{laterOf}
 use borrow.Author.Needs.{needs}
 use Rattle.sort.proofs.later.Statement.{statement}
 use Rattle.sort.proofs.later.Tie as tie

@@ -4,7 +4,7 @@ use mathlib.Core.Path.{_≡_, _∙_}
 use native.Mathlib.Omega.{arith}
 use borrow.Author.Needs.{needs}
 use Rattle.sort.specs.Ranks.{before}
-use Rattle.sort.specs.Heap.{swapped, Rearranged}
+use Rattle.sort.specs.Inside.{swapped, Rearranged}
 use Rattle.sort.proofs.Counts.{rearranged-none, rearranged-twice}
 use Rattle.sort.proofs.Heaps.{Sorting, sorting-starts, sorting-ready, sorting-goes, within-kept}
 use Rattle.sort.proofs.Orders.{sorted-is}

@@ -4,7 +4,7 @@ use borrow.Author.Needs.{needs}
 use Rattle.plane.specs.declared.Triangle.{Triangle}
 use Rattle.plane.specs.Mesh.{boundsOf}
 use Rattle.spans.specs.Mesh.{boxOf}
-use Rattle.spans.specs.Good.{Corners}
+use Rattle.spans.specs.Inside.{Corners}
 use Rattle.spans.proofs.Plain.{corners}
 use Rattle.spans.proofs.box_of.Statement.{statement}
 use Rattle.spans.proofs.box_of.Tie as tie

@@ -4,7 +4,7 @@ use mathlib.Core.Path.{_≡_, _∙_, ap, subst⁻¹}
 use native.Mathlib.Omega.{arith}
 use denote.Ref.{now}
 use Rattle.spans.specs.Mesh.{extentOf}
-use Rattle.spans.specs.Good.{Ends}
+use Rattle.spans.specs.Inside.{Ends}
 use Rattle.spans.specs.declared.Extent.{Extent}
 use Rattle.spans.proofs.Plain.{ends}
 use Rattle.spans.proofs.Folding.{extent-none, extent-more}

@@ -3,24 +3,24 @@ use mathlib.Core.Bool.{true}
 use mathlib.Core.Path.{_≡_, subst⁻¹}
 use lib.Ieee.{Float}
 use Rattle.spans.specs.Mesh.{farthestOf}
-use Rattle.spans.specs.Good.{upright}
-use Rattle.spans.proofs.Plain.{upright-zero, upright-farther}
+use Rattle.spans.specs.Inside.{notNegative}
+use Rattle.spans.proofs.Plain.{notNegative-zero, notNegative-farther}
 use Rattle.spans.proofs.farthest.Statement.{statement}
 use Rattle.spans.proofs.farthest.Tie as tie
 
 far-requires : tie.Need-far-requires
-far-requires c κs = let g = c .pre in (upright-zero, g .ax, g .ay, g .az)
+far-requires c κs = let g = c .pre in (notNegative-zero, g .ax, g .ay, g .az)
 
 far-requires-2 : tie.Need-far-requires-2
 far-requires-2 c κs =
     let g = c .before .pre in
-    (subst⁻¹ (λ (v : Float). upright v ≡ true) (c .far .ensures) (upright-farther _ _ _ _ upright-zero (g .ax) (g .ay) (g .az)), g .bx, g .by, g .bz)
+    (subst⁻¹ (λ (v : Float). notNegative v ≡ true) (c .far .ensures) (notNegative-farther _ _ _ _ notNegative-zero (g .ax) (g .ay) (g .az)), g .bx, g .by, g .bz)
 
 far-requires-3 : tie.Need-far-requires-3
 far-requires-3 c κs =
     let g = c .before .before .pre in
     let u = far-requires-2 (c .before) (c .far2 .lifetimes) .0 in
-    (subst⁻¹ (λ (v : Float). upright v ≡ true) (c .far2 .ensures) (upright-farther _ _ _ _ u (g .bx) (g .by) (g .bz)), g .cx, g .cy, g .cz)
+    (subst⁻¹ (λ (v : Float). notNegative v ≡ true) (c .far2 .ensures) (notNegative-farther _ _ _ _ u (g .bx) (g .by) (g .bz)), g .cx, g .cy, g .cz)
 
 returns : tie.Need-returns
 unfolding farthestOf

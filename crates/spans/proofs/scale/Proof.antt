@@ -5,7 +5,7 @@ use native.Mathlib.Omega.{arith}
 use denote.Ref.{now}
 use Rattle.spans.specs.Mesh.{scaleOf}
 use Rattle.plane.specs.declared.Triangle.{Triangle}
-use Rattle.spans.specs.Good.{Corners}
+use Rattle.spans.specs.Inside.{Corners}
 use Rattle.spans.proofs.Plain.{corners}
 use Rattle.spans.proofs.Folding.{scale-none, scale-more}
 use Rattle.spans.proofs.scale.Statement.{statement}

@@ -3,9 +3,9 @@ use Prim.Native.Nat.{_≤_, _-_}
 use mathlib.Core.Path.{_≡_, sym, ap, _∙_}
 use native.Mathlib.Omega.{arith}
 use Rattle.levels.specs.declared.Level.{Level}
-use Rattle.levels.specs.Steps.{levelIn}
+use Rattle.levels.specs.Inside.{levelIn}
 use Rattle.terms.specs.Terms.{tooDeep, anyOf}
-use Rattle.terms.specs.Tested.{levelsIn}
+use Rattle.terms.specs.Inside.{levelsIn}
 use Rattle.terms.proofs.Testing.{any-starts, any-holds, any-goes, any-end}
 use Rattle.terms.proofs.any_deep.Statement.{statement}
 use Rattle.terms.proofs.any_deep.Tie as tie

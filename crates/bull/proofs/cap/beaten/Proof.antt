@@ -1,6 +1,6 @@
 use mathlib.Core.Path.{_≡_, refl, ap, sym, _∙_}
 use Rattle.numbers.proofs.Branches.{taken, left, bool-called}
-use Rattle.bull.specs.Cap.{beatenOf, underOf}
+use Rattle.bull.specs.Inside.{beatenOf, underOf}
 use Rattle.bull.proofs.cap.beaten.Statement.{statement}
 use Rattle.bull.proofs.cap.beaten.Tie as tie
 

@@ -1,5 +1,5 @@
 use Rattle.numbers.proofs.Branches.{branches}
-use Rattle.bull.specs.Cap.{isUnit}
+use Rattle.bull.specs.Inside.{isUnit}
 use Rattle.bull.proofs.cap.is_unit.Statement.{statement}
 use Rattle.bull.proofs.cap.is_unit.Tie as tie
 

@@ -1,4 +1,4 @@
-use Rattle.bull.specs.Cap.{leastOf}
+use Rattle.bull.specs.Inside.{leastOf}
 use Rattle.bull.proofs.cap.least.Statement.{statement}
 use Rattle.bull.proofs.cap.least.Tie as tie
 

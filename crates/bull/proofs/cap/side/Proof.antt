@@ -1,4 +1,4 @@
-use Rattle.bull.specs.Cap.{sideOf}
+use Rattle.bull.specs.Inside.{sideOf}
 use Rattle.bull.proofs.cap.side.Statement.{statement}
 use Rattle.bull.proofs.cap.side.Tie as tie
 

@@ -1,6 +1,6 @@
 use mathlib.Core.Path.{_≡_, refl, ap, sym, _∙_}
 use Rattle.numbers.proofs.Branches.{and-on, and-off, bool-called}
-use Rattle.bull.specs.Cap.{sidesTame}
+use Rattle.bull.specs.Inside.{sidesTame}
 use Rattle.bull.proofs.cap.sides_tame.Statement.{statement}
 use Rattle.bull.proofs.cap.sides_tame.Tie as tie
 

@@ -1,6 +1,6 @@
 use mathlib.Core.Path.{_≡_, refl, ap, sym, _∙_}
 use Rattle.numbers.proofs.Branches.{and-on, and-off, bool-called}
-use Rattle.bull.specs.Cap.{tameOf}
+use Rattle.bull.specs.Inside.{tameOf}
 use Rattle.bull.proofs.cap.tame.Statement.{statement}
 use Rattle.bull.proofs.cap.tame.Tie as tie
 

@@ -1,6 +1,6 @@
 use mathlib.Core.Path.{_≡_, refl, ap, sym, _∙_}
 use Rattle.numbers.proofs.Branches.{taken, left}
-use Rattle.bull.specs.Cap.{underOf, capOf}
+use Rattle.bull.specs.Inside.{underOf, capOf}
 use Rattle.bull.proofs.cap.under.Statement.{statement}
 use Rattle.bull.proofs.cap.under.Tie as tie
 

@@ -2,7 +2,7 @@ use mathlib.Core.Path.{ap}
 use Prim.Native.Nat.{_/_, _^_, _<_}
 use native.Mathlib.Omega.{arith}
 use lib.IntN.{natAbs}
-use Rattle.numbers.specs.Parts.{lifted}
+use Rattle.numbers.specs.Inside.{lifted}
 use Rattle.numbers.proofs.Exponents.{halved-is, lifted-lt, cast-fits, kept, pos-fits}
 use Rattle.numbers.proofs.roots.halved.Statement.{statement}
 use Rattle.numbers.proofs.roots.halved.Tie as tie

@@ -2,7 +2,7 @@ use mathlib.Core.Path.{ap}
 use Prim.Native.Nat.{ℕ, _%_, _^_, _<_}
 use native.Mathlib.Omega.{arith}
 use lib.IntN.{natAbs}
-use Rattle.numbers.specs.Parts.{lifted}
+use Rattle.numbers.specs.Inside.{lifted}
 use Rattle.numbers.proofs.Exponents.{odd-is, cast-fits}
 use Rattle.numbers.proofs.roots.odd.Statement.{statement}
 use Rattle.numbers.proofs.roots.odd.Tie as tie

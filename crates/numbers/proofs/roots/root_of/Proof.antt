@@ -5,7 +5,7 @@ use borrow.Author.Needs.{needs}
 use lib.IntN.{ℤ}
 use mir.Syntax.{w64}
 use mir.ValLaws.{toZ-ofZ}
-use Rattle.numbers.specs.Parts.{lifted}
+use Rattle.numbers.specs.Inside.{lifted}
 use Rattle.numbers.proofs.Units.{bits-fit, bits-no-nan, bits-root}
 use Rattle.numbers.proofs.roots.root_of.Statement.{statement}
 use Rattle.numbers.proofs.roots.root_of.Tie as tie

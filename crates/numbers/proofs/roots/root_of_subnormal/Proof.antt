@@ -10,7 +10,7 @@ use lib.Ieee.{fin, minus}
 use mir.Syntax.{w64}
 use mir.Val.{toZ, ofZ}
 use Rattle.numbers.specs.Root.{rootOf}
-use Rattle.numbers.specs.Parts.{Exponent}
+use Rattle.numbers.specs.Inside.{Exponent}
 use Rattle.numbers.proofs.Exponents.{returned}
 use Rattle.numbers.proofs.Fields.{Shifted, shifted-up, exponent-minus, root-shifted}
 use Rattle.numbers.proofs.roots.root_of_subnormal.Statement.{statement}

@@ -1,6 +1,4 @@
--- What the tip's height over an edge does not exceed. The cutter's height over its tip grows with the distance from the axis, so the edge's higher end less the
--- profile at the edge's least distance is such a height. The least distance is taken from the edge's box in plan. No answer is defined by this: an edge that cannot
--- exceed the best so far is left out, and the contact is what `Bull` says.
+-- What the functions inside the contact promise each other; no answer is defined here.
 use mathlib.Core.Bool.{Bool, true, false, cond, _&&_}
 use lib.Ieee.{Float, le}
 use Rattle.numbers.specs.Reals.{_⊕_, _⊖_, _⊗_, f0, f1, maxOf, minOf}
@@ -8,9 +6,16 @@ use Rattle.numbers.specs.Root.{rootOf}
 use Rattle.touch.specs.declared.Edge.{Edge}
 use Rattle.touch.specs.Touch.{along}
 use Rattle.spans.specs.Mesh.{isCoordinate, isRadius}
-use Rattle.bound.specs.Nearer.{nearerOf}
+use Rattle.bound.specs.Inside.{nearerOf}
 use Rattle.bull.specs.declared.Bull.{Bull}
 use Rattle.bull.specs.Bull.{bullProfile}
+use Rattle.numbers.specs.Hypot.{hypotOf}
+use Rattle.bull.specs.declared.Way.{Way}
+use mathlib.Core.Path.{_≡_}
+
+-- What the tip's height over an edge does not exceed. The cutter's height over its tip grows with the distance from the axis, so the edge's higher end less the
+-- profile at the edge's least distance is such a height. The least distance is taken from the edge's box in plan. No answer is defined by this: an edge that cannot
+-- exceed the best so far is left out, and the contact is what `Bull` says.
 
 -- How near to x the coordinates from a to b come, with its sign.
 unfoldable pub sideOf : Float → Float → Float → Float
@@ -51,3 +56,17 @@ beatenOf k e b = cond (tameOf k e) (underOf k e (minOf (leastOf k e) (k .r)) b) 
 -- From 0 to 1.
 unfoldable pub isUnit : Float → Bool
 isUnit t = le f0 t && le t f1
+
+-- An edge as the search reads it: where it starts and how far its end lies from there. The tip's height over it is `bullAt`, with the differences taken once.
+
+abbrev pub wayOf : Edge → Way
+wayOf e = record { ax = e .ax; ay = e .ay; ex = e .bx ⊖ e .ax; ey = e .by ⊖ e .ay; az = e .az; ez = e .bz ⊖ e .az }
+
+unfoldable pub wayAt : Bull → Way → Float → Float
+wayAt k w t =
+    w .az ⊕ t ⊗ w .ez ⊖ bullProfile (minOf (hypotOf (w .ax ⊕ t ⊗ w .ex ⊖ k .x) (w .ay ⊕ t ⊗ w .ey ⊖ k .y)) (k .r)) (k .r) (k .rc)
+
+-- What the functions inside the search promise each other: a sum of two squares that is at most `flat` belongs to a distance within the cutter's flat part.
+
+pub record FlatTo (k : Bull) (flat : Float) : Type 0 where
+  pub near : (p q : Float) → le (p ⊗ p ⊕ q ⊗ q) flat ≡ true → le (minOf (hypotOf p q) (k .r) ⊖ (k .r ⊖ k .rc)) f0 ≡ true

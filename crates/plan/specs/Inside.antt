@@ -17,7 +17,7 @@ use Rattle.runs.specs.Pieces.{keptOf, droppedBy}
 use Rattle.rows.specs.declared.Axis.{Axis}
 use Rattle.terms.specs.declared.Parameters.{Parameters}
 use Rattle.terms.specs.Terms.{refusalOfLevels}
-use Rattle.probe.specs.Asked.{Askable}
+use Rattle.probe.specs.Inside.{Askable}
 use Rattle.search.specs.Search.{Found}
 use Rattle.plan.specs.declared.Planned.{Planned}
 use Rattle.plan.specs.declared.Surveyed.{Surveyed}

@@ -7,7 +7,7 @@ use lib.Dec.{eqb}
 use lib.Ieee.{Float, le}
 use lib.ListN.{length, getD}
 use Rattle.grid.specs.Index.{Index}
-use Rattle.walk.specs.Steps.{Walkable}
+use Rattle.walk.specs.Inside.{Walkable}
 use Rattle.runs.specs.declared.Run.{Run}
 use Rattle.runs.specs.Runs.{lengthOf}
 

@@ -5,7 +5,7 @@ use lib.ListN.{length}
 use lib.Ieee.{Float}
 use Rattle.plane.specs.declared.Bounds.{Bounds}
 use Rattle.spans.specs.Mesh.{boxOf}
-use Rattle.spans.specs.Good.{AllGood, Near}
+use Rattle.spans.specs.Inside.{AllGood, Near}
 use Rattle.grid.specs.declared.Grid.{Grid}
 
 -- A box whose ends lie in the first 65,536 cells of each axis.

@@ -8,7 +8,7 @@ use Rattle.levels.specs.declared.Level.{Level}
 use Rattle.runs.specs.declared.Run.{Run}
 use Rattle.runs.specs.declared.Tally.{Tally}
 use Rattle.runs.specs.Pieces.{Piece, piecesOf}
-use Rattle.runs.specs.Tallies.{Work, work, takenAll}
+use Rattle.runs.specs.Inside.{Work, work, takenAll}
 use Rattle.rows.specs.declared.Axis.{Axis}
 use Rattle.rows.specs.declared.Lane.{Lane}
 use Rattle.rows.specs.Lanes.{spreadOf, intervalsOf, stepOf, samplesOf, between}

@@ -40,10 +40,10 @@ pub record Ends (e : Extent) : Type 0 where
   pub top : isNan (e .top) ≡ false
 
 -- No NaN, and its sign is plus.
-unfoldable pub upright : Float → Bool
-upright nan = false
-upright (inf s) = not s
-upright (fin s m e) = not s
+unfoldable pub notNegative : Float → Bool
+notNegative nan = false
+notNegative (inf s) = not s
+notNegative (fin s m e) = not s
 
 -- x is not below lo, and its cell is one of the first 65,536.
 pub record Near (lo size x : Float) : Type 0 where

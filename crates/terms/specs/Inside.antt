@@ -4,7 +4,7 @@ use Prim.Native.Nat.{ℕ, zero, suc, _+_}
 use lib.Dec.{ltb}
 use lib.Ieee.{Float}
 use Rattle.levels.specs.declared.Level.{Level}
-use Rattle.levels.specs.Steps.{levelIn}
+use Rattle.levels.specs.Inside.{levelIn}
 use Rattle.fives.specs.Tables.{roomOf}
 use Rattle.grid.specs.Ladder.{refuse}
 use Rattle.rows.specs.declared.Axis.{Axis}
