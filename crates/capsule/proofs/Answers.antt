@@ -11,7 +11,7 @@ use Rattle.plane.specs.declared.Contact.the-variants.{Nothing, Height}
 use Rattle.plane.specs.Contacts.{takeOf}
 use Rattle.capsule.specs.declared.Capsule.{Capsule}
 use Rattle.capsule.specs.declared.Point.{Point}
-use Rattle.capsule.specs.Region.{inCapsule, offerOf, gathered, Among, none, met}
+use Rattle.capsule.specs.Region.{inCapsule, offerOf, offeredAll, Among, none, met}
 use Rattle.capsule.specs.Candidates.{candidates, highestIn}
 
 module _ (k : Capsule) (all : List Point) where
@@ -23,8 +23,8 @@ module _ (k : Capsule) (all : List Point) where
       (λ _. met v m h)
       (λ _. either (λ z. Among k all (Height z)) (lt (u .z) (v .z)) (v .z) (u .z) (λ _. met v m h) (λ _. met u n g))
 
-  gathering : (c : Contact) (vs : List Point) → ((v : Point) → List·Memᴰ v vs → List·Memᴰ v all) → Among k all c → Among k all (gathered k c vs)
-  unfolding gathered offerOf
+  gathering : (c : Contact) (vs : List Point) → ((v : Point) → List·Memᴰ v vs → List·Memᴰ v all) → Among k all c → Among k all (offeredAll k c vs)
+  unfolding offeredAll offerOf
   gathering c [] within a = a
   gathering c (v ∷ vs) within a =
       gathering (offerOf k c v) vs (λ u m. within u (List·Memᴰ·tail m))

@@ -17,8 +17,8 @@ use Rattle.capsule.specs.declared.Capsule.{Capsule}
 use Rattle.capsule.specs.declared.Place.{Place}
 use Rattle.capsule.specs.declared.Point.{Point}
 use Rattle.capsule.specs.declared.Rise.{Rise}
-use Rattle.capsule.specs.Region.{offerOf, gathered}
-use Rattle.capsule.specs.Candidates.{each, ends, determinantOf, riseOf, tangents, flanks, places, pointOver, raised, over, inner}
+use Rattle.capsule.specs.Region.{offerOf, offeredAll}
+use Rattle.capsule.specs.Candidates.{each, ends, determinantOf, riseOf, tangents, flanks, places, pointOver, raised, planeOver, inner}
 use Rattle.capsule.proofs.Picking.{front, back}
 use Rattle.capsule.proofs.Gathering.{on}
 
@@ -64,26 +64,26 @@ module _ (k : Capsule) (h : Rise) (i : ℕ) (r : Place) where
 
 -- over a place that has no weights, over one beside the triangle, and over one on it
 module _ (k : Capsule) (c : Contact) (t : Triangle) (p : Place) where
-  pub none-over : baryOf t (p .x) (p .y) ≡ Nowhere → c ≡ gathered k c (over t p)
-  unfolding over raised gathered
+  pub none-over : baryOf t (p .x) (p .y) ≡ Nowhere → c ≡ offeredAll k c (planeOver t p)
+  unfolding planeOver raised offeredAll
   none-over e = rw e
 
-  pub beside : (w : Weights) → baryOf t (p .x) (p .y) ≡ At w → atLeast w minusSlack ≡ false → c ≡ gathered k c (over t p)
-  unfolding over raised gathered
+  pub beside : (w : Weights) → baryOf t (p .x) (p .y) ≡ At w → atLeast w minusSlack ≡ false → c ≡ offeredAll k c (planeOver t p)
+  unfolding planeOver raised offeredAll
   beside w e h = rw (e, h)
 
   pub on-it : (r : Contact) (w : Weights) →
-      baryOf t (p .x) (p .y) ≡ At w → atLeast w minusSlack ≡ true → r ≡ offerOf k c (pointOver t p w) → r ≡ gathered k c (over t p)
-  unfolding over raised gathered
+      baryOf t (p .x) (p .y) ≡ At w → atLeast w minusSlack ≡ true → r ≡ offerOf k c (pointOver t p w) → r ≡ offeredAll k c (planeOver t p)
+  unfolding planeOver raised offeredAll
   on-it r w e h q = rw (e, h) q
 
 -- the inner points of a triangle that rises by h
 pub rising : (k : Capsule) (r c : Contact) (t : Triangle) (h : Rise) →
     lt tiny (absOf (determinantOf t)) ≡ true →
     h ≡ riseOf t (k .r) →
-    r ≡ gathered k c (each (over t) (places k h)) →
-    r ≡ gathered k c (inner k t)
+    r ≡ offeredAll k c (each (planeOver t) (places k h)) →
+    r ≡ offeredAll k c (inner k t)
 unfolding inner
 rising k r c t h e p q =
-    on k r c (lt tiny (absOf (determinantOf t))) (each (over t) (places k (riseOf t (k .r)))) e
-    (q ∙ ap (λ s. gathered k c (each (over t) (places k s))) p)
+    on k r c (lt tiny (absOf (determinantOf t))) (each (planeOver t) (places k (riseOf t (k .r)))) e
+    (q ∙ ap (λ s. offeredAll k c (each (planeOver t) (places k s))) p)

@@ -15,14 +15,14 @@ use Rattle.plane.specs.declared.Contact.the-variants.{Nothing}
 use Rattle.capsule.specs.declared.Capsule.{Capsule}
 use Rattle.capsule.specs.declared.Edge.{Edge}
 use Rattle.capsule.specs.declared.Point.{Point}
-use Rattle.capsule.specs.Region.{offerOf, gathered}
+use Rattle.capsule.specs.Region.{offerOf, offeredAll}
 use Rattle.capsule.specs.Candidates.{each, onEdge, pointOn, reached, squared, solved, circled, ends, sided, sides, crossed}
 use Rattle.capsule.specs.Candidates.{corners, edges, inner, candidates, highestIn}
 
-pub gathered-append : (k : Capsule) (c : Contact) (xs ys : List Point) → gathered k c (xs ++ ys) ≡ gathered k (gathered k c xs) ys
-unfolding gathered
-gathered-append k c [] ys = refl
-gathered-append k c (x ∷ xs) ys = gathered-append k (offerOf k c x) xs ys
+pub offeredAll-append : (k : Capsule) (c : Contact) (xs ys : List Point) → offeredAll k c (xs ++ ys) ≡ offeredAll k (offeredAll k c xs) ys
+unfolding offeredAll
+offeredAll-append k c [] ys = refl
+offeredAll-append k c (x ∷ xs) ys = offeredAll-append k (offerOf k c x) xs ys
 
 -- a test of what a call gave, from what the call ensures
 pub le-called : (a b y : Float) (t : Bool) → a ≡ b → le a y ≡ t → le b y ≡ t
@@ -30,40 +30,40 @@ le-called a b y t p e = rw p at e
 
 -- one list after the other
 pub both : (k : Capsule) (r m c : Contact) (xs ys : List Point) →
-    m ≡ gathered k c xs → r ≡ gathered k m ys → r ≡ gathered k c (xs ++ ys)
-both k r m c xs ys p q = q ∙ (ap (λ (s : Contact). gathered k s ys) p ∙ sym (gathered-append k c xs ys))
+    m ≡ offeredAll k c xs → r ≡ offeredAll k m ys → r ≡ offeredAll k c (xs ++ ys)
+both k r m c xs ys p q = q ∙ (ap (λ (s : Contact). offeredAll k s ys) p ∙ sym (offeredAll-append k c xs ys))
 
 -- a list that counts if a test holds
-pub on : (k : Capsule) (r c : Contact) (b : Bool) (xs : List Point) → b ≡ true → r ≡ gathered k c xs → r ≡ gathered k c (cond b xs [])
+pub on : (k : Capsule) (r c : Contact) (b : Bool) (xs : List Point) → b ≡ true → r ≡ offeredAll k c xs → r ≡ offeredAll k c (cond b xs [])
 on k r c b xs e p = rw e p
 
-pub off : (k : Capsule) (r c : Contact) (b : Bool) (xs : List Point) → b ≡ false → r ≡ c → r ≡ gathered k c (cond b xs [])
-unfolding gathered
+pub off : (k : Capsule) (r c : Contact) (b : Bool) (xs : List Point) → b ≡ false → r ≡ c → r ≡ offeredAll k c (cond b xs [])
+unfolding offeredAll
 off k r c b xs e p = rw e p
 
 -- the point at s along an edge
 pub reaching : (k : Capsule) (r c : Contact) (e : Edge) (t s : Float) →
-    onEdge t ≡ true → s ≡ clampUnit t → r ≡ offerOf k c (pointOn e s) → r ≡ gathered k c (reached e t)
-unfolding reached gathered
+    onEdge t ≡ true → s ≡ clampUnit t → r ≡ offerOf k c (pointOn e s) → r ≡ offeredAll k c (reached e t)
+unfolding reached offeredAll
 reaching k r c e t s h q p = on k r c (onEdge t) (pointOn e (clampUnit t) ∷ []) h (p ∙ ap (λ u. offerOf k c (pointOn e u)) q)
 
 -- both roots of an equation, the root of whose discriminant is s
 pub solving : (k : Capsule) (r m c : Contact) (e : Edge) (b s d : Float) →
     s ≡ rootOf d →
-    m ≡ gathered k c (reached e ((neg b ⊖ s) ⊘ (f2 ⊗ squared e))) →
-    r ≡ gathered k m (reached e ((neg b ⊕ s) ⊘ (f2 ⊗ squared e))) →
-    r ≡ gathered k c (solved e b (rootOf d))
+    m ≡ offeredAll k c (reached e ((neg b ⊖ s) ⊘ (f2 ⊗ squared e))) →
+    r ≡ offeredAll k m (reached e ((neg b ⊕ s) ⊘ (f2 ⊗ squared e))) →
+    r ≡ offeredAll k c (solved e b (rootOf d))
 unfolding solved
 solving k r m c e b s d h p q =
     both k r m c (reached e ((neg b ⊖ s) ⊘ (f2 ⊗ squared e))) (reached e ((neg b ⊕ s) ⊘ (f2 ⊗ squared e))) p q ∙
-    ap (λ u. gathered k c (solved e b u)) h
+    ap (λ u. offeredAll k c (solved e b u)) h
 
 -- the circles, then the sides
 pub crossing : (k : Capsule) (r m c : Contact) (e : Edge) →
     lt f0 (squared e) ≡ true →
-    m ≡ gathered k c (each (circled k e) (ends k)) →
-    r ≡ gathered k m (cond (lt f0 (k .len)) (each (sided k e) sides) []) →
-    r ≡ gathered k c (crossed k e)
+    m ≡ offeredAll k c (each (circled k e) (ends k)) →
+    r ≡ offeredAll k m (cond (lt f0 (k .len)) (each (sided k e) sides) []) →
+    r ≡ offeredAll k c (crossed k e)
 unfolding crossed
 crossing k r m c e h p q =
     on k r c (lt f0 (squared e)) (each (circled k e) (ends k) ++ cond (lt f0 (k .len)) (each (sided k e) sides) []) h
@@ -71,9 +71,9 @@ crossing k r m c e h p q =
 
 -- the corners, the edges, the inner points
 pub whole : (k : Capsule) (t : Triangle) (r a b : Contact) →
-    a ≡ gathered k Nothing (corners t) →
-    b ≡ gathered k a (each (crossed k) (edges t)) →
-    r ≡ gathered k b (inner k t) →
+    a ≡ offeredAll k Nothing (corners t) →
+    b ≡ offeredAll k a (each (crossed k) (edges t)) →
+    r ≡ offeredAll k b (inner k t) →
     r ≡ highestIn k t
 unfolding highestIn candidates
 whole k t r a b p q s =
@@ -84,18 +84,18 @@ whole k t r a b p q s =
 pub turn : {A : Type 0} (k : Capsule) (f : A → List Point) (xs : List A) (i : ℕ) (x : A) (c r v : Contact) →
     i < length xs →
     x ≡ getD xs i x →
-    r ≡ gathered k c (f x) →
-    gathered k c (each f (drop i xs)) ≡ v →
-    gathered k r (each f (drop (i + 1) xs)) ≡ v
+    r ≡ offeredAll k c (f x) →
+    offeredAll k c (each f (drop i xs)) ≡ v →
+    offeredAll k r (each f (drop (i + 1) xs)) ≡ v
 unfolding each
 turn k f xs i x c r v h e p q =
-    ap (λ n. gathered k r (each f (drop n xs))) (add-one i) ∙
-    (sym (gathered-append k c (f x) (each f (drop (suc i) xs)) ∙ ap (λ s. gathered k s (each f (drop (suc i) xs))) (sym p)) ∙
-    (ap (λ y. gathered k c (f y ++ each f (drop (suc i) xs))) e ∙
-    (sym (ap (λ l. gathered k c (each f l)) (drop-cons xs i x h)) ∙ q)))
+    ap (λ n. offeredAll k r (each f (drop n xs))) (add-one i) ∙
+    (sym (offeredAll-append k c (f x) (each f (drop (suc i) xs)) ∙ ap (λ s. offeredAll k s (each f (drop (suc i) xs))) (sym p)) ∙
+    (ap (λ y. offeredAll k c (f y ++ each f (drop (suc i) xs))) e ∙
+    (sym (ap (λ l. offeredAll k c (each f l)) (drop-cons xs i x h)) ∙ q)))
 
 -- and its end
 pub ended : {A : Type 0} (k : Capsule) (f : A → List Point) (xs : List A) (i : ℕ) (c v : Contact) →
-    length xs ≤ i → gathered k c (each f (drop i xs)) ≡ v → c ≡ v
-unfolding each gathered
-ended k f xs i c v h q = sym (ap (λ l. gathered k c (each f l)) (drop-of-length-le xs h)) ∙ q
+    length xs ≤ i → offeredAll k c (each f (drop i xs)) ≡ v → c ≡ v
+unfolding each offeredAll
+ended k f xs i c v h q = sym (ap (λ l. offeredAll k c (each f l)) (drop-of-length-le xs h)) ∙ q

@@ -19,7 +19,7 @@ use Rattle.capsule.specs.declared.Place.{Place}
 use Rattle.capsule.specs.declared.Point.{Point}
 use Rattle.capsule.specs.declared.Edge.{Edge}
 use Rattle.capsule.specs.declared.Rise.{Rise}
-use Rattle.capsule.specs.Region.{capsuleOf, gathered}
+use Rattle.capsule.specs.Region.{capsuleOf, offeredAll}
 
 -- what f gives for each of a list, one after the other
 unfoldable pub each : {A : Type 0} → (A → List Point) → List A → List Point
@@ -142,12 +142,12 @@ raised t p Nowhere = []
 raised t p (At w) = cond (atLeast w minusSlack) (pointOver t p w ∷ []) []
 
 -- the point of a triangle over a place, if it lies on the triangle
-unfoldable pub over : Triangle → Place → List Point
-over t p = raised t p (baryOf t (p .x) (p .y))
+unfoldable pub planeOver : Triangle → Place → List Point
+planeOver t p = raised t p (baryOf t (p .x) (p .y))
 
 -- the inner points of a triangle that does not stand upright
 unfoldable pub inner : Capsule → Triangle → List Point
-inner k t = cond (lt tiny (absOf (determinantOf t))) (each (over t) (places k (riseOf t (k .r)))) []
+inner k t = cond (lt tiny (absOf (determinantOf t))) (each (planeOver t) (places k (riseOf t (k .r)))) []
 
 -- all of them
 unfoldable pub candidates : Capsule → Triangle → List Point
@@ -155,7 +155,7 @@ candidates k t = corners t ++ (each (crossed k) (edges t) ++ inner k t)
 
 -- the highest point of a triangle in a capsule: of the candidates in it, the highest
 unfoldable pub highestIn : Capsule → Triangle → Contact
-highestIn k t = gathered k Nothing (candidates k t)
+highestIn k t = offeredAll k Nothing (candidates k t)
 
 -- the highest point of a triangle in the capsule of radius r around p-q
 unfoldable pub maxInCapsule : Triangle → Float → Float → Float → Float → Float → Float → Contact

@@ -48,9 +48,9 @@ unfoldable pub offerOf : Capsule → Contact → Point → Contact
 offerOf k c v = cond (inCapsule k (v .x) (v .y)) (takeOf c (v .z)) c
 
 -- a contact with all points of a list more, in their order: the highest of those in the capsule
-unfoldable pub gathered : Capsule → Contact → List Point → Contact
-gathered k c [] = c
-gathered k c (v ∷ vs) = gathered k (offerOf k c v) vs
+unfoldable pub offeredAll : Capsule → Contact → List Point → Contact
+offeredAll k c [] = c
+offeredAll k c (v ∷ vs) = offeredAll k (offerOf k c v) vs
 
 -- what the points of a list can make of no contact: none, or the height of one of them that lies in the capsule
 pub data Among (k : Capsule) (vs : List Point) : Contact → Type 0 where

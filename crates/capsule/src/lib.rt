@@ -7,9 +7,9 @@ ghost use lib.Ieee.{lt};
 ghost use lib.ListN.{getD};
 ghost use Rattle.numbers.specs.Reals.{f0};
 ghost use Rattle.plane.specs.Contacts.{takeOf};
-ghost use Rattle.capsule.specs.Region.{normalOf, capsuleOf, offerOf, gathered, Among, contactOf};
+ghost use Rattle.capsule.specs.Region.{normalOf, capsuleOf, offerOf, offeredAll, Among, contactOf};
 ghost use Rattle.capsule.specs.Candidates.{each, corners, edgeOf, edges, ends, onEdge, reached, circled, sided, sides, crossed};
-ghost use Rattle.capsule.specs.Candidates.{determinantOf, riseOf, tangents, flank, flanks, places, over, inner, candidates, highestIn, maxInCapsule};
+ghost use Rattle.capsule.specs.Candidates.{determinantOf, riseOf, tangents, flank, flanks, places, planeOver, inner, candidates, highestIn, maxInCapsule};
 use plane::Contact;
 use plane::Spot;
 use plane::Triangle;
@@ -166,7 +166,7 @@ fn offer(k: Capsule, best: Best, v: Point) -> Best
 
 // What was found, and the corners.
 fn offer_corners(k: Capsule, best: Best, t: Triangle) -> Best
-    ensures { λ c. ⌜ contactOf c ≡ gathered k (contactOf best) (corners t) ⌝ }
+    ensures { λ c. ⌜ contactOf c ≡ offeredAll k (contactOf best) (corners t) ⌝ }
 {
     let a = offer(
         k,
@@ -199,7 +199,7 @@ fn offer_corners(k: Capsule, best: Best, t: Triangle) -> Best
 
 // What was found, and where the edges cross the capsule's boundary.
 fn offer_edges(k: Capsule, best: Best, t: Triangle) -> Best
-    ensures { λ c. ⌜ contactOf c ≡ gathered k (contactOf best) (each (crossed k) (edges t)) ⌝ }
+    ensures { λ c. ⌜ contactOf c ≡ offeredAll k (contactOf best) (each (crossed k) (edges t)) ⌝ }
 {
     let mut b = best;
     for i in 0..3usize {
@@ -237,7 +237,7 @@ fn edge_between(ax: f64, ay: f64, az: f64, bx: f64, by: f64, bz: f64) -> Edge
 
 // What was found, and where an edge crosses the capsule's boundary.
 fn offer_crossings(k: Capsule, best: Best, e: Edge) -> Best
-    ensures { λ c. ⌜ contactOf c ≡ gathered k (contactOf best) (crossed k e) ⌝ }
+    ensures { λ c. ⌜ contactOf c ≡ offeredAll k (contactOf best) (crossed k e) ⌝ }
 {
     if e.dx * e.dx + e.dy * e.dy > 0.0 {
         let b = offer_circles(k, best, e);
@@ -251,7 +251,7 @@ fn offer_crossings(k: Capsule, best: Best, e: Edge) -> Best
 
 // What was found, and where an edge crosses the circles around p and q.
 fn offer_circles(k: Capsule, best: Best, e: Edge) -> Best
-    ensures { λ c. ⌜ contactOf c ≡ gathered k (contactOf best) (each (circled k e) (ends k)) ⌝ }
+    ensures { λ c. ⌜ contactOf c ≡ offeredAll k (contactOf best) (each (circled k e) (ends k)) ⌝ }
 {
     let n = circles_of(k);
     let mut b = best;
@@ -294,7 +294,7 @@ fn same_number(x: f64, y: f64) -> bool
 
 // What was found, and where an edge crosses the straight sides.
 fn offer_sides(k: Capsule, best: Best, e: Edge) -> Best
-    ensures { λ c. ⌜ contactOf c ≡ gathered k (contactOf best) (each (sided k e) sides) ⌝ }
+    ensures { λ c. ⌜ contactOf c ≡ offeredAll k (contactOf best) (each (sided k e) sides) ⌝ }
 {
     let mut b = best;
     for i in 0..2usize {
@@ -323,7 +323,7 @@ fn side_of(i: usize) -> f64
 
 // What was found, and where an edge crosses the circle around c.
 fn offer_circle(k: Capsule, best: Best, e: Edge, c: Place) -> Best
-    ensures { λ d. ⌜ contactOf d ≡ gathered k (contactOf best) (circled k e c) ⌝ }
+    ensures { λ d. ⌜ contactOf d ≡ offeredAll k (contactOf best) (circled k e c) ⌝ }
 {
     let fx = e.x - c.x;
     let fy = e.y - c.y;
@@ -341,7 +341,7 @@ fn offer_circle(k: Capsule, best: Best, e: Edge, c: Place) -> Best
 
 // What was found, and where an edge crosses a straight side.
 fn offer_side(k: Capsule, best: Best, e: Edge, side: f64) -> Best
-    ensures { λ c. ⌜ contactOf c ≡ gathered k (contactOf best) (sided k e side) ⌝ }
+    ensures { λ c. ⌜ contactOf c ≡ offeredAll k (contactOf best) (sided k e side) ⌝ }
 {
     let den = e.dx * k.nx + e.dy * k.ny;
     if den != 0.0 {
@@ -353,7 +353,7 @@ fn offer_side(k: Capsule, best: Best, e: Edge, side: f64) -> Best
 
 // What was found, and the point at t along an edge.
 fn offer_at(k: Capsule, best: Best, e: Edge, t: f64) -> Best
-    ensures { λ c. ⌜ contactOf c ≡ gathered k (contactOf best) (reached e t) ⌝ }
+    ensures { λ c. ⌜ contactOf c ≡ offeredAll k (contactOf best) (reached e t) ⌝ }
 {
     if on_edge(t) {
         let s = numbers::clamp_unit(t);
@@ -383,7 +383,7 @@ fn on_edge(t: f64) -> bool
 
 // What was found, and the inner points of a triangle that does not stand upright.
 fn offer_inner(k: Capsule, best: Best, t: Triangle) -> Best
-    ensures { λ c. ⌜ contactOf c ≡ gathered k (contactOf best) (inner k t) ⌝ }
+    ensures { λ c. ⌜ contactOf c ≡ offeredAll k (contactOf best) (inner k t) ⌝ }
 {
     let nz = (t.bx - t.ax) * (t.cy - t.ay) - (t.cx - t.ax) * (t.by - t.ay);
     if numbers::abs(nz) > 1e-300 {
@@ -409,7 +409,7 @@ fn rise_of(t: Triangle, r: f64) -> Rise
 
 // What was found, and the points of a triangle over the extreme points of the capsule.
 fn offer_places(k: Capsule, best: Best, t: Triangle, h: Rise) -> Best
-    ensures { λ c. ⌜ contactOf c ≡ gathered k (contactOf best) (each (over t) (places k h)) ⌝ }
+    ensures { λ c. ⌜ contactOf c ≡ offeredAll k (contactOf best) (each (planeOver t) (places k h)) ⌝ }
 {
     let n = count_of(h);
     let mut b = best;
@@ -487,7 +487,7 @@ fn flank_at(k: Capsule, x: f64, y: f64, side: f64) -> Place
 
 // What was found, and the point of a triangle over a place.
 fn offer_over(k: Capsule, best: Best, t: Triangle, p: Place) -> Best
-    ensures { λ c. ⌜ contactOf c ≡ gathered k (contactOf best) (over t p) ⌝ }
+    ensures { λ c. ⌜ contactOf c ≡ offeredAll k (contactOf best) (planeOver t p) ⌝ }
 {
     match plane::bary(t, p.x, p.y) {
         Spot::Nowhere => best,

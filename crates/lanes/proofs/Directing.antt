@@ -116,6 +116,6 @@ module _ (p : Parameters) (axis : Axis) (r : Float) (l : Level) where
   unfolding Coarse laneOf
   coarse-samples row lane e h = rw e (h .1)
 
-  pub noSlope-is : (under : Run → Float) (w₀ w : Work) (a : Aim) (s : Spread) (n : ℕ) → a ≡ aimOf p r l → s ≡ spreadOf axis r l → n ≡ intervalsOf s (p .stepover) → w ≡ lanesTaken under a (laneOf p axis r l) w₀ 0 (n + 1) → w ≡ levelTaken under p axis r w₀ l
+  pub level-is : (under : Run → Float) (w₀ w : Work) (a : Aim) (s : Spread) (n : ℕ) → a ≡ aimOf p r l → s ≡ spreadOf axis r l → n ≡ intervalsOf s (p .stepover) → w ≡ lanesTaken under a (laneOf p axis r l) w₀ 0 (n + 1) → w ≡ levelTaken under p axis r w₀ l
   unfolding levelTaken
-  noSlope-is under w₀ w a s n x y z e = e ∙ (rw (x, z, y))
+  level-is under w₀ w a s n x y z e = e ∙ (rw (x, z, y))

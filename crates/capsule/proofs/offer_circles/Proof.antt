@@ -4,7 +4,7 @@ use native.Mathlib.Omega.{arith}
 use borrow.Author.Needs.{needs}
 use lib.ListN.{take, drop}
 use lib.Seq.{getD-take}
-use Rattle.capsule.specs.Region.{gathered, contactOf}
+use Rattle.capsule.specs.Region.{offeredAll, contactOf}
 use Rattle.capsule.specs.Candidates.{each, circled, ends}
 use Rattle.capsule.proofs.Gathering.{turn, ended}
 use Rattle.capsule.proofs.Again.{ends-taken, all-ends}
@@ -13,7 +13,7 @@ use Rattle.capsule.proofs.offer_circles.Tie as tie
 
 abbrev Inv-loop : tie.InvT-loop
 Inv-loop k e n b₀ i₀ b i =
-    (i ≤ n) × (gathered k (contactOf b) (each (circled k e) (drop i (take n (ends k)))) ≡ gathered k (contactOf b₀) (each (circled k e) (take n (ends k))))
+    (i ≤ n) × (offeredAll k (contactOf b) (each (circled k e) (drop i (take n (ends k)))) ≡ offeredAll k (contactOf b₀) (each (circled k e) (take n (ends k))))
 
 abbrev μ-loop : tie.MeasureT-loop
 μ-loop k e n b₀ i₀ b i = n - i

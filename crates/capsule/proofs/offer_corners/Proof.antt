@@ -1,10 +1,10 @@
-use Rattle.capsule.specs.Region.{gathered}
+use Rattle.capsule.specs.Region.{offeredAll}
 use Rattle.capsule.specs.Candidates.{corners, cornerA, cornerB, cornerC}
 use Rattle.capsule.proofs.offer_corners.Statement.{statement}
 use Rattle.capsule.proofs.offer_corners.Tie as tie
 
 returns : tie.Need-returns
-unfolding gathered corners cornerA cornerB cornerC
+unfolding offeredAll corners cornerA cornerB cornerC
 returns c = cc
 
 pub offer-corners-spec : {M : Type 1} → statement M

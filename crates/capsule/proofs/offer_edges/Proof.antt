@@ -2,7 +2,7 @@ use mathlib.Core.Path.{_≡_, refl}
 use Prim.Native.Nat.{_≤_, _-_}
 use borrow.Author.Needs.{needs}
 use lib.ListN.{drop}
-use Rattle.capsule.specs.Region.{gathered, contactOf}
+use Rattle.capsule.specs.Region.{offeredAll, contactOf}
 use Rattle.capsule.specs.Candidates.{each, crossed, edges}
 use Rattle.capsule.proofs.Gathering.{turn, ended}
 use Rattle.capsule.proofs.offer_edges.Statement.{statement}
@@ -10,7 +10,7 @@ use Rattle.capsule.proofs.offer_edges.Tie as tie
 
 abbrev Inv-loop : tie.InvT-loop
 Inv-loop k t b₀ i₀ b i =
-    (i ≤ 3) × (gathered k (contactOf b) (each (crossed k) (drop i (edges t))) ≡ gathered k (contactOf b₀) (each (crossed k) (edges t)))
+    (i ≤ 3) × (offeredAll k (contactOf b) (each (crossed k) (drop i (edges t))) ≡ offeredAll k (contactOf b₀) (each (crossed k) (edges t)))
 
 abbrev μ-loop : tie.MeasureT-loop
 μ-loop k t b₀ i₀ b i = 3 - i

@@ -2,7 +2,7 @@ use mathlib.Core.Path.{_≡_, refl}
 use Prim.Native.Nat.{_≤_, _-_}
 use borrow.Author.Needs.{needs}
 use lib.ListN.{drop}
-use Rattle.capsule.specs.Region.{gathered, contactOf}
+use Rattle.capsule.specs.Region.{offeredAll, contactOf}
 use Rattle.capsule.specs.Candidates.{each, sided, sides}
 use Rattle.capsule.proofs.Gathering.{turn, ended}
 use Rattle.capsule.proofs.offer_sides.Statement.{statement}
@@ -10,7 +10,7 @@ use Rattle.capsule.proofs.offer_sides.Tie as tie
 
 abbrev Inv-loop : tie.InvT-loop
 Inv-loop k e b₀ i₀ b i =
-    (i ≤ 2) × (gathered k (contactOf b) (each (sided k e) (drop i (sides))) ≡ gathered k (contactOf b₀) (each (sided k e) (sides)))
+    (i ≤ 2) × (offeredAll k (contactOf b) (each (sided k e) (drop i (sides))) ≡ offeredAll k (contactOf b₀) (each (sided k e) (sides)))
 
 abbrev μ-loop : tie.MeasureT-loop
 μ-loop k e b₀ i₀ b i = 2 - i
