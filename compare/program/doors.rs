@@ -30,17 +30,17 @@ pub mod raw {
         pub fn mandrikelo_max_height(
             mesh: *const f64, mesh_len: usize, measures: *const f64, sizes: *const u32, starts: *const u32, starts_len: usize,
             members: *const u32, members_len: usize, marks: *mut u32, marks_len: usize, stamp: u32, px: f64, py: f64, qx: f64,
-            qy: f64, r: f64, height: *mut f64, counts: *mut u32,
+            qy: f64, r: f64, found: *mut f64, counts: *mut u32,
         ) -> u32;
         pub fn mandrikelo_max_bull(
             mesh: *const f64, mesh_len: usize, measures: *const f64, sizes: *const u32, starts: *const u32, starts_len: usize,
             members: *const u32, members_len: usize, marks: *mut u32, marks_len: usize, stamp: u32, px: f64, py: f64, r: f64,
-            rc: f64, height: *mut f64, counts: *mut u32,
+            rc: f64, found: *mut f64, counts: *mut u32,
         ) -> u32;
         pub fn mandrikelo_max_sections(
             mesh: *const f64, mesh_len: usize, measures: *const f64, sizes: *const u32, starts: *const u32, starts_len: usize,
             members: *const u32, members_len: usize, marks: *mut u32, marks_len: usize, stamp: u32, px: f64, py: f64,
-            sections: *const f64, sections_len: usize, height: *mut f64, counts: *mut u32,
+            sections: *const f64, sections_len: usize, found: *mut f64, counts: *mut u32,
         ) -> u32;
         pub fn mandrikelo_bull_chord_clear(
             mesh: *const f64, mesh_len: usize, measures: *const f64, sizes: *const u32, starts: *const u32, starts_len: usize,

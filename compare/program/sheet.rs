@@ -10,7 +10,7 @@ use oracle_doc::flat::door;
 
 unsafe extern "C" {
     pub fn mandrikelo_sections_of(
-        shape: u32, enclose: bool, neck: bool, sheet: *const f64, holders: *const f64, holders_len: usize, sections: *mut f64,
+        shape: u32, enclose: bool, neck: bool, measures: *const f64, holders: *const f64, holders_len: usize, sections: *mut f64,
         sections_len: usize, count: *mut u32,
     ) -> u32;
 }

@@ -13,7 +13,7 @@ mod raw {
     unsafe extern "C" {
         pub fn mandrikelo_write_job(
             mesh: *const f64, mesh_len: usize, floor: f64, radius: f64, questions: *const f64, questions_len: usize, bytes: *mut u8,
-            bytes_len: usize, length: *mut usize,
+            bytes_len: usize, size: *mut usize,
         ) -> u32;
     }
 }

@@ -16,6 +16,8 @@ use bull::Bull;
 use plane::Contact;
 use section::Section;
 
+mod version;
+
 // The square root, rounded to the nearest f64.
 #[no_mangle]
 pub extern "C" fn mandrikelo_root(x: f64) -> f64
