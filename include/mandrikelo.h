@@ -196,8 +196,9 @@ uint32_t mandrikelo_max_sections(const double *mesh, size_t mesh_len, const doub
 
 /* Whether the tool stays above the part, RAISED by `lift`, on its way from tip a to tip b. `lift` raises the part against the tool, not
  * the tool: it is the distance that has to be kept. With the tip at 10.5 over a face at 10, lift 0 is clear and lift 1 is blocked; a
- * negative lift lets the tool into the part by as much. To touch a level face is clear. Blocked before any walk (count 0, stamp and marks
- * as handed) if an end lies under the floor + lift. All of ax .. bz are of magnitude at most 3e6, lift of at most 1e6; r 0 to 1e6, 0 <= rc <= r. */
+ * negative lift lets the tool into the part by as much. To touch a level face is clear. Blocked before any walk (count 0, stamp and
+ * marks as handed) if an end lies under the floor + lift. All of ax .. bz are of magnitude at most 3e6, lift of at most 1e6; r 0 to 1e6,
+ * 0 <= rc <= r. */
 uint32_t mandrikelo_bull_chord_clear(const double *mesh, size_t mesh_len, const double measures[6], const uint32_t sizes[3],
     const uint32_t *starts, size_t starts_len, const uint32_t *members, size_t members_len,
     uint32_t *marks, size_t marks_len, uint32_t stamp,
@@ -254,13 +255,14 @@ uint32_t mandrikelo_plan(const double *mesh, size_t mesh_len, const double measu
 uint32_t mandrikelo_join(double *runs, size_t runs_len, size_t count[1]);
 
 /* The sections of a tool from its sheet, in this order: the end; a cylinder at the end of the cutting length and, if there is a neck,
- * one at its end, each where it lies below the stickout; the holders. `shape` is 0 flat, 1 ball, 2 bull, 3 drill, 4 chamfer, 5 beam.
- * With `enclose` a ball or bull end is listed as the flat end of its radius, which is nowhere above it (corner radii under 2^-511
- * excepted). The tip height is that at the full radius; the two radii are those just above the cutting length and just above the
- * neck. A holder is 4 numbers: low z, high z, low radius, high radius. The sheet's numbers may be any finite ones, where the sections made
- * of them are valid; a slope is worked out, so here nothing is one. `sections` gets 4 numbers a section, 128 always suffice, and entries
- * beyond those keep what they held; `count` gets the number of sections. What is accepted is a tool that mandrikelo_max_sections and
- * mandrikelo_sections_chord_clear take. Refusals in this order: 1, 2 (any of the numbers, used by the shape or not), 24, 8, 25. */
+ * one at its end, cutting length + neck length over the tip, each where it lies below the stickout; the holders. `shape` is 0 flat, 1
+ * ball, 2 bull, 3 drill, 4 chamfer, 5 beam. With `enclose` a ball or bull end is listed as the flat end of its radius, which is nowhere
+ * above it (corner radii under 2^-511 excepted). The tip height is that at the full radius; the two radii are those just above the
+ * cutting length and just above the neck. A holder is 4 numbers: low z, high z, low radius, high radius. The sheet's numbers may be any
+ * finite ones, where the sections made of them are valid; a slope is worked out, so here nothing is one. `sections` gets 4 numbers a
+ * section, 128 always suffice, and entries beyond those keep what they held; `count` gets the number of sections. What is accepted is a
+ * tool that mandrikelo_max_sections and mandrikelo_sections_chord_clear take. Refusals in this order: 1, 2 (any of the numbers, used by
+ * the shape or not), 24, 8, 25. */
 uint32_t mandrikelo_sections_of(uint32_t shape, bool enclose, bool neck,
     const double measures[8] /* diameter, tip diameter, tip height, cutting length, stickout, neck length, radius above the cutting
         length, radius above the neck */,
@@ -281,10 +283,10 @@ uint32_t mandrikelo_moves_next(const double *runs, size_t runs_len, const double
     double position[3], uint64_t state[3], double end[3], uint64_t go[2] /* 0 the end, 1 rapid, 2 plunge, 3 cut, 4 retract; id */);
 
 /* A job file: "FTM", u16 version 1, a zero byte, u32 number of triangles n, u32 number of questions m, f64 floor, f64 radius: 30 bytes;
- * then 72 bytes a triangle, 9 f64s, and 40 a question, 5 f64s (px, py, qx, qy, r). All little endian; the length is 30 + 72 n + 40 m, n is
- * 1 to 65,536 and m 0 to 65,536. `mesh` gets 9 numbers a triangle, `questions` 5 each; entries beyond those keep what they held. Numbers
- * may be of any size here, but finite: the ranges are the builder's and the questions'. Refusals in their order: 14, 15, 16, 17, 18, 19 or
- * 21, 20. A part of a job that is accepted never is: see 14 and 19; nor is a job with more behind it: see 21. */
+ * then 72 bytes a triangle, 9 f64s, and 40 a question, 5 f64s (px, py, qx, qy, r). All little endian; the length is 30 + 72 n + 40 m, n
+ * is 1 to 65,536 and m 0 to 65,536. `mesh` gets 9 numbers a triangle, `questions` 5 each; entries beyond those keep what they held.
+ * Numbers may be of any size here, but finite: the ranges are the builder's and the questions'. Refusals in their order: 14, 15, 16, 17,
+ * 18, 19 or 21, 20. A part of a job that is accepted never is: see 14 and 19; nor is a job with more behind it: see 21. */
 uint32_t mandrikelo_read_job(const uint8_t *bytes, size_t bytes_len, double *mesh, size_t mesh_len,
     double *questions, size_t questions_len, double measures[2] /* floor, radius */,
     uint32_t sizes[2] /* n, m; after 19 the whole triangles, 0 */);
