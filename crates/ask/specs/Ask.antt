@@ -36,7 +36,7 @@ refusalOf numbers tool ix marks stamp p =
 -- The best so far, with one contact more.
 unfoldable pub raisedBy : Contact → Float → Float
 raisedBy Nothing best = best
-raisedBy (Height z) best = maxOf best z
+raisedBy (Height z t) best = maxOf best z
 
 -- Where a walk begins: with the next stamp's marks, no triangle looked at, and v.
 abbrev pub begun : {A : Type 0} → List ℕ → ℕ → A → Walk A

@@ -77,7 +77,7 @@ pub fn raise_by(c: Contact, best: f64) -> f64
 {
     match c {
         Contact::Nothing => best,
-        Contact::Height(z) => numbers::max(best, z),
+        Contact::Height(z, _) => numbers::max(best, z),
     }
 }
 

@@ -2,11 +2,10 @@
 use mathlib.Core.Bool.{false}
 use mathlib.Core.Path.{_≡_, refl}
 use lib.Ieee.{Float}
-use Rattle.numbers.specs.Reals.{maxOf}
 use Rattle.numbers.proofs.Branches.{left}
+use Rattle.plane.specs.declared.Touch.{Touch}
 use Rattle.plane.specs.declared.Contact.{Contact}
-use Rattle.plane.specs.declared.Contact.the-variants.{Nothing, Height}
-use Rattle.plane.specs.Contacts.{takeOf}
+use Rattle.plane.specs.Contacts.{edge, takeOf}
 use Rattle.golden.specs.Search.{goldenMax}
 use Rattle.touch.specs.declared.Edge.{Edge}
 use Rattle.touch.specs.declared.Stretch.{Stretch}
@@ -22,18 +21,16 @@ module _ (k : Bull) (e : Edge) (c : Contact) (s : Stretch) where
   unfolding offerOf bullStretch
   nowhere-on p = rw p
 
-  pub between-on : (r : Contact) (lo hi : Float) → s ≡ Between lo hi → r ≡ takeOf c (goldenMax (bullAt k e) lo hi 40) → r ≡ offerOf c (bullStretch k e s)
+  pub between-on : (r : Contact) (lo hi : Float) → s ≡ Between lo hi → r ≡ takeOf c (goldenMax (bullAt k e) lo hi 40) (edge (e .which)) → r ≡ offerOf c (bullStretch k e s)
   unfolding offerOf bullStretch
   between-on r lo hi p q = rw p q
 
-module _ (c : Contact) (v z : Float) where
-  pub first-taken : c ≡ Nothing → v ≡ z → Height v ≡ takeOf c z
-  unfolding takeOf
-  first-taken p q = rw (p, q)
+-- the contact and the height, as calls answer them
+pub taken-on : (r c d : Contact) (z : Float) (t : Touch) → c ≡ d → r ≡ takeOf d z t → r ≡ takeOf c z t
+taken-on r c d z t p q = rw p q
 
-  pub next-taken : (b : Float) → c ≡ Height b → v ≡ maxOf b z → Height v ≡ takeOf c z
-  unfolding takeOf
-  next-taken b p q = rw (p, q)
+pub taken-at : (r c : Contact) (z w : Float) (t : Touch) → z ≡ w → r ≡ takeOf c z t → r ≡ takeOf c w t
+taken-at r c z w t p q = rw p at q
 
 -- an edge that is not too low
 pub edge-on : (k : Bull) (floor : Float) (c : Contact) (e : Edge) (s : Stretch) (r : Contact) → tooLow floor c e ≡ false → s ≡ reachedOf e (k .x) (k .y) (k .r) → r ≡ offerOf c (bullStretch k e s) → r ≡ bullEdge k floor c e

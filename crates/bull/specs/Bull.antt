@@ -1,6 +1,7 @@
 -- Document 01, rows `bull_profile`, `bull_contact` and `bull_contact_above`: a bull-nose cutter and its contact with one triangle. The height of the cutter's tip
 -- is concave along an edge and over the facet, so it is largest at a vertex, at one place of an edge, or where the corner's slope is the facet's.
 use mathlib.Core.Bool.{Bool, cond}
+use Prim.Native.Nat.{ℕ}
 use lib.Ieee.{Float, lt, le}
 use Rattle.numbers.specs.Reals.{_⊕_, _⊖_, _⊗_, _⊘_, f0, f1, noSlope, maxOf, minOf}
 use Rattle.numbers.specs.Root.{rootOf}
@@ -8,6 +9,7 @@ use Rattle.numbers.specs.Hypot.{hypotOf}
 use Rattle.plane.specs.declared.Triangle.{Triangle}
 use Rattle.plane.specs.declared.Contact.{Contact}
 use Rattle.plane.specs.declared.Contact.the-variants.{Nothing, Height}
+use Rattle.plane.specs.Contacts.{corner, edge}
 use Rattle.golden.specs.Search.{goldenMax}
 use Rattle.golden.specs.Upper.{minusInfinity}
 use Rattle.touch.specs.declared.Edge.{Edge}
@@ -24,35 +26,35 @@ use Rattle.bull.specs.declared.Bull.{Bull}
 unfoldable pub bullProfile : Float → Float → Float → Float
 bullProfile d r rc = let s = d ⊖ (r ⊖ rc) in cond (le s f0) f0 (rc ⊖ rootOf (maxOf (rc ⊗ rc ⊖ s ⊗ s) f0))
 
--- A point at the height z and the distance d from the axis: none beyond r.
-unfoldable pub bullOver : Bull → Float → Float → Contact
-bullOver k z d = cond (le d (k .r)) (Height (z ⊖ bullProfile d (k .r) (k .rc))) Nothing
+-- Corner n at the height z and the distance d from the axis: none beyond r.
+unfoldable pub bullOver : Bull → ℕ → Float → Float → Contact
+bullOver k n z d = cond (le d (k .r)) (Height (z ⊖ bullProfile d (k .r) (k .rc)) (corner n)) Nothing
 
--- The candidate of a vertex.
-unfoldable pub bullVertex : Bull → Float → Float → Float → Contact
-bullVertex k x y z = bullOver k z (hypotOf (x ⊖ k .x) (y ⊖ k .y))
+-- The candidate of vertex n.
+unfoldable pub bullVertex : Bull → ℕ → Float → Float → Float → Contact
+bullVertex k n x y z = bullOver k n z (hypotOf (x ⊖ k .x) (y ⊖ k .y))
 
 -- The vertices' candidates, in their order.
 unfoldable pub bullVertices : Bull → Triangle → Contact
 bullVertices k t =
-    let a = bullVertex k (t .ax) (t .ay) (t .az) in
-    let b = bullVertex k (t .bx) (t .by) (t .bz) in
-    let c = bullVertex k (t .cx) (t .cy) (t .cz) in
+    let a = bullVertex k 0 (t .ax) (t .ay) (t .az) in
+    let b = bullVertex k 1 (t .bx) (t .by) (t .bz) in
+    let c = bullVertex k 2 (t .cx) (t .cy) (t .cz) in
     offerOf (offerOf (offerOf Nothing a) b) c
 
 -- The tip's height over the edge's point at t.
 unfoldable pub bullAt : Bull → Edge → Float → Float
 bullAt k e t = along (e .az) (e .bz) t ⊖ bullProfile (minOf (distanceAt e (k .x) (k .y) t) (k .r)) (k .r) (k .rc)
 
--- The best of the edge's stretch under the cutter: a search of 40 steps.
+-- The best of the edge's stretch under the cutter: a search of 40 steps. It touches the edge, also where it ends at an end.
 unfoldable pub bullStretch : Bull → Edge → Stretch → Contact
 bullStretch k e Nowhere = Nothing
-bullStretch k e (Between t0 t1) = Height (goldenMax (bullAt k e) t0 t1 40)
+bullStretch k e (Between t0 t1) = Height (goldenMax (bullAt k e) t0 t1 40) (edge (e .which))
 
 -- The best height so far: minus infinity where there is none.
 unfoldable pub bestSoFar : Contact → Float
 bestSoFar Nothing = minusInfinity
-bestSoFar (Height z) = z
+bestSoFar (Height z t) = z
 
 -- The profile only lowers heights, so an edge whose higher end is not above the floor and the best so far cannot exceed them.
 unfoldable pub tooLow : Float → Contact → Edge → Bool

@@ -1,7 +1,6 @@
 // A bull-nose cutter: its profile, and its contact with one triangle.
 ghost use mathlib.Core.Path.{_≡_};
-ghost use Rattle.numbers.specs.Reals.{maxOf};
-ghost use Rattle.plane.specs.Contacts.{takeOf};
+ghost use Rattle.plane.specs.Contacts.{edge, takeOf};
 ghost use Rattle.touch.specs.Touch.{offerOf};
 ghost use Rattle.golden.specs.Search.{rises, goldenStart, goldenStep, goldenMax};
 ghost use Rattle.bull.specs.Inside.{wayOf, wayAt};
@@ -9,6 +8,7 @@ ghost use Rattle.bull.specs.Inside.{FlatTo};
 ghost use Rattle.bull.specs.Bull.{bullProfile, bullOver, bullVertex, bullVertices, bullAt, bullStretch, bestSoFar, tooLow, bullEdge, bullEdges, bullSloped, bullRest, bullFacet, bullContactAbove, bullContact};
 use golden::Golden;
 use plane::Contact;
+use plane::Touch;
 use plane::Triangle;
 use touch::Edge;
 use touch::Facing;
@@ -59,24 +59,30 @@ pub fn bull_profile(d: f64, r: f64, rc: f64) -> f64
 fn vertices(k: Bull, t: Triangle) -> Contact
     ensures { λ c. ⌜ c ≡ bullVertices k t ⌝ }
 {
-    let a = touch::offer(Contact::Nothing, vertex(k, t.ax, t.ay, t.az));
-    let b = touch::offer(a, vertex(k, t.bx, t.by, t.bz));
-    touch::offer(b, vertex(k, t.cx, t.cy, t.cz))
+    let a = touch::offer(Contact::Nothing, vertex(k, 0, t.ax, t.ay, t.az));
+    let b = touch::offer(a, vertex(k, 1, t.bx, t.by, t.bz));
+    touch::offer(b, vertex(k, 2, t.cx, t.cy, t.cz))
 }
 
-// The candidate of a vertex.
-fn vertex(k: Bull, x: f64, y: f64, z: f64) -> Contact
-    ensures { λ c. ⌜ c ≡ bullVertex k x y z ⌝ }
+// The candidate of vertex n.
+fn vertex(k: Bull, n: u32, x: f64, y: f64, z: f64) -> Contact
+    ensures { λ c. ⌜ c ≡ bullVertex k n x y z ⌝ }
 {
-    over(k, z, numbers::hypot(x - k.x, y - k.y))
+    over(k, n, z, numbers::hypot(x - k.x, y - k.y))
 }
 
-// The candidate of a point at the distance d from the axis.
-fn over(k: Bull, z: f64, d: f64) -> Contact
-    ensures { λ c. ⌜ c ≡ bullOver k z d ⌝ }
+// The candidate of corner n at the distance d from the axis.
+fn over(k: Bull, n: u32, z: f64, d: f64) -> Contact
+    ensures { λ c. ⌜ c ≡ bullOver k n z d ⌝ }
 {
     if d <= k.r {
-        Contact::Height(z - bull_profile(d, k.r, k.rc))
+        Contact::Height(
+            z - bull_profile(d, k.r, k.rc),
+            Touch {
+                kind: plane::CORNER,
+                which: n,
+            },
+        )
     } else {
         Contact::Nothing
     }
@@ -114,7 +120,7 @@ fn best_so_far(c: Contact) -> f64
 {
     match c {
         Contact::Nothing => MINUS_ONE / 0.0,
-        Contact::Height(z) => z,
+        Contact::Height(z, _) => z,
     }
 }
 
@@ -130,22 +136,37 @@ fn stretch_on(k: Bull, e: Edge, c: Contact, s: Stretch) -> Contact
 
 // The contact c with the largest tip's height between two places of an edge.
 fn raised(k: Bull, e: Edge, c: Contact, lo: f64, hi: f64) -> Contact
-    ensures { λ r. ⌜ r ≡ takeOf c (goldenMax (bullAt k e) lo hi 40) ⌝ }
+    ensures { λ r. ⌜ r ≡ takeOf c (goldenMax (bullAt k e) lo hi 40) (edge (e .which)) ⌝ }
 {
     match c {
-        Contact::Nothing => Contact::Height(search(k, e, lo, hi)),
-        Contact::Height(b) => Contact::Height(higher(k, e, b, lo, hi)),
+        Contact::Nothing => searched(k, e, Contact::Nothing, lo, hi),
+        Contact::Height(b, t) => higher(k, e, b, t, lo, hi),
     }
 }
 
-// The higher of b and that height. Where no place of the edge exceeds b there is no search.
-fn higher(k: Bull, e: Edge, b: f64, lo: f64, hi: f64) -> f64
-    ensures { λ r. ⌜ r ≡ maxOf b (goldenMax (bullAt k e) lo hi 40) ⌝ }
+// The height b, touching t, with that height. Where no place of the edge exceeds b there is no search, as it could neither raise b nor change what is touched.
+fn higher(k: Bull, e: Edge, b: f64, t: Touch, lo: f64, hi: f64) -> Contact
+    ensures { λ r. ⌜ r ≡ takeOf (Contact.Height b t) (goldenMax (bullAt k e) lo hi 40) (edge (e .which)) ⌝ }
 {
     if cap::skips(k, e, b, lo, hi) {
-        return b;
+        return Contact::Height(b, t);
     }
-    numbers::max(b, search(k, e, lo, hi))
+    searched(k, e, Contact::Height(b, t), lo, hi)
+}
+
+// The contact c with the height that the search finds.
+fn searched(k: Bull, e: Edge, c: Contact, lo: f64, hi: f64) -> Contact
+    ensures { λ r. ⌜ r ≡ takeOf c (goldenMax (bullAt k e) lo hi 40) (edge (e .which)) ⌝ }
+{
+    let which = e.which;
+    plane::take(
+        c,
+        search(k, e, lo, hi),
+        Touch {
+            kind: plane::EDGE,
+            which,
+        },
+    )
 }
 
 // The largest tip's height between two places of an edge.

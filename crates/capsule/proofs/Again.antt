@@ -4,12 +4,9 @@ use mathlib.Core.List.{List, [], _∷_, _++_, List·Memᴰ, List·Memᴰ·head, 
 use mathlib.Core.Logic.{_⊎_, inl, inr}
 use mathlib.Core.Path.{_≡_, refl, sym, ap, _∙_, subst}
 use Prim.Native.Nat.{ℕ}
-use lib.Ieee.{Float}
 use lib.ListN.{length, take}
-use Rattle.numbers.specs.Reals.{maxOf}
 use Rattle.numbers.proofs.Branches.{either}
 use Rattle.plane.specs.declared.Contact.{Contact}
-use Rattle.plane.specs.declared.Contact.the-variants.{Nothing, Height}
 use Rattle.plane.specs.Contacts.{takeOf}
 use Rattle.capsule.specs.declared.Capsule.{Capsule}
 use Rattle.capsule.specs.declared.Place.{Place}
@@ -18,27 +15,7 @@ use Rattle.capsule.specs.Region.{inCapsule, offerOf, offeredAll}
 use Rattle.capsule.specs.Candidates.{each, ends}
 use Rattle.capsule.proofs.Gathering.{offeredAll-append, both}
 use Rattle.capsule.proofs.Equal.{place}
-use Rattle.capsule.proofs.Higher.{max-self, max-settles, max-stays}
-
--- taking z again would change nothing
-abbrev pub Settled : Contact → Float → Type 0
-Settled Nothing z = ⊥
-Settled (Height b) z = maxOf b z ≡ b
-
-settles : (c : Contact) (z : Float) → Settled (takeOf c z) z
-unfolding takeOf
-settles Nothing z = max-self z
-settles (Height b) z = max-settles b z
-
-stays : (c : Contact) (z w : Float) → Settled c z → Settled (takeOf c w) z
-unfolding takeOf
-stays Nothing z w h = absurd h
-stays (Height b) z w h = max-stays b z w h
-
-settled : (c : Contact) (z : Float) → Settled c z → takeOf c z ≡ c
-unfolding takeOf
-settled Nothing z h = absurd h
-settled (Height b) z h = ap Height h
+use Rattle.plane.proofs.Higher.{Settled, settles, stays, settled}
 
 module _ (k : Capsule) where
   -- v, if it lies in the capsule, is no more than what was found
@@ -47,15 +24,15 @@ module _ (k : Capsule) where
 
   had-now : (c : Contact) (v : Point) → Had (offerOf k c v) v
   unfolding offerOf
-  had-now c v i = rw i (settles c (v .z))
+  had-now c v i = rw i (settles c (v .z) (v .touch))
 
   had-on : (c : Contact) (v u : Point) → Had c v → Had (offerOf k c u) v
   unfolding offerOf
-  had-on c v u h i = either (λ d. Settled d (v .z)) (inCapsule k (u .x) (u .y)) (takeOf c (u .z)) c (λ _. stays c (v .z) (u .z) (h i)) (λ _. h i)
+  had-on c v u h i = either (λ d. Settled d (v .z)) (inCapsule k (u .x) (u .y)) (takeOf c (u .z) (u .touch)) c (λ _. stays c (v .z) (u .z) (u .touch) (h i)) (λ _. h i)
 
   had-same : (c : Contact) (v : Point) → Had c v → offerOf k c v ≡ c
   unfolding offerOf
-  had-same c v h = either (λ d. d ≡ c) (inCapsule k (v .x) (v .y)) (takeOf c (v .z)) c (λ i. settled c (v .z) (h i)) (λ _. refl)
+  had-same c v h = either (λ d. d ≡ c) (inCapsule k (v .x) (v .y)) (takeOf c (v .z) (v .touch)) c (λ i. settled c (v .z) (v .touch) (h i)) (λ _. refl)
 
   had-after : (c : Contact) (v : Point) (us : List Point) → Had c v → Had (offeredAll k c us) v
   unfolding offeredAll

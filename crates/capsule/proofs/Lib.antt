@@ -1,7 +1,6 @@
 pub mod Picking
 pub mod Gathering
 pub mod Equal
-pub mod Higher
 pub mod Again
 pub mod Extremes
 pub mod Answers

@@ -1,5 +1,6 @@
 -- Document 01, the row of `max_in_capsule`: the points of a triangle where its height can peak in the capsule. The height is linear, so it peaks at a corner,
--- where an edge crosses the capsule's boundary, or inside the triangle at an extreme point of the capsule. In the order of the Rust.
+-- where an edge crosses the capsule's boundary, or inside the triangle at an extreme point of the capsule. In the order of the Rust. Each carries what it touches:
+-- a corner its number, a crossing its edge's, and all inner points the face.
 use mathlib.Core.Bool.{Bool, true, false, cond, _&&_}
 use mathlib.Core.List.{List, [], _∷_, _++_}
 use Prim.Native.Nat.{ℕ}
@@ -13,6 +14,7 @@ use Rattle.plane.specs.declared.Spot.{Spot}
 use Rattle.plane.specs.declared.Spot.the-variants.{Nowhere, At}
 use Rattle.plane.specs.declared.Contact.{Contact}
 use Rattle.plane.specs.declared.Contact.the-variants.{Nothing}
+use Rattle.plane.specs.Contacts.{corner, edge, face}
 use Rattle.plane.specs.Distance.{baryOf, atLeast}
 use Rattle.capsule.specs.declared.Capsule.{Capsule}
 use Rattle.capsule.specs.declared.Place.{Place}
@@ -28,25 +30,25 @@ each f (x ∷ xs) = f x ++ each f xs
 
 -- the corners
 unfoldable pub cornerA : Triangle → Point
-cornerA t = record { x = t .ax; y = t .ay; z = t .az }
+cornerA t = record { x = t .ax; y = t .ay; z = t .az; touch = corner 0 }
 
 unfoldable pub cornerB : Triangle → Point
-cornerB t = record { x = t .bx; y = t .by; z = t .bz }
+cornerB t = record { x = t .bx; y = t .by; z = t .bz; touch = corner 1 }
 
 unfoldable pub cornerC : Triangle → Point
-cornerC t = record { x = t .cx; y = t .cy; z = t .cz }
+cornerC t = record { x = t .cx; y = t .cy; z = t .cz; touch = corner 2 }
 
 unfoldable pub corners : Triangle → List Point
 corners t = cornerA t ∷ cornerB t ∷ cornerC t ∷ []
 
--- the edge from a to b
-unfoldable pub edgeOf : Point → Point → Edge
-edgeOf a b =
-    record { x = a .x; y = a .y; z = a .z; dx = b .x ⊖ a .x; dy = b .y ⊖ a .y; dz = b .z ⊖ a .z }
+-- edge k, from a to b
+unfoldable pub edgeOf : ℕ → Point → Point → Edge
+edgeOf k a b =
+    record { x = a .x; y = a .y; z = a .z; dx = b .x ⊖ a .x; dy = b .y ⊖ a .y; dz = b .z ⊖ a .z; which = k }
 
 -- the edges a-b, b-c and c-a
 unfoldable pub edges : Triangle → List Edge
-edges t = edgeOf (cornerA t) (cornerB t) ∷ edgeOf (cornerB t) (cornerC t) ∷ edgeOf (cornerC t) (cornerA t) ∷ []
+edges t = edgeOf 0 (cornerA t) (cornerB t) ∷ edgeOf 1 (cornerB t) (cornerC t) ∷ edgeOf 2 (cornerC t) (cornerA t) ∷ []
 
 -- the ends p and q of the segment
 unfoldable pub ends : Capsule → List Place
@@ -58,7 +60,7 @@ onEdge t = le minusSlack t && le t pastOne
 
 -- the point at s along an edge
 unfoldable pub pointOn : Edge → Float → Point
-pointOn e s = record { x = e .x ⊕ s ⊗ e .dx; y = e .y ⊕ s ⊗ e .dy; z = e .z ⊕ s ⊗ e .dz }
+pointOn e s = record { x = e .x ⊕ s ⊗ e .dx; y = e .y ⊕ s ⊗ e .dy; z = e .z ⊕ s ⊗ e .dz; touch = edge (e .which) }
 
 -- the same if t lies on the edge, with the slack cut off
 unfoldable pub reached : Edge → Float → List Point
@@ -134,7 +136,7 @@ places k h = ends k ++ (cond (lt f0 (h .g)) (tangents k h) [] ++ flanks k)
 
 -- the point of a triangle at a place of given weights
 unfoldable pub pointOver : Triangle → Place → Weights → Point
-pointOver t p w = record { x = p .x; y = p .y; z = w .u ⊗ t .az ⊕ w .v ⊗ t .bz ⊕ w .w ⊗ t .cz }
+pointOver t p w = record { x = p .x; y = p .y; z = w .u ⊗ t .az ⊕ w .v ⊗ t .bz ⊕ w .w ⊗ t .cz; touch = face }
 
 -- the same if no weight is below -1e-12
 unfoldable pub raised : Triangle → Place → Spot → List Point

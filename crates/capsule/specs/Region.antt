@@ -45,18 +45,18 @@ inCapsule k x y = le (dist2ToSegment x y (k .px) (k .py) (k .qx) (k .qy)) (k .li
 
 -- a contact with one point more, which counts if it lies in the capsule
 unfoldable pub offerOf : Capsule → Contact → Point → Contact
-offerOf k c v = cond (inCapsule k (v .x) (v .y)) (takeOf c (v .z)) c
+offerOf k c v = cond (inCapsule k (v .x) (v .y)) (takeOf c (v .z) (v .touch)) c
 
 -- a contact with all points of a list more, in their order: the highest of those in the capsule
 unfoldable pub offeredAll : Capsule → Contact → List Point → Contact
 offeredAll k c [] = c
 offeredAll k c (v ∷ vs) = offeredAll k (offerOf k c v) vs
 
--- what the points of a list can make of no contact: none, or the height of one of them that lies in the capsule
+-- what the points of a list can make of no contact: none, or the height of one of them that lies in the capsule, with its touch
 pub data Among (k : Capsule) (vs : List Point) : Contact → Type 0 where
   none : Among k vs Nothing
-  met : (v : Point) → List·Memᴰ v vs → inCapsule k (v .x) (v .y) ≡ true → Among k vs (Height (v .z))
+  met : (v : Point) → List·Memᴰ v vs → inCapsule k (v .x) (v .y) ≡ true → Among k vs (Height (v .z) (v .touch))
 
--- the contact that a count of heights found and the best of them stand for
+-- the contact that a count of heights found and the best of them, with its touch, stand for
 unfoldable pub contactOf : Best → Contact
-contactOf b = cond (eqb (b .found) 0) Nothing (Height (b .z))
+contactOf b = cond (eqb (b .found) 0) Nothing (Height (b .z) (b .touch))

@@ -6,12 +6,13 @@ ghost use mathlib.Core.Path.{_≡_};
 ghost use lib.Ieee.{lt};
 ghost use lib.ListN.{getD};
 ghost use Rattle.numbers.specs.Reals.{f0};
-ghost use Rattle.plane.specs.Contacts.{takeOf};
+ghost use Rattle.plane.specs.Contacts.{corner, takeOf};
 ghost use Rattle.capsule.specs.Region.{normalOf, capsuleOf, offerOf, offeredAll, Among, contactOf};
 ghost use Rattle.capsule.specs.Candidates.{each, corners, edgeOf, edges, ends, onEdge, reached, circled, sided, sides, crossed};
 ghost use Rattle.capsule.specs.Candidates.{determinantOf, riseOf, tangents, flank, flanks, places, planeOver, inner, candidates, highestIn, maxInCapsule};
 use plane::Contact;
 use plane::Spot;
+use plane::Touch;
 use plane::Triangle;
 
 const MINUS_ONE: f64 = -1.0;
@@ -39,14 +40,15 @@ pub struct Place {
     pub y: f64,
 }
 
-// A point of a triangle.
+// A point of a triangle, and what it touches there.
 pub struct Point {
     pub x: f64,
     pub y: f64,
     pub z: f64,
+    pub touch: Touch,
 }
 
-// An edge: its start, and the way to its end.
+// An edge: its start, the way to its end, and which of the three it is.
 pub struct Edge {
     pub x: f64,
     pub y: f64,
@@ -54,6 +56,7 @@ pub struct Edge {
     pub dx: f64,
     pub dy: f64,
     pub dz: f64,
+    pub which: u32,
 }
 
 // The slope g of a triangle, and the way of length r that rises most.
@@ -63,10 +66,11 @@ pub struct Rise {
     pub y: f64,
 }
 
-// What was found so far: nothing (0), or a best height z.
+// What was found so far: nothing (0), or a best height z with its touch.
 pub struct Best {
     pub found: u64,
     pub z: f64,
+    pub touch: Touch,
 }
 
 // The highest point of a triangle in the capsule of radius r around p-q.
@@ -122,7 +126,14 @@ pub fn highest_in(k: Capsule, t: Triangle) -> Contact
 fn found_in(k: Capsule, t: Triangle) -> Best
     ensures { λ b. ⌜ (contactOf b ≡ highestIn k t) × Among k (candidates k t) (contactOf b) ⌝ }
 {
-    let none = Best { found: 0, z: 0.0 };
+    let none = Best {
+        found: 0,
+        z: 0.0,
+        touch: Touch {
+            kind: plane::FACE,
+            which: 0,
+        },
+    };
     let corners = offer_corners(k, none, t);
     let crossings = offer_edges(k, corners, t);
     offer_inner(k, crossings, t)
@@ -132,33 +143,42 @@ fn found_in(k: Capsule, t: Triangle) -> Best
 fn contact_of(b: Best) -> Contact
     ensures { λ c. ⌜ c ≡ contactOf b ⌝ }
 {
+    let touch = b.touch;
     if b.found == 0 {
         Contact::Nothing
     } else {
-        Contact::Height(b.z)
+        Contact::Height(b.z, touch)
     }
 }
 
-// The higher of what was found and z.
-fn take_best(b: Best, z: f64) -> Best
-    ensures { λ c. ⌜ contactOf c ≡ takeOf (contactOf b) z ⌝ }
+// The higher of what was found and z, which touches t.
+fn take_best(b: Best, z: f64, t: Touch) -> Best
+    ensures { λ c. ⌜ contactOf c ≡ takeOf (contactOf b) z t ⌝ }
 {
     if b.found == 0 {
-        Best { found: 1, z }
-    } else {
-        Best {
+        return Best {
             found: 1,
-            z: numbers::max(b.z, z),
-        }
+            z,
+            touch: t,
+        };
     }
+    if plane::exceeds(z, b.z) {
+        return Best {
+            found: 1,
+            z,
+            touch: t,
+        };
+    }
+    b
 }
 
 // What was found, and v if it lies in the capsule.
 fn offer(k: Capsule, best: Best, v: Point) -> Best
     ensures { λ c. ⌜ contactOf c ≡ offerOf k (contactOf best) v ⌝ }
 {
+    let touch = v.touch;
     if plane::dist2_to_segment(v.x, v.y, k.px, k.py, k.qx, k.qy) <= k.limit {
-        take_best(best, v.z)
+        take_best(best, v.z, touch)
     } else {
         best
     }
@@ -175,6 +195,10 @@ fn offer_corners(k: Capsule, best: Best, t: Triangle) -> Best
             x: t.ax,
             y: t.ay,
             z: t.az,
+            touch: Touch {
+                kind: plane::CORNER,
+                which: 0,
+            },
         },
     );
     let b = offer(
@@ -184,6 +208,10 @@ fn offer_corners(k: Capsule, best: Best, t: Triangle) -> Best
             x: t.bx,
             y: t.by,
             z: t.bz,
+            touch: Touch {
+                kind: plane::CORNER,
+                which: 1,
+            },
         },
     );
     offer(
@@ -193,6 +221,10 @@ fn offer_corners(k: Capsule, best: Best, t: Triangle) -> Best
             x: t.cx,
             y: t.cy,
             z: t.cz,
+            touch: Touch {
+                kind: plane::CORNER,
+                which: 2,
+            },
         },
     )
 }
@@ -213,17 +245,17 @@ fn edge_of(t: Triangle, i: usize) -> Edge
     ensures { λ e. ⌜ e ≡ getD (edges t) i e ⌝ }
 {
     if i == 0 {
-        return edge_between(t.ax, t.ay, t.az, t.bx, t.by, t.bz);
+        return edge_between(0, t.ax, t.ay, t.az, t.bx, t.by, t.bz);
     }
     if i == 1 {
-        return edge_between(t.bx, t.by, t.bz, t.cx, t.cy, t.cz);
+        return edge_between(1, t.bx, t.by, t.bz, t.cx, t.cy, t.cz);
     }
-    edge_between(t.cx, t.cy, t.cz, t.ax, t.ay, t.az)
+    edge_between(2, t.cx, t.cy, t.cz, t.ax, t.ay, t.az)
 }
 
-// The edge from a to b.
-fn edge_between(ax: f64, ay: f64, az: f64, bx: f64, by: f64, bz: f64) -> Edge
-    ensures { λ e. ⌜ e ≡ edgeOf (record { x = ax; y = ay; z = az }) (record { x = bx; y = by; z = bz }) ⌝ }
+// Edge k, from a to b.
+fn edge_between(k: u32, ax: f64, ay: f64, az: f64, bx: f64, by: f64, bz: f64) -> Edge
+    ensures { λ e. ⌜ e ≡ edgeOf k (record { x = ax; y = ay; z = az; touch = corner k }) (record { x = bx; y = by; z = bz; touch = corner k }) ⌝ }
 {
     Edge {
         x: ax,
@@ -232,6 +264,7 @@ fn edge_between(ax: f64, ay: f64, az: f64, bx: f64, by: f64, bz: f64) -> Edge
         dx: bx - ax,
         dy: by - ay,
         dz: bz - az,
+        which: k,
     }
 }
 
@@ -364,6 +397,10 @@ fn offer_at(k: Capsule, best: Best, e: Edge, t: f64) -> Best
                 x: e.x + s * e.dx,
                 y: e.y + s * e.dy,
                 z: e.z + s * e.dz,
+                touch: Touch {
+                    kind: plane::EDGE,
+                    which: e.which,
+                },
             },
         );
     }
@@ -500,6 +537,10 @@ fn offer_over(k: Capsule, best: Best, t: Triangle, p: Place) -> Best
                         x: p.x,
                         y: p.y,
                         z: w.u * t.az + w.v * t.bz + w.w * t.cz,
+                        touch: Touch {
+                            kind: plane::FACE,
+                            which: 0,
+                        },
                     },
                 )
             } else {

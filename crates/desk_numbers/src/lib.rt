@@ -105,17 +105,19 @@ pub extern "C" fn mandrikelo_distance_xy(triangle: &[f64; 9], x: f64, y: f64) ->
     plane::distance_xy(plane::triangle_at(triangle, 0), x, y)
 }
 
-// Lays a contact into a bool and a fixed array.
-fn lay(c: Contact, height: &mut [f64; 1]) -> bool
-    ensures { λ b. ⌜ contactLeft b (now (height .exit)) ≡ contactLeftBy c ⌝ }
+// Lays a contact into a bool and two fixed arrays.
+fn lay(c: Contact, height: &mut [f64; 1], touched: &mut [u32; 2]) -> bool
+    ensures { λ b. ⌜ contactLeft b (now (height .exit)) (now (touched .exit)) ≡ contactLeftBy c ⌝ }
 {
     match c {
         Contact::Nothing => {
             *height = [0.0];
+            *touched = [0, 0];
             false
         }
-        Contact::Height(z) => {
+        Contact::Height(z, t) => {
             *height = [z];
+            *touched = [t.kind, t.which];
             true
         }
     }
@@ -132,12 +134,14 @@ pub extern "C" fn mandrikelo_max_in_capsule(
     r: f64,
     eps: f64,
     height: &mut [f64; 1],
+    touched: &mut [u32; 2],
 ) -> bool
-    ensures { λ b. ⌜ contactLeft b (now (height .exit)) ≡ contactLeftBy (maxInCapsule (triangleOf (now (triangle .entry)) 0) px py qx qy r eps) ⌝ }
+    ensures { λ b. ⌜ contactLeft b (now (height .exit)) (now (touched .exit)) ≡ contactLeftBy (maxInCapsule (triangleOf (now (triangle .entry)) 0) px py qx qy r eps) ⌝ }
 {
     lay(
         capsule::max_in_capsule(plane::triangle_at(triangle, 0), px, py, qx, qy, r, eps),
         height,
+        touched,
     )
 }
 
@@ -159,8 +163,9 @@ pub extern "C" fn mandrikelo_bull_contact(
     rc: f64,
     floor: f64,
     height: &mut [f64; 1],
+    touched: &mut [u32; 2],
 ) -> bool
-    ensures { λ b. ⌜ contactLeft b (now (height .exit)) ≡ contactLeftBy (bullContactAbove (triangleOf (now (triangle .entry)) 0) (record { x = px; y = py; r = r; rc = rc }) floor) ⌝ }
+    ensures { λ b. ⌜ contactLeft b (now (height .exit)) (now (touched .exit)) ≡ contactLeftBy (bullContactAbove (triangleOf (now (triangle .entry)) 0) (record { x = px; y = py; r = r; rc = rc }) floor) ⌝ }
 {
     let k = Bull {
         x: px,
@@ -171,6 +176,7 @@ pub extern "C" fn mandrikelo_bull_contact(
     lay(
         bull::bull_contact_above(plane::triangle_at(triangle, 0), k, floor),
         height,
+        touched,
     )
 }
 
@@ -182,8 +188,9 @@ pub extern "C" fn mandrikelo_section_contact(
     py: f64,
     section: &[f64; 4],
     height: &mut [f64; 1],
+    touched: &mut [u32; 2],
 ) -> bool
-    ensures { λ b. ⌜ contactLeft b (now (height .exit)) ≡ contactLeftBy (sectionContact (triangleOf (now (triangle .entry)) 0) px py (sectionFrom (now (section .entry)))) ⌝ }
+    ensures { λ b. ⌜ contactLeft b (now (height .exit)) (now (touched .exit)) ≡ contactLeftBy (sectionContact (triangleOf (now (triangle .entry)) 0) px py (sectionFrom (now (section .entry)))) ⌝ }
 {
     let s = Section {
         z0: section[0],
@@ -194,5 +201,6 @@ pub extern "C" fn mandrikelo_section_contact(
     lay(
         section::section_contact(plane::triangle_at(triangle, 0), px, py, s),
         height,
+        touched,
     )
 }

@@ -42,11 +42,11 @@ module _ (ix : Index) (marks : List ℕ) (stamp : ℕ) (s : Sweep) (a : Answer) 
         count = l .all;
         height = rw v
             (⊎-elim inl
-            (λ o. inr (record { above = o .above; one = o .one; ofThem = shared (o .one) (o .looked); computed = o .computed }))
+            (λ o. inr (record { above = o .above; one = o .one; ofThem = shared (o .one) (o .looked); touch = o .touch; computed = o .computed }))
             (fold-is (ix .mesh) q is (ix .header .floor) real));
-        none = λ k t y g above higher.
+        none = λ k t y touch g above higher.
             let n : 0 < times k is = omega (arith, l .looks .each k t) in
-            fold-none (ix .mesh) q is (ix .header .floor) real k n y g (rw v at above) (rw v at higher);
+            fold-none (ix .mesh) q is (ix .header .floor) real k n y touch g (rw v at above) (rw v at higher);
       }
 
   pub disk-promise : DiskPromise ix marks stamp s a

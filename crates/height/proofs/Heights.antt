@@ -13,6 +13,7 @@ use Rattle.numbers.proofs.Branches.{by-test, no}
 use Rattle.numbers.proofs.Strict.{lt-goes-on, lt-never-same, lt-number, le-not-lt}
 use Rattle.spans.specs.Mesh.{isCoordinate}
 use Rattle.cells.specs.Cover.{times}
+use Rattle.plane.specs.declared.Touch.{Touch}
 use Rattle.plane.specs.declared.Contact.{Contact}
 use Rattle.plane.specs.declared.Contact.the-variants.{Nothing, Height}
 use Rattle.plane.specs.Mesh.{triangleOf, topOf}
@@ -40,8 +41,8 @@ under b a z r l = ⊎-elim (λ e. rw e at l) (λ m. lt-goes-on b a z m l) r
 rises-trans : (x y z : Float) → Rises x y → Rises y z → Rises x z
 rises-trans x y z r s = ⊎-elim (λ e. rw e r) (λ m. inr (under x y z r m)) s
 
-height-is : (y z : Float) → _≡_ {A = Contact} (Height y) (Height z) → y ≡ z
-height-is y z g = cc
+height-is : (y z : Float) (s t : Touch) → _≡_ {A = Contact} (Height y s) (Height z t) → y ≡ z
+height-is y z s t g = cc
 
 -- ---- max of a real number and z: it stays, or it becomes z, which is above
 record Kept (b z : Float) : Type 0 where
@@ -63,29 +64,30 @@ module _ (mesh : List Float) (q : Capsule) where
   -- a triangle that is skipped, or has no contact, or one that is not above, leaves the best; else the best is its height
   record Skipped (b : Float) (i : ℕ) : Type 0 where
     same : diskStep mesh q b i ≡ b
-    why : (z : Float) → heightOf mesh q i ≡ Height z → (le (topOf (triangleOf mesh i)) b ≡ true) ⊎ (lt b z ≡ false)
+    why : (z : Float) (t : Touch) → heightOf mesh q i ≡ Height z t → (le (topOf (triangleOf mesh i)) b ≡ true) ⊎ (lt b z ≡ false)
 
   record Raised (b : Float) (i : ℕ) : Type 0 where
-    height : heightOf mesh q i ≡ Height (diskStep mesh q b i)
+    touch : Touch
+    height : heightOf mesh q i ≡ Height (diskStep mesh q b i) touch
     above : lt b (diskStep mesh q b i) ≡ true
 
   by-contact : (b : Float) (i : ℕ) (k : Contact) → Real b → heightOf mesh q i ≡ k → diskStep mesh q b i ≡ raisedBy k b → Skipped b i ⊎ Raised b i
   unfolding raisedBy
-  by-contact b i Nothing n e f = inl (record { same = f; why = λ z g. absurd (none z (sym e ∙ g)) })
+  by-contact b i Nothing n e f = inl (record { same = f; why = λ z t g. absurd (none z t (sym e ∙ g)) })
     where
-      none : (z : Float) → _≡_ {A = Contact} Nothing (Height z) → ⊥
-      none z g = let k : _≡_ {A = ℕ} 0 1 = cc in omega arith
-  by-contact b i (Height z) n e f =
+      none : (z : Float) (t : Touch) → _≡_ {A = Contact} Nothing (Height z t) → ⊥
+      none z t g = let k : _≡_ {A = ℕ} 0 1 = cc in omega arith
+  by-contact b i (Height z t) n e f =
       ⊎-elim
-      (λ k. inl (record { same = f ∙ k .same; why = λ y g. inr (rw (height-is y z (sym g ∙ e)) (k .not-above)) }))
-      (λ t. inr (record { height = e ∙ ap Height (sym (f ∙ t .new)); above = rw (f ∙ t .new) (t .above) }))
+      (λ k. inl (record { same = f ∙ k .same; why = λ y s g. inr (rw (height-is y z s t (sym g ∙ e)) (k .not-above)) }))
+      (λ k. inr (record { touch = t; height = e ∙ ap (λ (y : Float). Height y t) (sym (f ∙ k .new)); above = rw (f ∙ k .new) (k .above) }))
       (max-is b z n)
 
   step-is : (b : Float) (i : ℕ) → Real b → Skipped b i ⊎ Raised b i
   unfolding diskStep
   step-is b i n =
       by-test (le (topOf (triangleOf mesh i)) b)
-      (λ e. inl (record { same = rw e; why = λ z g. inl e }))
+      (λ e. inl (record { same = rw e; why = λ z t g. inl e }))
       (λ e. by-contact b i (heightOf mesh q i) n refl (rw e))
 
   step-rises : (b : Float) (i : ℕ) → Real b → Rises b (diskStep mesh q b i) × Real (diskStep mesh q b i)
@@ -104,7 +106,8 @@ module _ (mesh : List Float) (q : Capsule) where
     pub above : lt b v ≡ true
     pub one : ℕ
     pub looked : 0 < times one is
-    pub computed : heightOf mesh q one ≡ Height v
+    pub touch : Touch
+    pub computed : heightOf mesh q one ≡ Height v touch
 
   pub fold-is : (is : List ℕ) (b : Float) → Real b → (fold (diskStep mesh q) b is ≡ b) ⊎ One is b (fold (diskStep mesh q) b is)
   unfolding fold times
@@ -114,30 +117,30 @@ module _ (mesh : List Float) (q : Capsule) where
       ⊎-elim
       (λ e.
       ⊎-elim (λ s. inl (e ∙ s .same))
-      (λ s. inr (record { above = rw e (s .above); one = i; looked = rw (eq-eqb i i refl) (omega arith); computed = s .height ∙ ap Height (sym e) }))
+      (λ s. inr (record { above = rw e (s .above); one = i; looked = rw (eq-eqb i i refl) (omega arith); touch = s .touch; computed = s .height ∙ ap (λ (y : Float). Height y (s .touch)) (sym e) }))
       (step-is b i n))
-      (λ o. inr (record { above = under b (diskStep mesh q b i) _ (r .0) (o .above); one = o .one; looked = omega (arith, o .looked); computed = o .computed }))
+      (λ o. inr (record { above = under b (diskStep mesh q b i) _ (r .0) (o .above); one = o .one; looked = omega (arith, o .looked); touch = o .touch; computed = o .computed }))
       (fold-is is (diskStep mesh q b i) (r .1))
 
   -- the triangle that was just looked at: its top or its height is not above what the walk ends at
-  last-none : (is : List ℕ) (b : Float) → Real b → (i : ℕ) (z : Float) → heightOf mesh q i ≡ Height z → lt (fold (diskStep mesh q) (diskStep mesh q b i) is) (topOf (triangleOf mesh i)) ≡ true → lt (fold (diskStep mesh q) (diskStep mesh q b i) is) z ≡ true → ⊥
-  last-none is b n i z g above higher =
+  last-none : (is : List ℕ) (b : Float) → Real b → (i : ℕ) (z : Float) (t : Touch) → heightOf mesh q i ≡ Height z t → lt (fold (diskStep mesh q) (diskStep mesh q b i) is) (topOf (triangleOf mesh i)) ≡ true → lt (fold (diskStep mesh q) (diskStep mesh q b i) is) z ≡ true → ⊥
+  last-none is b n i z touch g above higher =
       let r = step-rises b i n in
       let f = fold-rises is (diskStep mesh q b i) (r .1) in
       ⊎-elim
       (λ s.
       ⊎-elim (λ t. le-not-lt _ b t (under b _ _ (r .0) (under _ _ _ f above)))
       (λ t. no (sym t ∙ under b _ z (r .0) (under _ _ z f higher)))
-      (s .why z g))
-      (λ s. lt-never-same z (rw (height-is _ z (sym (s .height) ∙ g)) at (under _ _ z f higher)))
+      (s .why z touch g))
+      (λ s. lt-never-same z (rw (height-is _ z _ touch (sym (s .height) ∙ g)) at (under _ _ z f higher)))
       (step-is b i n)
 
-  pub fold-none : (is : List ℕ) (b : Float) → Real b → (i : ℕ) → 0 < times i is → (z : Float) → heightOf mesh q i ≡ Height z → lt (fold (diskStep mesh q) b is) (topOf (triangleOf mesh i)) ≡ true → lt (fold (diskStep mesh q) b is) z ≡ true → ⊥
+  pub fold-none : (is : List ℕ) (b : Float) → Real b → (i : ℕ) → 0 < times i is → (z : Float) (touch : Touch) → heightOf mesh q i ≡ Height z touch → lt (fold (diskStep mesh q) b is) (topOf (triangleOf mesh i)) ≡ true → lt (fold (diskStep mesh q) b is) z ≡ true → ⊥
   unfolding fold times
-  fold-none [] b n i t z g above higher = absurd (omega arith)
-  fold-none (j ∷ is) b n i t z g above higher =
+  fold-none [] b n i t z touch g above higher = absurd (omega arith)
+  fold-none (j ∷ is) b n i t z touch g above higher =
       by-test (eqb i j)
       (λ e.
       let k : j ≡ i = sym (eqb-true i j e) in
-      last-none is b n i z g (rw k at above) (rw k at higher))
-      (λ e. fold-none is (diskStep mesh q b j) (step-rises b j n .1) i (omega (arith, rw e at t)) z g above higher)
+      last-none is b n i z touch g (rw k at above) (rw k at higher))
+      (λ e. fold-none is (diskStep mesh q b j) (step-rises b j n .1) i (omega (arith, rw e at t)) z touch g above higher)

@@ -6,6 +6,7 @@ use mathlib.Core.Path.{_≡_}
 use Prim.Native.Nat.{ℕ}
 use lib.Ieee.{Float, lt}
 use lib.ListN.{length}
+use Rattle.plane.specs.declared.Touch.{Touch}
 use Rattle.plane.specs.declared.Contact.the-variants.{Height}
 use Rattle.plane.specs.Mesh.{triangleOf, topOf}
 use Rattle.capsule.specs.declared.Capsule.{Capsule}
@@ -22,7 +23,8 @@ pub record HeightOfOne (ix : Index) (p : Patch) (q : Capsule) (height : Float) :
   pub above : lt (ix .header .floor) height ≡ true
   pub one : ℕ
   pub ofThem : Shares ix p one
-  pub computed : heightOf (ix .mesh) q one ≡ Height height
+  pub touch : Touch
+  pub computed : heightOf (ix .mesh) q one ≡ Height height touch
 
 -- What an accepted question with the cells p and the capsule q has done over the list `is`, with the answer a:
 --   looks   it "has looked at each triangle sharing a grid cell with the question exactly once, and at no other";
@@ -34,7 +36,7 @@ pub record Demand3 (ix : Index) (p : Patch) (q : Capsule) (is : List ℕ) (a : A
   pub count : a .count ≡ length is
   pub height : (a .height ≡ ix .header .floor) ⊎ HeightOfOne ix p q (a .height)
   pub none : (i : ℕ) → Shares ix p i
-      → (z : Float) → heightOf (ix .mesh) q i ≡ Height z
+      → (z : Float) (t : Touch) → heightOf (ix .mesh) q i ≡ Height z t
       → lt (a .height) (topOf (triangleOf (ix .mesh) i)) ≡ true
       → lt (a .height) z ≡ true
       → ⊥

@@ -3,7 +3,7 @@ ghost use mathlib.Core.Path.{_≡_};
 ghost use Prim.Native.Nat.{_+_, _*_, _≤_};
 ghost use lib.ListN.{length};
 ghost use Rattle.plane.specs.Mesh.{triangleOf, lowest, highest, topOf, boundsOf};
-ghost use Rattle.plane.specs.Contacts.{takeOf};
+ghost use Rattle.plane.specs.Contacts.{exceedsOf, takeOf};
 ghost use Rattle.plane.specs.Distance.{nearestT, dist2ToSegment, baryOf, atLeast, edgeDistance, distanceXy};
 
 // The corners a, b and c of a triangle.
@@ -28,10 +28,23 @@ pub struct Bounds {
     pub top: f64,
 }
 
-// What the tool meets: nothing, or the triangle at a height.
+// The kinds of a touch.
+pub const CORNER: u32 = 1;
+
+pub const EDGE: u32 = 2;
+
+pub const FACE: u32 = 3;
+
+// What of a triangle is touched: its kind is 1 for a corner, 2 for an edge and 3 for the face, and `which` of the three corners or edges, from 0 on; 0 for the face.
+pub struct Touch {
+    pub kind: u32,
+    pub which: u32,
+}
+
+// What the tool meets: nothing, or the triangle at a height, with what is touched there.
 pub enum Contact {
     Nothing,
-    Height(f64),
+    Height(f64, Touch),
 }
 
 // How much of each corner a place in plan is made of.
@@ -100,13 +113,30 @@ pub fn bounds_of(t: Triangle) -> Bounds
     }
 }
 
-// The higher of what was met so far and z.
-pub fn take(c: Contact, z: f64) -> Contact
-    ensures { λ r. ⌜ r ≡ takeOf c z ⌝ }
+// Whether z takes the place of the height b.
+pub fn exceeds(z: f64, b: f64) -> bool
+    ensures { λ r. ⌜ r ≡ exceedsOf z b ⌝ }
+{
+    if b != b {
+        if z != z { false } else { true }
+    } else {
+        b < z
+    }
+}
+
+// The higher of what was met so far and z, which touches t.
+pub fn take(c: Contact, z: f64, t: Touch) -> Contact
+    ensures { λ r. ⌜ r ≡ takeOf c z t ⌝ }
 {
     match c {
-        Contact::Nothing => Contact::Height(z),
-        Contact::Height(b) => Contact::Height(numbers::max(b, z)),
+        Contact::Nothing => Contact::Height(z, t),
+        Contact::Height(b, s) => {
+            if exceeds(z, b) {
+                Contact::Height(z, t)
+            } else {
+                Contact::Height(b, s)
+            }
+        }
     }
 }
 

@@ -50,7 +50,11 @@ stretchFrom t m r near =
 unfoldable pub stretchOf : Triangle → Chord → Float → ℕ → Stretch
 stretchOf t m r n = stretchFrom t m r (nearOf t m n)
 
--- How far the contact c, lifted, stands above the tip at s: minus infinity where there is none.
+-- How far the height z, lifted, stands above the tip at s.
+unfoldable pub aboveOf : Chord → Float → Float → Float
+aboveOf m s z = z ⊕ m .lift ⊖ along (m .az) (m .bz) s
+
+-- The same of the contact c: minus infinity where there is none.
 unfoldable pub gapOf : Chord → Float → Contact → Float
 gapOf m s Nothing = minusInfinity
-gapOf m s (Height z) = z ⊕ m .lift ⊖ along (m .az) (m .bz) s
+gapOf m s (Height z t) = aboveOf m s z

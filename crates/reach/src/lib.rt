@@ -1,7 +1,7 @@
 // A chord, the straight move of a tool's tip, and where along it a triangle is within a cutter's reach.
 ghost use mathlib.Core.Path.{_≡_};
 ghost use Rattle.golden.specs.Search.{falls, goldenStart, goldenStep};
-ghost use Rattle.reach.specs.Reach.{apartAt, nearOf, halvedOf, spanAt, rimOf, stretchFrom, stretchOf, gapOf};
+ghost use Rattle.reach.specs.Reach.{apartAt, nearOf, halvedOf, spanAt, rimOf, stretchFrom, stretchOf, aboveOf, gapOf};
 use golden::Golden;
 use plane::Contact;
 use plane::Triangle;
@@ -51,13 +51,13 @@ pub fn gap_of(m: Chord, s: f64, c: Contact) -> f64
 {
     match c {
         Contact::Nothing => MINUS_ONE / 0.0,
-        Contact::Height(z) => above(m, s, z),
+        Contact::Height(z, _) => above(m, s, z),
     }
 }
 
 // How far the height z, lifted, stands above the tip at s.
 fn above(m: Chord, s: f64, z: f64) -> f64
-    ensures { λ r. ⌜ r ≡ gapOf m s (Contact.Height z) ⌝ }
+    ensures { λ r. ⌜ r ≡ aboveOf m s z ⌝ }
 {
     z + m.lift - (m.az + s * (m.bz - m.az))
 }

@@ -1,6 +1,7 @@
 -- Document 01, rows `Section` and `section_contact`, and "Questions": a section of a tool, seen from below, and its contact with one triangle. Its lower surface
 -- is level to r0, at z0 over the tip, and rises in a straight line to r1.
 use mathlib.Core.Bool.{Bool, cond, _&&_}
+use Prim.Native.Nat.{ℕ}
 use lib.Ieee.{Float, lt, le}
 use Rattle.numbers.specs.Reals.{_⊕_, _⊖_, _⊗_, f0, noSlope, million, billion, minOf, absOf}
 use Rattle.numbers.specs.Root.{rootOf}
@@ -8,6 +9,7 @@ use Rattle.numbers.specs.Hypot.{hypotOf}
 use Rattle.plane.specs.declared.Triangle.{Triangle}
 use Rattle.plane.specs.declared.Contact.{Contact}
 use Rattle.plane.specs.declared.Contact.the-variants.{Nothing, Height}
+use Rattle.plane.specs.Contacts.{corner, edge}
 use Rattle.golden.specs.Search.{goldenMaxBound}
 use Rattle.golden.specs.Upper.{infinity}
 use Rattle.touch.specs.declared.Edge.{Edge}
@@ -44,21 +46,21 @@ unfoldable pub heightOver : Surface → Float
 heightOver Beyond = infinity
 heightOver (Over h) = h
 
--- The candidate of a point at the height z under the surface.
-unfoldable pub sectionUnder : Float → Surface → Contact
-sectionUnder z Beyond = Nothing
-sectionUnder z (Over h) = Height (z ⊖ h)
+-- The candidate of corner n at the height z under the surface.
+unfoldable pub sectionUnder : ℕ → Float → Surface → Contact
+sectionUnder n z Beyond = Nothing
+sectionUnder n z (Over h) = Height (z ⊖ h) (corner n)
 
--- The candidate of a vertex (vx, vy, vz); the axis stands at (x, y).
-unfoldable pub sectionVertex : Section → Float → Float → Float → Float → Float → Contact
-sectionVertex s x y vx vy vz = sectionUnder vz (profileOf s (hypotOf (vx ⊖ x) (vy ⊖ y)))
+-- The candidate of vertex n, (vx, vy, vz); the axis stands at (x, y).
+unfoldable pub sectionVertex : Section → Float → Float → ℕ → Float → Float → Float → Contact
+sectionVertex s x y n vx vy vz = sectionUnder n vz (profileOf s (hypotOf (vx ⊖ x) (vy ⊖ y)))
 
 -- The vertices' candidates, in their order.
 unfoldable pub sectionVertices : Section → Float → Float → Triangle → Contact
 sectionVertices s x y t =
-    let a = sectionVertex s x y (t .ax) (t .ay) (t .az) in
-    let b = sectionVertex s x y (t .bx) (t .by) (t .bz) in
-    let c = sectionVertex s x y (t .cx) (t .cy) (t .cz) in
+    let a = sectionVertex s x y 0 (t .ax) (t .ay) (t .az) in
+    let b = sectionVertex s x y 1 (t .bx) (t .by) (t .bz) in
+    let c = sectionVertex s x y 2 (t .cx) (t .cy) (t .cz) in
     offerOf (offerOf (offerOf Nothing a) b) c
 
 -- The tip's height over the edge's point at t.
@@ -69,10 +71,11 @@ sectionAt s x y e t = along (e .az) (e .bz) t ⊖ heightOver (profileOf s (minOf
 unfoldable pub lipschitzOf : Section → Edge → Float
 lipschitzOf s e = absOf (e .bz ⊖ e .az) ⊕ s .rise ⊗ rootOf (length2 e)
 
--- An upper bound over the edge's stretch under the section, from a search of 60 steps.
+-- An upper bound over the edge's stretch under the section, from a search of 60 steps. It touches the edge, also where the search ends at an end and the bound lies a
+-- hair above its corner.
 unfoldable pub sectionStretch : Section → Float → Float → Edge → Stretch → Contact
 sectionStretch s x y e Nowhere = Nothing
-sectionStretch s x y e (Between t0 t1) = Height (goldenMaxBound (sectionAt s x y e) t0 t1 (lipschitzOf s e))
+sectionStretch s x y e (Between t0 t1) = Height (goldenMaxBound (sectionAt s x y e) t0 t1 (lipschitzOf s e)) (edge (e .which))
 
 -- The candidate of an edge.
 unfoldable pub sectionEdge : Section → Float → Float → Edge → Contact

@@ -5,6 +5,7 @@ ghost use Rattle.section.specs.Inside.{FlatTo};
 ghost use Rattle.section.specs.Section.{within, positiveReach, validSection, profileOf, heightOver, sectionUnder, sectionVertex, sectionVertices, sectionAt, lipschitzOf, sectionStretch, sectionEdge, sectionEdges, reachOf, sectionSloped, sectionRest, sectionFacet, sectionContact};
 use golden::Golden;
 use plane::Contact;
+use plane::Touch;
 use plane::Triangle;
 use touch::Edge;
 use touch::Facing;
@@ -97,30 +98,36 @@ fn height_over(h: Surface) -> f64
     }
 }
 
-// The candidate of a point at the height z under the surface.
-fn under(z: f64, h: Surface) -> Contact
-    ensures { λ c. ⌜ c ≡ sectionUnder z h ⌝ }
+// The candidate of corner n at the height z under the surface.
+fn under(n: u32, z: f64, h: Surface) -> Contact
+    ensures { λ c. ⌜ c ≡ sectionUnder n z h ⌝ }
 {
     match h {
         Surface::Beyond => Contact::Nothing,
-        Surface::Over(d) => Contact::Height(z - d),
+        Surface::Over(d) => Contact::Height(
+            z - d,
+            Touch {
+                kind: plane::CORNER,
+                which: n,
+            },
+        ),
     }
 }
 
-// The candidate of a vertex.
-fn vertex(s: Section, x: f64, y: f64, vx: f64, vy: f64, vz: f64) -> Contact
-    ensures { λ c. ⌜ c ≡ sectionVertex s x y vx vy vz ⌝ }
+// The candidate of vertex n.
+fn vertex(s: Section, x: f64, y: f64, n: u32, vx: f64, vy: f64, vz: f64) -> Contact
+    ensures { λ c. ⌜ c ≡ sectionVertex s x y n vx vy vz ⌝ }
 {
-    under(vz, profile(s, numbers::hypot(vx - x, vy - y)))
+    under(n, vz, profile(s, numbers::hypot(vx - x, vy - y)))
 }
 
 // The vertices' candidates.
 fn vertices(s: Section, x: f64, y: f64, t: Triangle) -> Contact
     ensures { λ c. ⌜ c ≡ sectionVertices s x y t ⌝ }
 {
-    let a = touch::offer(Contact::Nothing, vertex(s, x, y, t.ax, t.ay, t.az));
-    let b = touch::offer(a, vertex(s, x, y, t.bx, t.by, t.bz));
-    touch::offer(b, vertex(s, x, y, t.cx, t.cy, t.cz))
+    let a = touch::offer(Contact::Nothing, vertex(s, x, y, 0, t.ax, t.ay, t.az));
+    let b = touch::offer(a, vertex(s, x, y, 1, t.bx, t.by, t.bz));
+    touch::offer(b, vertex(s, x, y, 2, t.cx, t.cy, t.cz))
 }
 
 // The contact c with the edges' candidates.
@@ -143,9 +150,16 @@ fn edge(s: Section, x: f64, y: f64, e: Edge) -> Contact
 fn stretch_of(s: Section, x: f64, y: f64, e: Edge, part: Stretch) -> Contact
     ensures { λ c. ⌜ c ≡ sectionStretch s x y e part ⌝ }
 {
+    let which = e.which;
     match part {
         Stretch::Nowhere => Contact::Nothing,
-        Stretch::Between(t0, t1) => Contact::Height(bounded(s, x, y, e, t0, t1)),
+        Stretch::Between(t0, t1) => Contact::Height(
+            bounded(s, x, y, e, t0, t1),
+            Touch {
+                kind: plane::EDGE,
+                which,
+            },
+        ),
     }
 }
 

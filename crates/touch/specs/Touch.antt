@@ -1,5 +1,5 @@
 -- Document 01, rows `bull_contact` and `section_contact`: what the contacts of round cutters share. A round cutter that stands over a triangle rests on a vertex,
--- on an edge or on the facet; each is a candidate, none or a height, and the candidates are taken in this order.
+-- on an edge or on the facet; each is a candidate, none or a height with its touch, and the candidates are taken in this order.
 use mathlib.Core.Bool.{Bool, true, false, cond}
 use lib.Ieee.{Float, lt, le, neg}
 use Rattle.numbers.specs.Reals.{_⊕_, _⊖_, _⊗_, _⊘_, f0, f1, f2, f4, tiny, minusSlack, maxOf, minOf, absOf}
@@ -11,7 +11,7 @@ use Rattle.plane.specs.declared.Contact.the-variants.{Nothing, Height}
 use Rattle.plane.specs.declared.Spot.{Spot}
 use Rattle.plane.specs.declared.Spot.the-variants.{Nowhere, At}
 use Rattle.plane.specs.declared.Weights.{Weights}
-use Rattle.plane.specs.Contacts.{takeOf}
+use Rattle.plane.specs.Contacts.{face, takeOf}
 use Rattle.plane.specs.Distance.{baryOf, atLeast}
 use Rattle.touch.specs.declared.Edge.{Edge}
 use Rattle.touch.specs.declared.Stretch.{Stretch}
@@ -24,17 +24,17 @@ use Rattle.touch.specs.declared.Rest.{Rest}
 -- A contact with one candidate more.
 unfoldable pub offerOf : Contact → Contact → Contact
 offerOf c Nothing = c
-offerOf c (Height z) = takeOf c z
+offerOf c (Height z t) = takeOf c z t
 
--- The three edges, each from one vertex to the next.
+-- The three edges, each from one vertex to the next, with its number.
 abbrev pub edgeAb : Triangle → Edge
-edgeAb t = record { ax = t .ax; ay = t .ay; az = t .az; bx = t .bx; by = t .by; bz = t .bz }
+edgeAb t = record { ax = t .ax; ay = t .ay; az = t .az; bx = t .bx; by = t .by; bz = t .bz; which = 0 }
 
 abbrev pub edgeBc : Triangle → Edge
-edgeBc t = record { ax = t .bx; ay = t .by; az = t .bz; bx = t .cx; by = t .cy; bz = t .cz }
+edgeBc t = record { ax = t .bx; ay = t .by; az = t .bz; bx = t .cx; by = t .cy; bz = t .cz; which = 1 }
 
 abbrev pub edgeCa : Triangle → Edge
-edgeCa t = record { ax = t .cx; ay = t .cy; az = t .cz; bx = t .ax; by = t .ay; bz = t .az }
+edgeCa t = record { ax = t .cx; ay = t .cy; az = t .cz; bx = t .ax; by = t .ay; bz = t .az; which = 2 }
 
 -- The coordinate at t between a and b.
 abbrev pub along : Float → Float → Float → Float
@@ -99,7 +99,7 @@ restOf g x y reach drop =
 -- The tip's height where the cutter rests on the facet, at a place of the weights p: none where that place is not on the triangle, to within 1e-12.
 unfoldable pub weighedOf : Triangle → Float → Weights → Contact
 weighedOf t drop p =
-    cond (atLeast p minusSlack) (Height (p .u ⊗ t .az ⊕ p .v ⊗ t .bz ⊕ p .w ⊗ t .cz ⊖ drop)) Nothing
+    cond (atLeast p minusSlack) (Height (p .u ⊗ t .az ⊕ p .v ⊗ t .bz ⊕ p .w ⊗ t .cz ⊖ drop) face) Nothing
 
 unfoldable pub spotHeight : Triangle → Float → Spot → Contact
 spotHeight t drop Nowhere = Nothing

@@ -3,10 +3,11 @@ ghost use mathlib.Core.Path.{_≡_};
 ghost use Rattle.touch.specs.Touch.{offerOf, edgeAb, edgeBc, edgeCa, along, distanceAt, length2, crossedOf, reachedOf, gradientOf, facingOf, restOf, weighedOf, spotHeight, facetHeight};
 use plane::Contact;
 use plane::Spot;
+use plane::Touch;
 use plane::Triangle;
 use plane::Weights;
 
-// An edge from a to b; the numbers of the plan stand side by side, as a search reads them.
+// An edge from a to b, and which of the three it is; the numbers of the plan stand side by side, as a search reads them.
 pub struct Edge {
     pub ax: f64,
     pub ay: f64,
@@ -14,6 +15,7 @@ pub struct Edge {
     pub by: f64,
     pub az: f64,
     pub bz: f64,
+    pub which: u32,
 }
 
 // A stretch of an edge: none, or from one place to another, each between 0 and 1.
@@ -48,7 +50,7 @@ pub fn offer(c: Contact, candidate: Contact) -> Contact
 {
     match candidate {
         Contact::Nothing => c,
-        Contact::Height(z) => plane::take(c, z),
+        Contact::Height(z, t) => plane::take(c, z, t),
     }
 }
 
@@ -63,6 +65,7 @@ pub fn edge_ab(t: Triangle) -> Edge
         bx: t.bx,
         by: t.by,
         bz: t.bz,
+        which: 0,
     }
 }
 
@@ -77,6 +80,7 @@ pub fn edge_bc(t: Triangle) -> Edge
         bx: t.cx,
         by: t.cy,
         bz: t.cz,
+        which: 1,
     }
 }
 
@@ -91,6 +95,7 @@ pub fn edge_ca(t: Triangle) -> Edge
         bx: t.ax,
         by: t.ay,
         bz: t.az,
+        which: 2,
     }
 }
 
@@ -207,7 +212,13 @@ fn weighed(t: Triangle, drop: f64, p: Weights) -> Contact
 {
     let z = p.u * t.az + p.v * t.bz + p.w * t.cz - drop;
     if plane::at_least(p, LEAST) {
-        Contact::Height(z)
+        Contact::Height(
+            z,
+            Touch {
+                kind: plane::FACE,
+                which: 0,
+            },
+        )
     } else {
         Contact::Nothing
     }

@@ -51,9 +51,9 @@ unlikeOf a b = cond (eqb a b) 0 1
 -- 1 where a contact is a height
 unfoldable pub heightsIn : Contact → ℕ
 heightsIn Nothing = 0
-heightsIn (Height z) = 1
+heightsIn (Height z t) = 1
 
 -- 1 where a contact is not the answer that stands behind a line's 15 numbers: the digit 0 for no contact, or 1 and the height's bits.
 unfoldable pub differsFrom : List ℕ → Contact → ℕ
 differsFrom line Nothing = unlikeOf (digitOf (getD line 257 0)) 0
-differsFrom line (Height z) = cond (eqb (digitOf (getD line 257 0)) 1) (unlikeOf (bitsOf z) (hexOf line 259 16)) 1
+differsFrom line (Height z t) = cond (eqb (digitOf (getD line 257 0)) 1) (unlikeOf (bitsOf z) (hexOf line 259 16)) 1

@@ -98,7 +98,7 @@ pub fn height(c: Contact) -> u64
 {
     match c {
         Contact::Nothing => 0,
-        Contact::Height(_) => 1,
+        Contact::Height(_, _) => 1,
     }
 }
 
@@ -109,7 +109,7 @@ pub fn differs(line: &[u8], c: Contact) -> u64
 {
     match c {
         Contact::Nothing => unlike(digit(line[257]), 0),
-        Contact::Height(z) => {
+        Contact::Height(z, _) => {
             if digit(line[257]) == 1 {
                 unlike(bits_of(z), number(line, 259))
             } else {

@@ -5,7 +5,7 @@ use Rattle.bull.proofs.vertex.Tie as tie
 
 returns : tie.Need-returns
 unfolding bullVertex
-returns c = c .over .ensures ∙ ap (bullOver _ _) (c .before .hypot .ensures)
+returns c = c .over .ensures ∙ ap (bullOver _ _ _) (c .before .hypot .ensures)
 
 pub vertex-spec : {M : Type 1} → statement M
 vertex-spec = tie.close (tie.spec (λ c κs. tt) (λ c κs. tt) returns)

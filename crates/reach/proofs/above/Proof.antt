@@ -1,10 +1,10 @@
 use mathlib.Core.Path.{_≡_, refl, ap, sym, _∙_}
-use Rattle.reach.specs.Reach.{gapOf}
+use Rattle.reach.specs.Reach.{aboveOf}
 use Rattle.reach.proofs.above.Statement.{statement}
 use Rattle.reach.proofs.above.Tie as tie
 
 returns : tie.Need-returns
-unfolding gapOf
+unfolding aboveOf
 returns c = refl
 
 pub above-spec : {M : Type 1} → statement M

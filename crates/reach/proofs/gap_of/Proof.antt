@@ -9,6 +9,7 @@ unfolding gapOf
 returns c = ap (gapOf _ _) (sym (c .enum-told .given .1))
 
 returns-2 : tie.Need-returns-2
+unfolding gapOf
 returns-2 c = c .above .ensures ∙ ap (gapOf _ _) (sym (c .before .before .c .given .1))
 
 pub gap-of-spec : {M : Type 1} → statement M

@@ -5,7 +5,7 @@ use Rattle.section.proofs.vertex.Tie as tie
 
 returns : tie.Need-returns
 unfolding sectionVertex
-returns c = c .under .ensures ∙ ap (sectionUnder _) (c .before .profile .ensures ∙ ap (profileOf _) (c .before .before .hypot .ensures))
+returns c = c .under .ensures ∙ ap (sectionUnder _ _) (c .before .profile .ensures ∙ ap (profileOf _) (c .before .before .hypot .ensures))
 
 pub vertex-spec : {M : Type 1} → statement M
 vertex-spec = tie.close (tie.spec (λ c κs. tt) (λ c κs. tt) (λ c κs. tt) returns)
