@@ -182,9 +182,9 @@ fn contacts() {
             [
                 &mut || {
                     for i in 0..n {
-                        let (p, q, mut z) = (points[i], ends[i], 0.);
+                        let (p, q, mut z, mut on) = (points[i], ends[i], 0., [0; 2]);
                         let t = triangles[i].as_ptr();
-                        black_box(unsafe { raw::mandrikelo_max_in_capsule(t, p[0], p[1], q[0], q[1], radii[i], 1e-11, &mut z) });
+                        black_box(unsafe { raw::mandrikelo_max_in_capsule(t, p[0], p[1], q[0], q[1], radii[i], 1e-11, &mut z, on.as_mut_ptr()) });
                         black_box(z);
                     }
                 },
@@ -199,9 +199,9 @@ fn contacts() {
         [
             &mut || {
                 for i in 0..n {
-                    let (p, r, mut z) = (points[i], radii[i], 0.);
+                    let (p, r, mut z, mut on) = (points[i], radii[i], 0., [0; 2]);
                     let t = triangles[i].as_ptr();
-                    black_box(unsafe { raw::mandrikelo_bull_contact(t, p[0], p[1], r, r / 2., low, &mut z) });
+                    black_box(unsafe { raw::mandrikelo_bull_contact(t, p[0], p[1], r, r / 2., low, &mut z, on.as_mut_ptr()) });
                     black_box(z);
                 }
             },
@@ -215,9 +215,9 @@ fn contacts() {
         [
             &mut || {
                 for i in 0..n {
-                    let (p, mut z) = (points[i], 0.);
+                    let (p, mut z, mut on) = (points[i], 0., [0; 2]);
                     let t = triangles[i].as_ptr();
-                    black_box(unsafe { raw::mandrikelo_section_contact(t, p[0], p[1], sections[i].as_ptr(), &mut z) });
+                    black_box(unsafe { raw::mandrikelo_section_contact(t, p[0], p[1], sections[i].as_ptr(), &mut z, on.as_mut_ptr()) });
                     black_box(z);
                 }
             },
@@ -287,7 +287,7 @@ fn heights(bed: &Bed) {
             [
                 &mut || {
                     for i in 0..n {
-                        let (p, q, mut z) = (points[i], ends[i], 0.);
+                        let (p, q, mut z, mut on) = (points[i], ends[i], 0., [0; 2]);
                         let counts = ask!(bed, mandrikelo_max_height, marks, stamp, p[0], p[1], q[0], q[1], RADIUS, &mut z);
                         stamp = counts[1];
                         black_box(z);

@@ -15,13 +15,13 @@ pub mod raw {
         pub fn mandrikelo_distance_xy(triangle: *const f64, x: f64, y: f64) -> f64;
         pub fn mandrikelo_bull_profile(d: f64, r: f64, rc: f64) -> f64;
         pub fn mandrikelo_max_in_capsule(
-            triangle: *const f64, px: f64, py: f64, qx: f64, qy: f64, r: f64, eps: f64, height: *mut f64,
+            triangle: *const f64, px: f64, py: f64, qx: f64, qy: f64, r: f64, eps: f64, height: *mut f64, touched: *mut u32,
         ) -> bool;
         pub fn mandrikelo_bull_contact(
-            triangle: *const f64, px: f64, py: f64, r: f64, rc: f64, floor: f64, height: *mut f64,
+            triangle: *const f64, px: f64, py: f64, r: f64, rc: f64, floor: f64, height: *mut f64, touched: *mut u32,
         ) -> bool;
         pub fn mandrikelo_section_contact(
-            triangle: *const f64, px: f64, py: f64, section: *const f64, height: *mut f64,
+            triangle: *const f64, px: f64, py: f64, section: *const f64, height: *mut f64, touched: *mut u32,
         ) -> bool;
         pub fn mandrikelo_build(
             mesh: *const f64, mesh_len: usize, floor: f64, r: f64, starts: *mut u32, starts_len: usize, members: *mut u32,
@@ -287,33 +287,32 @@ pub fn read_job(bytes: &[u8], mesh: &mut Lent<f64>, questions: &mut Lent<f64>) -
     Job { refusal, measures: [m[0], m[1]], sizes: [s[0], s[1]], intact }
 }
 
-/// A contact as the Rust tells it.
-fn contact(found: bool, height: Lent<f64>) -> Result<Option<f64>, String> {
-    if !height.intact() {
-        return Err("a guard word beside the height was changed".into());
+/// A height, and what is touched: kind, and which of three.
+pub type Touched = (f64, [u32; 2]);
+
+/// A contact as the Rust tells it, with what is touched.
+fn contact(ask: impl FnOnce(*mut f64, *mut u32) -> bool) -> Result<Option<Touched>, String> {
+    let (mut height, mut touched) = (Lent::room(1, f64::GUARD), Lent::room(2, u32::GUARD));
+    let found = ask(height.at(), touched.at());
+    if !height.intact() || !touched.intact() {
+        return Err("a guard word beside the height or the touch was changed".into());
     }
-    let z = height.get()[0];
+    let (z, t) = (height.get()[0], [touched.get()[0], touched.get()[1]]);
     match found {
-        true => Ok(Some(z)),
-        false if z.to_bits() == 0 => Ok(None),
-        false => Err(format!("no contact, but height {z:?}")),
+        true => Ok(Some((z, t))),
+        false if z.to_bits() == 0 && t == [0, 0] => Ok(None),
+        false => Err(format!("no contact, but height {z:?} and touch {t:?}")),
     }
 }
 
-pub fn max_in_capsule(t: &[f64], q: &[f64]) -> Result<Option<f64>, String> {
-    let mut height = Lent::room(1, f64::GUARD);
-    let found = unsafe { mandrikelo_max_in_capsule(t.as_ptr(), q[0], q[1], q[2], q[3], q[4], q[5], height.at()) };
-    contact(found, height)
+pub fn max_in_capsule(t: &[f64], q: &[f64]) -> Result<Option<Touched>, String> {
+    contact(|z, on| unsafe { mandrikelo_max_in_capsule(t.as_ptr(), q[0], q[1], q[2], q[3], q[4], q[5], z, on) })
 }
 
-pub fn bull_contact(t: &[f64], q: &[f64]) -> Result<Option<f64>, String> {
-    let mut height = Lent::room(1, f64::GUARD);
-    let found = unsafe { mandrikelo_bull_contact(t.as_ptr(), q[0], q[1], q[2], q[3], q[4], height.at()) };
-    contact(found, height)
+pub fn bull_contact(t: &[f64], q: &[f64]) -> Result<Option<Touched>, String> {
+    contact(|z, on| unsafe { mandrikelo_bull_contact(t.as_ptr(), q[0], q[1], q[2], q[3], q[4], z, on) })
 }
 
-pub fn section_contact(t: &[f64], p: &[f64], section: &[f64]) -> Result<Option<f64>, String> {
-    let mut height = Lent::room(1, f64::GUARD);
-    let found = unsafe { mandrikelo_section_contact(t.as_ptr(), p[0], p[1], section.as_ptr(), height.at()) };
-    contact(found, height)
+pub fn section_contact(t: &[f64], p: &[f64], section: &[f64]) -> Result<Option<Touched>, String> {
+    contact(|z, on| unsafe { mandrikelo_section_contact(t.as_ptr(), p[0], p[1], section.as_ptr(), z, on) })
 }

@@ -195,9 +195,9 @@ fn agree(what: &str, ours: f64, theirs: f64) -> Verdict {
     if same(ours, theirs) { Ok(()) } else { Err(told(what, ours, theirs)) }
 }
 
-fn agree_contact(what: &str, ours: Result<Option<f64>, String>, theirs: Option<f64>) -> Verdict {
+fn agree_contact(what: &str, ours: Result<Option<doors::Touched>, String>, theirs: Option<f64>) -> Verdict {
     match (ours.map_err(|e| format!("{what}: {e}"))?, theirs) {
-        (Some(a), Some(b)) => agree(what, a, b),
+        (Some((a, _)), Some(b)) => agree(what, a, b),
         (None, None) => Ok(()),
         (a, b) => Err(format!("{what}: ours {a:?}, the Rust's {b:?}")),
     }
