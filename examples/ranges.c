@@ -247,11 +247,13 @@ static void rise_and_lift(void)
     for (int d = 0; d <= 4; d++) {
         /* A corner at the height 10, d beside the axis: the surface over it is at 1 up to the radius 1, and 2 more a unit up to 3. */
         const double spike[9] = {d, 0, 10, 50, 1, -40, 50, -1, -40};
-        bool met = mandrikelo_section_contact(spike, 0, 0, cone, height);
+        uint32_t touched[2];
+        bool met = mandrikelo_section_contact(spike, 0, 0, cone, height, touched);
         double wanted = d <= 1 ? 10 - 1 : 10 - (1 + 2 * (d - 1.0));
         expect("the spike is met", d <= 3, met);
         if (met)
             expect("the tip over the spike", 1, fabs(height[0] - wanted) < 1e-6);
+        expect("what is touched is told", met, touched[0] != 0);
     }
     const double over[9] = {2, 4, 10.5, 6, 4, 10.5, 2, 0, 0};
     memcpy(q, over, sizeof q);
