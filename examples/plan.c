@@ -7,15 +7,15 @@
  *
  * A line an entry: axis, floor, radius, parameters, then each triangle, level and run, the number of rows, the cut length and the
  * dropped length. Every number is printed with 17 digits, so that it can be read back to the bit. The job's questions are not used.
- * A refusal is told as `WHO refused NUMBER`, of a cut file also how many triangles stand whole before the cut, and the status is then
- * 1. */
+ * A refusal is told as `WHO refused NUMBER`, of a cut file also how many triangles stand whole before the cut, and in words on standard
+ * error; the status is then 1. Of a mesh that was read all lines stand before it, so that a refused plan can be drawn. */
 #include <stdio.h>
 #include <stdlib.h>
 #include <string.h>
 
 #include "mandrikelo.h"
 
-enum { MOST = 65536, CELLS = 1048576, MEMBERS = 16777216, RUNS = 1000000 };
+enum { MOST = 65536, CELLS = 1048576, MEMBERS = 16777216 };
 
 static void *room(size_t entries, size_t size)
 {
@@ -45,6 +45,7 @@ static void passed(const char *who, uint32_t refusal)
 {
     if (refusal) {
         printf("%s refused %u\n", who, (unsigned)refusal);
+        fprintf(stderr, "%s: %s\n", who, mandrikelo_refusal_text(refusal));
         exit(1);
     }
 }
@@ -103,21 +104,27 @@ int main(int argc, char **argv)
 
     double *mesh = room(9 * (size_t)MOST, sizeof *mesh), place[2];
     uint32_t n = read_mesh(argc, argv, mesh, place);
-    uint32_t *starts = room(CELLS + 1, sizeof *starts), *members = room(MEMBERS, sizeof *members);
-    double measures[6];
-    uint32_t sizes[3], bad[2];
-    passed("build", mandrikelo_build(mesh, 9 * (size_t)n, place[0], place[1], starts, CELLS + 1, members, MEMBERS, measures, sizes, bad));
-
-    uint32_t *marks = room(n, sizeof *marks), counts[3];
-    double *levels = room(5 * (size_t)n, sizeof *levels), *runs = room(5 * (size_t)RUNS, sizeof *runs), lengths[2];
-    passed("plan", mandrikelo_plan(mesh, 9 * (size_t)n, measures, sizes, starts, CELLS + 1, members, MEMBERS, marks, n, parameters, axis,
-        levels, 5 * (size_t)n, runs, 5 * (size_t)RUNS, lengths, counts));
-
     printf("axis %s\n", asked[0]);
     row("floor", place, 1);
     row("radius", place + 1, 1);
     row("parameters", parameters, 7);
     rows("triangle", mesh, n, 9);
+
+    uint32_t *starts = room(CELLS + 1, sizeof *starts), *members = room(MEMBERS, sizeof *members);
+    double measures[6];
+    uint32_t sizes[3], bad[2];
+    passed("build", mandrikelo_build(mesh, 9 * (size_t)n, place[0], place[1], starts, CELLS + 1, members, MEMBERS, measures, sizes, bad));
+
+    uint32_t *marks = room(n, sizeof *marks), counts[3], refusal;
+    double *levels = room(5 * (size_t)n, sizeof *levels), *runs = NULL, lengths[2];
+    size_t most = 1000;
+    do { /* the plan writes zeros over the whole table, so it grows only as far as is asked for */
+        free(runs);
+        runs = room(5 * (most *= 2), sizeof *runs);
+        refusal = mandrikelo_plan(mesh, 9 * (size_t)n, measures, sizes, starts, CELLS + 1, members, MEMBERS, marks, n, parameters, axis,
+            levels, 5 * (size_t)n, runs, 5 * most, lengths, counts);
+    } while (refusal == MANDRIKELO_REFUSED_RUNS);
+    passed("plan", refusal);
     rows("level", levels, counts[0], 5);
     rows("run", runs, counts[2], 5);
     printf("rows %u\n", (unsigned)counts[1]);
