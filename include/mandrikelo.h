@@ -317,11 +317,11 @@ double mandrikelo_hypot(double x, double y);      /* the length of (x, y); infin
 bool mandrikelo_total_less(double x, double y);   /* before in the total order */
 
 /* One triangle, as it stands, and any f64s: nothing is refused here, and what is no range of a question is worked out all the same. A
- * contact answers whether there is one, its height, and what is touched there: a corner, an edge (edge k runs from corner k to corner k + 1,
- * edge 2 back to corner 0) or the face; all 0 if there is none. Of candidates equally high the first found is told. Squared distance in plan from (x0, x1) to the segment from (p0, p1) to
- * (q0, q1); distance in plan from (x, y) to the triangle, 0 inside; highest point of the triangle in the capsule, eps its slack (the
- * index's is measures[4]); height of a bull-nose cutter over its tip at the distance d from its axis; tip height of a bull-nose cutter
- * and of a section over (px, py). */
+ * contact answers whether there is one, its height, and what is touched there: a corner, an edge (edge k runs from corner k to corner k
+ * + 1, edge 2 back to corner 0) or the face; all 0 if there is none. Of candidates equally high the first found is told. Squared
+ * distance in plan from (x0, x1) to the segment from (p0, p1) to (q0, q1); distance in plan from (x, y) to the triangle, 0 inside;
+ * highest point of the triangle in the capsule, eps its slack (the index's is measures[4]); height of a bull-nose cutter over its tip at
+ * the distance d from its axis; tip height of a bull-nose cutter and of a section over (px, py). */
 double mandrikelo_dist2_to_segment(double x0, double x1, double p0, double p1, double q0, double q1);
 double mandrikelo_distance_xy(const double triangle[9], double x, double y);
 bool mandrikelo_max_in_capsule(const double triangle[9], double px, double py, double qx, double qy, double r, double eps,
