@@ -5,3 +5,4 @@ pub mod Held
 pub mod Along
 pub mod Small
 pub mod Near
+pub mod Whole

@@ -13,3 +13,8 @@ module _ {A B : Type 0} (joins : A → B → Bool) (add : A → B → A) (first 
   unfoldable pub grouped : List B → List A
   grouped [] = []
   grouped (b ∷ bs) = grouping (first b) bs
+
+-- What is said of each of a list.
+unfoldable pub Each : {A : Type 0} → (A → Type 0) → List A → Type 0
+Each P [] = Unit
+Each P (x ∷ xs) = P x × Each P xs

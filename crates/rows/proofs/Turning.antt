@@ -113,7 +113,7 @@ from-mirrored (false ∷ fs) k =
 
 -- ---- a row's samples
 
-sampled-length : (f : ℕ → Bool) (a m : ℕ) → length (sampled f a m) ≡ m
+pub sampled-length : (f : ℕ → Bool) (a m : ℕ) → length (sampled f a m) ≡ m
 unfolding sampled
 sampled-length f a zero = refl
 sampled-length f a (suc m) = ap suc (sampled-length f (a + 1) m)

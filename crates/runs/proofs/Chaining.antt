@@ -4,11 +4,12 @@ use mathlib.Core.List.{List, [], _∷_, _++_, append-assoc, append-nil}
 use mathlib.Core.Path.{_≡_, refl, sym, ap, subst, _∙_}
 use Prim.Native.Nat.{ℕ, zero, suc}
 use lib.Ieee.{Float, le}
-use Rattle.numbers.proofs.Branches.{by-test, no}
-use Rattle.fives.specs.Groups.{grouping, grouped}
+use Rattle.numbers.proofs.Branches.{either, by-test, no}
+use Rattle.fives.specs.Groups.{grouping, grouped, Each}
+use Rattle.fives.proofs.Grouping.{each-parts}
 use Rattle.runs.specs.Runs.{lengthOf, touchesOf, lengthened, joinedOf}
-use Rattle.runs.specs.Pieces.{Piece, piece, piecesOf, firstHalf, secondHalf}
-use Rattle.runs.specs.Chains.{Point, firstOf, lastOf, Chained, EachKept, Whole, Joins, LieIn}
+use Rattle.runs.specs.Pieces.{Piece, piece, piecesOf, firstHalf, secondHalf, keptOf}
+use Rattle.runs.specs.Chains.{Point, firstOf, lastOf, Chained, EachKept, Whole, Joins, LieIn, MadeOf}
 use Rattle.runs.specs.declared.Run.{Run}
 
 pub chained-append : (ps qs : List Piece) (a m b : Point) → Chained a ps m → Chained m qs b → Chained a (ps ++ qs) b
@@ -26,6 +27,23 @@ module _ (P : Run → Type 0) where
   unfolding EachKept
   each-more Q f [] c = tt
   each-more Q f (p ∷ ps) c = ((λ k. f (p .run) (c .0 k)), each-more Q f ps (c .1))
+
+  pub each-both : (Q : Run → Type 0) (ps : List Piece) → EachKept P ps → EachKept Q ps → EachKept (λ r. P r × Q r) ps
+  unfolding EachKept
+  each-both Q [] c d = tt
+  each-both Q (p ∷ ps) c d = ((λ k. (c .0 k, d .0 k)), each-both Q ps (c .1) (d .1))
+
+  -- what a run hands on to both its halves, it hands on to its pieces
+  pub handed-on : ((r : Run) → P r → P (firstHalf r) × P (secondHalf r))
+      → (clear : Run → Bool) (least : Float) (left : ℕ) (r : Run) → P r → EachKept P (piecesOf clear least left r)
+  unfolding piecesOf EachKept
+  handed-on f clear least zero r p = ((λ _. p), tt)
+  handed-on f clear least (suc left) r p =
+      let h = f r p in
+      let halves =
+      each-append (piecesOf clear least left (firstHalf r)) (piecesOf clear least left (secondHalf r))
+      (handed-on f clear least left (firstHalf r) (h .0)) (handed-on f clear least left (secondHalf r) (h .1)) in
+      either (EachKept P) (clear r) _ _ (λ _. ((λ _. p), tt)) (λ _. either (EachKept P) (le (lengthOf r) least) _ _ (λ _. ((λ _. p), tt)) (λ _. halves))
 
 module _ (clear : Run → Bool) (least : Float) where
   one : (r : Run) (k : Bool) → (k ≡ true → clear r ≡ true) → Whole clear r (piece r k ∷ [])
@@ -73,3 +91,17 @@ pub joined-lie : (rs : List Run) → LieIn rs (joinedOf rs)
 unfolding joinedOf grouped
 joined-lie [] = LieIn.none
 joined-lie (r ∷ rs) = opened-lie rs r [] r (unfold Joins in refl)
+
+-- and what is said of every kept piece, is said of the runs that make a joined one
+module _ (P : Run → Type 0) where
+  pub kept-each : (ps : List Piece) → EachKept P ps → Each P (keptOf ps)
+  unfolding EachKept keptOf Each
+  kept-each [] c = tt
+  kept-each (p ∷ ps) c = either (Each P) (p .kept) (p .run ∷ keptOf ps) (keptOf ps) (λ k. (c .0 k, kept-each ps (c .1))) (λ _. kept-each ps (c .1))
+
+  pub lie-made : (rs js : List Run) → LieIn rs js → Each P rs → Each (MadeOf P) js
+  unfolding Each
+  lie-made rs js LieIn.none a = tt
+  lie-made rs js (LieIn.part r ts rest j ks e l) a =
+      let b = each-parts P ts rest (a .1) in
+      (record { first = r; rest = ts; joins = e; each = (a .0, b .0) }, lie-made rest ks l (b .1))

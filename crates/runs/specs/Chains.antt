@@ -3,6 +3,7 @@ use mathlib.Core.Bool.{Bool, true}
 use mathlib.Core.List.{List, [], _∷_, _++_}
 use mathlib.Core.Path.{_≡_}
 use lib.Ieee.{Float}
+use Rattle.fives.specs.Groups.{Each}
 use Rattle.runs.specs.Runs.{touchesOf, lengthened}
 use Rattle.runs.specs.Pieces.{Piece}
 use Rattle.runs.specs.declared.Run.{Run}
@@ -44,3 +45,10 @@ Joins g (r ∷ rs) j = (touchesOf g r ≡ true) × Joins (lengthened g r) rs j
 pub data LieIn : List Run → List Run → Type 0 where
   none : LieIn [] []
   part : (r : Run) (rs rest : List Run) (j : Run) (js : List Run) → Joins r rs j → LieIn rest js → LieIn (r ∷ rs ++ rest) (j ∷ js)
+
+-- A joined run, piece by piece: it is made of runs that touch, and P is said of each of them.
+pub record MadeOf (P : Run → Type 0) (j : Run) : Type 0 where
+  pub first : Run
+  pub rest : List Run
+  pub joins : Joins first rest j
+  pub each : Each P (first ∷ rest)
