@@ -67,7 +67,7 @@ module _ (ix : Index) (p : Parameters) (axis : Axis) (a : Planned) where
   pub lost-laid : (b : Planned) → a .refusal ≡ b .refusal → a .dropped ≡ b .dropped → (a .refusal ≡ 0 → NothingLost ix p axis a) → b .refusal ≡ 0 → NothingLost ix p axis b
   lost-laid b r d f z =
       let n = f (r ∙ z) in
-      record { pieces = n .pieces; chained = n .chained; kept = n .kept; dropped = sym d ∙ n .dropped; joined = n .joined }
+      record { pieces = n .pieces; chained = n .chained; kept = n .kept; dropped = sym d ∙ n .dropped; joined = n .joined; runs = n .runs }
 
 pub laid : (o : Outcome) (a b c : ℕ) → a ≡ narrowed (o .answer .levels) → b ≡ narrowed (o .answer .rows) → c ≡ narrowed (o .answer .runs) → planLeft (o .answer .refusal) (o .levels) (o .runs) (o .marks) (o .answer .cut ∷ o .answer .dropped ∷ []) (a ∷ b ∷ c ∷ []) ≡ planLeftBy o
 unfolding planLeftBy

@@ -1,4 +1,5 @@
 pub mod Counting
 pub mod Surveying
 pub mod Answering
+pub mod Pointing
 pub mod Losing

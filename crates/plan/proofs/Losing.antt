@@ -28,16 +28,16 @@ use Rattle.query.proofs.Using.{every-at}
 use Rattle.query.proofs.Passing.{every-all}
 use Rattle.ask.specs.Ask.{refusalOf, answerOf, askedHeight}
 use Rattle.height.specs.Sweep.{Sweep, sweep, patchFor, capsuleWalk, sweepWalk}
-use Rattle.height.specs.Height.{arePoints, isSweep, maxHeightOf}
+use Rattle.height.specs.Height.{isSweep, maxHeightOf}
 use Rattle.runs.specs.declared.Run.{Run}
 use Rattle.fives.specs.Tables.{roomOf}
 use Rattle.runs.specs.Runs.{joinedOf}
 use Rattle.runs.specs.Pieces.{Piece, keptOf, droppedBy}
 use Rattle.runs.specs.Chains.{firstOf, lastOf, Chained, EachKept, Whole, LieIn}
-use Rattle.runs.proofs.Chaining.{each-append, each-more, whole, joined-lie}
+use Rattle.runs.proofs.Chaining.{each-append, each-more, each-both, whole, joined-lie, kept-each, lie-made}
 use Rattle.rows.specs.declared.Axis.{Axis}
 use Rattle.terms.specs.declared.Parameters.{Parameters}
-use Rattle.terms.specs.Terms.{areTerms}
+use Rattle.terms.specs.Terms.{areTerms, tooFine, anyOf, refusalOfLevels}
 use Rattle.probe.specs.Probe.{heightUnder}
 use Rattle.search.specs.Search.{Found, levelsFound}
 use Rattle.search.specs.Sampled.{Sampled, levelsSampled, clearAt, halvesOf, halvesOfAll}
@@ -45,6 +45,8 @@ use Rattle.search.proofs.Sampling.{foundFrom, levels-halved}
 use Rattle.plan.specs.declared.Planned.{Planned}
 use Rattle.plan.specs.Plan.{refusalOfInput, refusalOfTables, levelsUnder, foundOn, Outcome, outcome, workedOf, planOf}
 use Rattle.plan.specs.Lost.{askedAgain, Safe, stretchesOn, piecesOn, halvesOn, NothingLost}
+use Rattle.plan.proofs.Surveying.{survey-taken}
+use Rattle.plan.proofs.Pointing.{Pointed, pieces-pointed}
 
 -- ---- what 7 lets pass over the whole grid, it lets pass for every question with wiped marks
 
@@ -127,7 +129,7 @@ module _ (ix : Index) (e : usableWhole ix ≡ true) where
     abbrev s : Sweep
     s = sweep (q .ax) (q .ay) (q .bx) (q .by) (ix .header .r)
 
-    not-refused : arePoints (q .ax) (q .ay) (q .bx) (q .by) ≡ true → refusalOf (isSweep s) true ix (replicate (ix .header .n) 0) 0 (patchFor (ix .header) s) ≡ 0
+    not-refused : Pointed q → refusalOf (isSweep s) true ix (replicate (ix .header .n) 0) 0 (patchFor (ix .header) s) ≡ 0
     unfolding refusalOf isSweep
     not-refused f =
         let i = patch-inside (ix .header) (q .ax) (q .ay) (q .bx) (q .by) (ix .header .r) in
@@ -137,7 +139,7 @@ module _ (ix : Index) (e : usableWhole ix ≡ true) where
         (demand-next true 8 _ 0 refl
         (demand-next _ 7 0 0 (patch-passes (patchFor (ix .header) s) (i .0) (i .1)) refl))))
 
-    again-is : arePoints (q .ax) (q .ay) (q .bx) (q .by) ≡ true → (askedAgain ix q .refusal ≡ 0) × (askedAgain ix q .height ≡ heightUnder ix q)
+    again-is : Pointed q → (askedAgain ix q .refusal ≡ 0) × (askedAgain ix q .height ≡ heightUnder ix q)
     unfolding askedAgain maxHeightOf askedHeight answerOf heightUnder sweepWalk capsuleWalk
     again-is f =
         let z = not-refused f in (
@@ -145,9 +147,8 @@ module _ (ix : Index) (e : usableWhole ix ≡ true) where
           ap (λ (k : ℕ). answerOf k (replicate (ix .header .n) 0) 0 (sweepWalk ix (replicate (ix .header .n) 0) 0 s) .answer .height) z,
         )
 
-    safe : (tolerance : Float) → le (heightUnder ix q) (q .z ⊕ tolerance) ≡ true → Safe ix tolerance q
-    safe tolerance e =
-        record { height = e; again = λ f. let a = again-is f in (a .0, subst (λ (x : Float). le x (q .z ⊕ tolerance) ≡ true) (sym (a .1)) e) }
+    safe : (tolerance : Float) → le (heightUnder ix q) (q .z ⊕ tolerance) ≡ true → Pointed q → Safe ix tolerance q
+    safe tolerance e f = let a = again-is f in record { height = e; again = (a .0, subst (λ (x : Float). le x (q .z ⊕ tolerance) ≡ true) (sym (a .1)) e) }
 
   -- ---- all pieces of the plan
 
@@ -159,27 +160,39 @@ module _ (ix : Index) (e : usableWhole ix ≡ true) where
     unfolding halvesOf
     stretch-whole s = whole (clearAt under p (ix .header .r)) _ 32 s
 
-    each-clear : (ss : List Run) → EachKept (λ q. clearAt under p (ix .header .r) q ≡ true) (halvesOfAll under p (ix .header .r) ss)
+    abbrev Clear : Run → Type 0
+    Clear q = clearAt under p (ix .header .r) q ≡ true
+
+    each-clear : (ss : List Run) → EachKept Clear (halvesOfAll under p (ix .header .r) ss)
     unfolding halvesOfAll
     each-clear [] = unfold EachKept in tt
-    each-clear (s ∷ ss) = each-append (λ q. clearAt under p (ix .header .r) q ≡ true) (halvesOf under p (ix .header .r) s) (halvesOfAll under p (ix .header .r) ss) (stretch-whole s .kept) (each-clear ss)
+    each-clear (s ∷ ss) = each-append Clear (halvesOf under p (ix .header .r) s) (halvesOfAll under p (ix .header .r) ss) (stretch-whole s .kept) (each-clear ss)
 
-    clear-safe : (q : Run) → clearAt under p (ix .header .r) q ≡ true → Safe ix (p .tolerance) q
+    clear-safe : (q : Run) → Clear q × Pointed q → Safe ix (p .tolerance) q
     unfolding clearAt
-    clear-safe q e = safe q (p .tolerance) e
+    clear-safe q e = safe q (p .tolerance) (e .0) (e .1)
 
     pieces-are : piecesOn ix p axis ≡ halvesOfAll under p (ix .header .r) (stretchesOn ix p axis)
     unfolding foundOn stretchesOn halvesOfAll
     pieces-are = ap (λ (f : Found). f .pieces) (levels-halved under p (ix .header .r) axis (levelsUnder ix p) (record { rows = 0; stretches = [] }))
 
-    pub nothing-lost : (a : Planned) → a .dropped ≡ droppedBy f0 (piecesOn ix p axis) → NothingLost ix p axis a
-    nothing-lost a d =
+    pieces-safe : anyOf (tooFine p axis (ix .header .r)) (levelsUnder ix p) ≡ false → EachKept (Safe ix (p .tolerance)) (piecesOn ix p axis)
+    pieces-safe coarse =
+        let ps = halvesOfAll under p (ix .header .r) (stretchesOn ix p axis) in
+        let both = each-both Clear Pointed ps (each-clear (stretchesOn ix p axis)) (pieces-pointed ix p axis (head .nine) (tables .0) radius-fits coarse) in
+        subst (EachKept (Safe ix (p .tolerance))) (sym pieces-are) (each-more (λ q. Clear q × Pointed q) (Safe ix (p .tolerance)) clear-safe ps both)
+
+    pub nothing-lost : (a : Planned) → anyOf (tooFine p axis (ix .header .r)) (levelsUnder ix p) ≡ false
+        → a .dropped ≡ droppedBy f0 (piecesOn ix p axis) → NothingLost ix p axis a
+    nothing-lost a coarse d =
         record {
           pieces = pieces-are;
           chained = λ s. stretch-whole s .chained;
-          kept = each-more (λ q. clearAt under p (ix .header .r) q ≡ true) (Safe ix (p .tolerance)) clear-safe (piecesOn ix p axis) (subst (EachKept (λ q. clearAt under p (ix .header .r) q ≡ true)) (sym pieces-are) (each-clear (stretchesOn ix p axis)));
+          kept = pieces-safe coarse;
           dropped = d;
           joined = joined-lie (keptOf (piecesOn ix p axis));
+          runs = lie-made (Safe ix (p .tolerance)) _ _ (joined-lie (keptOf (piecesOn ix p axis)))
+              (kept-each (Safe ix (p .tolerance)) (piecesOn ix p axis) (pieces-safe coarse));
         }
 
 -- ---- an accepted plan
@@ -198,14 +211,26 @@ module _ (ix : Index) (marks : List ℕ) (levels runs : List Float) (p : Paramet
   abbrev late : ℕ
   late = refusalOfTables (roomOf levels) (roomOf runs) p axis (ix .header .r) (levelsUnder ix p) (joinedOf (keptOf (piecesOn ix p axis)))
 
-  worked-dropped : workedOf ix marks levels runs p axis .answer .refusal ≡ 0 → workedOf ix marks levels runs p axis .answer .dropped ≡ droppedBy f0 (piecesOn ix p axis)
+  -- what a plan that is not refused says of its levels and of its dropped length
+  abbrev Worked : Outcome → Type 0
+  Worked o = (anyOf (tooFine p axis (ix .header .r)) (levelsUnder ix p) ≡ false) × (o .answer .dropped ≡ droppedBy f0 (piecesOn ix p axis))
+
+  late-coarse : late ≡ 0 → anyOf (tooFine p axis (ix .header .r)) (levelsUnder ix p) ≡ false
+  unfolding refusalOfTables
+  late-coarse =
+      let k = refusalOfLevels (roomOf levels) p axis (ix .header .r) (levelsUnder ix p) in
+      by-test (eqb k 0)
+      (λ (t : eqb k 0 ≡ true). λ _. survey-taken levels (levelsUnder ix p) p axis (ix .header .r) (eqb-true k 0 t) .coarse)
+      (λ (t : eqb k 0 ≡ false). rw t (λ (z : k ≡ 0). absurd (eqb-false k 0 t z)))
+
+  worked-dropped : workedOf ix marks levels runs p axis .answer .refusal ≡ 0 → Worked (workedOf ix marks levels runs p axis)
   unfolding workedOf
   worked-dropped =
       by-test (eqb late 0)
-      (λ (t : eqb late 0 ≡ true). rw t (λ _. refl))
+      (λ (t : eqb late 0 ≡ true). rw t (λ _. (late-coarse (eqb-true late 0 t), refl)))
       (λ (t : eqb late 0 ≡ false). rw t (λ (z : late ≡ 0). absurd (eqb-false late 0 t z)))
 
-  accepted : planned .answer .refusal ≡ 0 → (usableWhole ix ≡ true) × (planned .answer .dropped ≡ droppedBy f0 (piecesOn ix p axis))
+  accepted : planned .answer .refusal ≡ 0 → (usableWhole ix ≡ true) × Worked planned
   unfolding planOf
   accepted =
       let k = refusalOfInput ix marks p in
@@ -218,4 +243,4 @@ module _ (ix : Index) (marks : List ℕ) (levels runs : List Float) (p : Paramet
   lost-none a l r m e z =
       let n : planned .answer ≡ a = ap (λ (o : Outcome). o .answer) (sym e) in
       let c = accepted (ap (λ (x : Planned). x .refusal) n ∙ z) in
-      nothing-lost ix (c .0) p axis a (ap (λ (x : Planned). x .dropped) (sym n) ∙ c .1)
+      nothing-lost ix (c .0) p axis a (c .1 .0) (ap (λ (x : Planned). x .dropped) (sym n) ∙ c .1 .1)

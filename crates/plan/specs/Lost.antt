@@ -9,11 +9,12 @@ use Rattle.numbers.specs.Reals.{_⊕_, f0}
 use Rattle.grid.specs.Index.{Index}
 use Rattle.ask.specs.declared.Answer.{Answer}
 use Rattle.height.specs.Sweep.{sweep}
-use Rattle.height.specs.Height.{arePoints, maxHeightOf}
+use Rattle.height.specs.Height.{maxHeightOf}
+use Rattle.fives.specs.Groups.{Each}
 use Rattle.runs.specs.declared.Run.{Run}
 use Rattle.runs.specs.Runs.{joinedOf}
 use Rattle.runs.specs.Pieces.{Piece, keptOf, droppedBy}
-use Rattle.runs.specs.Chains.{firstOf, lastOf, Chained, EachKept, LieIn}
+use Rattle.runs.specs.Chains.{firstOf, lastOf, Chained, EachKept, LieIn, MadeOf}
 use Rattle.rows.specs.declared.Axis.{Axis}
 use Rattle.terms.specs.declared.Parameters.{Parameters}
 use Rattle.probe.specs.Probe.{heightUnder}
@@ -26,11 +27,10 @@ module _ (ix : Index) where
   unfoldable pub askedAgain : Run → Answer
   askedAgain q = maxHeightOf ix (replicate (ix .header .n) 0) 0 (sweep (q .ax) (q .ay) (q .bx) (q .by) (ix .header .r)) .answer
 
-  -- A run under which the part nowhere stands above its z + tolerance: the disk's height there says so, and so does `max_height`, which takes the
-  -- question where the run's ends are points of magnitude at most 3e6.
+  -- A run under which the part nowhere stands above its z + tolerance: the disk's height there says so, and so does `max_height`, which takes the question.
   pub record Safe (tolerance : Float) (q : Run) : Type 0 where
     pub height : le (heightUnder ix q) (q .z ⊕ tolerance) ≡ true
-    pub again : arePoints (q .ax) (q .ay) (q .bx) (q .by) ≡ true → (askedAgain q .refusal ≡ 0) × (le (askedAgain q .height) (q .z ⊕ tolerance) ≡ true)
+    pub again : (askedAgain q .refusal ≡ 0) × (le (askedAgain q .height) (q .z ⊕ tolerance) ≡ true)
 
   module _ (p : Parameters) (axis : Axis) where
     -- The sampled stretches of the plan, in the order walked.
@@ -50,10 +50,12 @@ module _ (ix : Index) where
     --   chained  those of a stretch begin at its first point, end at its last, and each begins at the very point where the one before it ended;
     --   kept     each kept one is safe, asked again;
     --   dropped  the dropped length is the sum of the dropped ones' lengths, from +0.0, in that order;
-    --   joined   every kept one lies in one run of the answer.
+    --   joined   every kept one lies in one run of the answer;
+    --   runs     so each run of the answer is made of kept ones that touch, and each of these is safe, asked again.
     pub record NothingLost (a : Planned) : Type 0 where
       pub pieces : piecesOn ≡ halvesOfAll (heightUnder ix) p (ix .header .r) stretchesOn
       pub chained : (s : Run) → Chained (firstOf s) (halvesOn s) (lastOf s)
       pub kept : EachKept (Safe (p .tolerance)) piecesOn
       pub dropped : a .dropped ≡ droppedBy f0 piecesOn
       pub joined : LieIn (keptOf piecesOn) (joinedOf (keptOf piecesOn))
+      pub runs : Each (MadeOf (Safe (p .tolerance))) (joinedOf (keptOf piecesOn))
