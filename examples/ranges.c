@@ -130,7 +130,7 @@ static void the_build(void)
 
 static double q[9], tool[4 * 33], height[1];
 static size_t tool_len = 4;
-static uint32_t counts[3];
+static uint32_t counts[3], touched[3];
 
 /* Whether a question begins with wiped marks and the stamp 0. */
 static bool fresh = true;
@@ -148,19 +148,19 @@ static void begun(void)
 static uint32_t max_height(void)
 {
     begun();
-    return mandrikelo_max_height(INDEX, stamp, q[0], q[1], q[2], q[3], q[4], height, counts);
+    return mandrikelo_max_height(INDEX, stamp, q[0], q[1], q[2], q[3], q[4], height, counts, touched);
 }
 
 static uint32_t max_bull(void)
 {
     begun();
-    return mandrikelo_max_bull(INDEX, stamp, q[0], q[1], q[2], q[3], height, counts);
+    return mandrikelo_max_bull(INDEX, stamp, q[0], q[1], q[2], q[3], height, counts, touched);
 }
 
 static uint32_t max_sections(void)
 {
     begun();
-    return mandrikelo_max_sections(INDEX, stamp, q[0], q[1], tool, tool_len, height, counts);
+    return mandrikelo_max_sections(INDEX, stamp, q[0], q[1], tool, tool_len, height, counts, touched);
 }
 
 static uint32_t bull_chord(void)
@@ -247,7 +247,6 @@ static void rise_and_lift(void)
     for (int d = 0; d <= 4; d++) {
         /* A corner at the height 10, d beside the axis: the surface over it is at 1 up to the radius 1, and 2 more a unit up to 3. */
         const double spike[9] = {d, 0, 10, 50, 1, -40, 50, -1, -40};
-        uint32_t touched[2];
         bool met = mandrikelo_section_contact(spike, 0, 0, cone, height, touched);
         double wanted = d <= 1 ? 10 - 1 : 10 - (1 + 2 * (d - 1.0));
         expect("the spike is met", d <= 3, met);

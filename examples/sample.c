@@ -39,7 +39,7 @@ static void block(double x0, double y0, double x1, double y1, double low, double
 
 int main(void)
 {
-    uint32_t bad[2], counts[3], refusal, stamp = 0;
+    uint32_t bad[2], counts[3], on[3], refusal, stamp = 0;
     double high[1], tip[1], lengths[2];
     block(0, 0, 40, 30, 0, 10);
     block(15, 10, 25, 20, 10, 14);
@@ -61,11 +61,11 @@ int main(void)
     printf("%u triangles in %u by %u cells, %u members\n", (unsigned)sizes[0], (unsigned)sizes[1], (unsigned)sizes[2], (unsigned)starts[cells]);
 
     /* The stamp that comes back goes into the next question. */
-    passed("height", mandrikelo_max_height(INDEX, stamp, 13, 15, 13, 15, 3, high, counts));
-    passed("height", mandrikelo_max_height(INDEX, counts[1], 10, 15, 10, 15, 3, tip, counts));
+    passed("height", mandrikelo_max_height(INDEX, stamp, 13, 15, 13, 15, 3, high, counts, on));
+    passed("height", mandrikelo_max_height(INDEX, counts[1], 10, 15, 10, 15, 3, tip, counts, on));
     printf("disk of radius 3: %.3f beside the boss, %.3f off it\n", high[0], tip[0]);
     const double drill[4] = {0, 0, 3, 1.8 / 3}; /* its tip is 1.8 high at the radius 3: rise is the slope */
-    passed("tip", mandrikelo_max_sections(INDEX, counts[1], 12, 15, drill, 4, tip, counts));
+    passed("tip", mandrikelo_max_sections(INDEX, counts[1], 12, 15, drill, 4, tip, counts, on));
     printf("drill of radius 3, 1.8 high: tip %.3f beside the boss\n", tip[0]);
     stamp = counts[1];
     for (int lift = 0; lift < 2; lift++) {

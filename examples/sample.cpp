@@ -72,13 +72,13 @@ int main()
     const auto *s = part.sizes;
     std::printf("%u triangles in %u by %u cells, %u members\n", s[0], s[1], s[2], part.starts[std::size_t(s[1]) * s[2]]);
 
-    std::uint32_t counts[3]; // the stamp that comes back goes into the next question
+    std::uint32_t counts[3], on[3]; // what is touched; and the stamp that comes back goes into the next question
     double high[1], tip[1], lengths[2];
-    passed(part.ask(mandrikelo_max_height, 0, 13, 15, 13, 15, 3, high, counts));
-    passed(part.ask(mandrikelo_max_height, counts[1], 10, 15, 10, 15, 3, tip, counts));
+    passed(part.ask(mandrikelo_max_height, 0, 13, 15, 13, 15, 3, high, counts, on));
+    passed(part.ask(mandrikelo_max_height, counts[1], 10, 15, 10, 15, 3, tip, counts, on));
     std::printf("disk of radius 3: %.3f beside the boss, %.3f off it\n", high[0], tip[0]);
     const std::vector<double> drill = {0, 0, 3, 1.8 / 3}; // its tip is 1.8 high at the radius 3: rise is the slope
-    passed(part.ask(mandrikelo_max_sections, counts[1], 12, 15, drill.data(), drill.size(), tip, counts));
+    passed(part.ask(mandrikelo_max_sections, counts[1], 12, 15, drill.data(), drill.size(), tip, counts, on));
     std::printf("drill of radius 3, 1.8 high: tip %.3f beside the boss\n", tip[0]);
     std::uint32_t stamp = counts[1];
     for (int lift = 0; lift < 2; lift++, stamp = counts[2]) {

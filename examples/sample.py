@@ -67,12 +67,12 @@ def main():
     index = (*table(mesh), measures, sizes, *table(starts), *table(members), *table(marks))
 
     # The stamp that comes back goes into the next question.
-    high, tip, counts, lengths = doubles(1), doubles(1), words(3), doubles(2)
-    passed("max_height", *index, 0, 13.0, 15.0, 13.0, 15.0, 3.0, high, counts)
-    passed("max_height", *index, counts[1], 10.0, 15.0, 10.0, 15.0, 3.0, tip, counts)
+    high, tip, counts, on, lengths = doubles(1), doubles(1), words(3), words(3), doubles(2)
+    passed("max_height", *index, 0, 13.0, 15.0, 13.0, 15.0, 3.0, high, counts, on)
+    passed("max_height", *index, counts[1], 10.0, 15.0, 10.0, 15.0, 3.0, tip, counts, on)
     print(f"disk of radius 3: {high[0]:.3f} beside the boss, {tip[0]:.3f} off it")
     drill = doubles([0, 0, 3, 1.8 / 3])  # its tip is 1.8 high at the radius 3: rise is the slope
-    passed("max_sections", *index, counts[1], 12.0, 15.0, *table(drill), tip, counts)
+    passed("max_sections", *index, counts[1], 12.0, 15.0, *table(drill), tip, counts, on)
     print(f"drill of radius 3, 1.8 high: tip {tip[0]:.3f} beside the boss")
     stamp = counts[1]
     for lift in (0, 1):

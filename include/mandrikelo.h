@@ -163,6 +163,9 @@ uint32_t mandrikelo_build(const double *mesh, size_t mesh_len, double floor, dou
  * first question, and is carried with the stamp (0 at first) from question to question; a call sets the marks of the triangles that it
  * looked at to the new stamp, one more than the one handed; after 4,294,967,295 all marks are wiped and it is 1. Threads that ask at
  * once share mesh and index, and each has marks and a stamp of its own. counts: the number of triangles looked at, the stamp afterwards.
+ * touched: the triangle that last raised the height and what of it the cutter touches, as at the contacts of one triangle below; only a
+ * strictly higher contact raises it, so of several equally high the first in the order of the walk is told. All 0 where the height is
+ * the floor, and after a refusal; touched[1] tells the floor from triangle 0.
  *
  * Points are of magnitude at most 3e6, radii 0 to 1e6, lift of magnitude at most 1e6: else 2. Refusals in their order: 1, 2, 8, 7.
  *
@@ -176,7 +179,8 @@ uint32_t mandrikelo_max_height(const double *mesh, size_t mesh_len, const double
     const uint32_t *starts, size_t starts_len, const uint32_t *members, size_t members_len,
     uint32_t *marks, size_t marks_len, uint32_t stamp,
     double px, double py, double qx, double qy, double r,
-    double found[1] /* the height */, uint32_t counts[2] /* count, stamp afterwards */);
+    double found[1] /* the height */, uint32_t counts[2] /* count, stamp afterwards */,
+    uint32_t touched[3] /* triangle; 0 the floor, 1 corner, 2 edge, 3 face; which of three, else 0 */);
 
 /* The highest tip of a bull-nose cutter of radius r and corner radius rc over (px, py), at least the floor: where the cutter, let down,
  * touches. 0 <= rc <= r, else 8: rc 0 is a flat end, rc = r a ball. */
@@ -184,7 +188,7 @@ uint32_t mandrikelo_max_bull(const double *mesh, size_t mesh_len, const double m
     const uint32_t *starts, size_t starts_len, const uint32_t *members, size_t members_len,
     uint32_t *marks, size_t marks_len, uint32_t stamp,
     double px, double py, double r, double rc,
-    double found[1], uint32_t counts[2]);
+    double found[1], uint32_t counts[2], uint32_t touched[3]);
 
 /* The highest tip of a tool of sections over (px, py), at least the floor. 1 to 32 sections, sections_len 4 to 128, each valid as said
  * above, in any order, and they may overlap: else 8. */
@@ -192,7 +196,7 @@ uint32_t mandrikelo_max_sections(const double *mesh, size_t mesh_len, const doub
     const uint32_t *starts, size_t starts_len, const uint32_t *members, size_t members_len,
     uint32_t *marks, size_t marks_len, uint32_t stamp,
     double px, double py, const double *sections, size_t sections_len,
-    double found[1], uint32_t counts[2]);
+    double found[1], uint32_t counts[2], uint32_t touched[3]);
 
 /* Whether the tool stays above the part, RAISED by `lift`, on its way from tip a to tip b. `lift` raises the part against the tool, not
  * the tool: it is the distance that has to be kept. With the tip at 10.5 over a face at 10, lift 0 is clear and lift 1 is blocked; a

@@ -75,6 +75,71 @@ pub mod tap {
         (STRETCHES.with(|all| all.borrow().clone()), PIECES.with(|all| all.borrow().clone()))
     }
 
+    /// The candidate on offer and the number of the next corner; what the last contact's winner was; the triangle on look; what the last
+    /// height question was raised by. Only the build that records what was touched calls these.
+    #[derive(Clone, Copy, Default)]
+    struct Record {
+        offered: [u32; 2],
+        corner: u32,
+        won: [u32; 2],
+        triangle: u32,
+        raised: [u32; 3],
+    }
+
+    thread_local! {
+        static RECORD: std::cell::Cell<Record> = const { std::cell::Cell::new(Record { offered: [0; 2], corner: 0, won: [0; 2], triangle: 0, raised: [0; 3] }) };
+    }
+
+    fn record(change: impl FnOnce(&mut Record)) {
+        RECORD.with(|kept| {
+            let mut r = kept.get();
+            change(&mut r);
+            kept.set(r);
+        });
+    }
+
+    /// The first found wins a tie; a NaN takes no place, and any number takes a NaN's.
+    fn exceeds(z: f64, b: f64) -> bool {
+        b < z || b.is_nan() && !z.is_nan()
+    }
+
+    pub fn contact() {
+        record(|r| (r.corner, r.won) = (0, [0; 2]));
+    }
+    pub fn corner() {
+        record(|r| (r.offered, r.corner) = ([1, r.corner], r.corner + 1));
+    }
+    pub fn edge(k: usize) {
+        record(|r| r.offered = [2, k as u32]);
+    }
+    pub fn face() {
+        record(|r| r.offered = [3, 0]);
+    }
+    pub fn taken(best: Option<f64>, z: f64) {
+        if best.is_none_or(|b| exceeds(z, b)) {
+            record(|r| r.won = r.offered);
+        }
+    }
+    pub fn asked() {
+        record(|r| r.raised = [0; 3]);
+    }
+    pub fn looked(i: u32) {
+        record(|r| r.triangle = i);
+    }
+    pub fn raised(best: f64, z: f64) {
+        if exceeds(z, best) {
+            record(|r| r.raised = [r.triangle, r.won[0], r.won[1]]);
+        }
+    }
+    /// What the last contact touched: kind, which.
+    pub fn won() -> [u32; 2] {
+        RECORD.with(|kept| kept.get().won)
+    }
+    /// What the last height question was raised by: triangle, kind, which.
+    pub fn touched() -> [u32; 3] {
+        RECORD.with(|kept| kept.get().raised)
+    }
+
     pub fn room(levels: usize) {
         STRETCHES.with(|all| all.borrow_mut().clear());
         PIECES.with(|all| all.borrow_mut().clear());

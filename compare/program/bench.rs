@@ -105,13 +105,13 @@ fn bed(mesh: Vec<f64>) -> Bed {
 
 /// One question of ours over the bed; `$more` are the question's own arguments.
 macro_rules! ask {
-    ($bed:expr, $door:ident, $marks:expr, $stamp:expr, $($more:expr),*) => {{
+    ($bed:expr, $door:ident, $marks:expr, $stamp:expr, $($more:expr),* $(; $touched:expr)?) => {{
         let h = &$bed.handed;
         let mut counts = [0u32; 3];
         unsafe {
             raw::$door(
                 $bed.mesh.as_ptr(), $bed.mesh.len(), h.measures.as_ptr(), h.sizes.as_ptr(), h.starts.as_ptr(), h.starts.len(),
-                h.members.as_ptr(), h.members.len(), $marks.as_mut_ptr(), $marks.len(), $stamp, $($more,)* counts.as_mut_ptr(),
+                h.members.as_ptr(), h.members.len(), $marks.as_mut_ptr(), $marks.len(), $stamp, $($more,)* counts.as_mut_ptr(), $($touched,)?
             )
         };
         counts
@@ -287,8 +287,8 @@ fn heights(bed: &Bed) {
             [
                 &mut || {
                     for i in 0..n {
-                        let (p, q, mut z, mut on) = (points[i], ends[i], 0., [0; 2]);
-                        let counts = ask!(bed, mandrikelo_max_height, marks, stamp, p[0], p[1], q[0], q[1], RADIUS, &mut z);
+                        let (p, q, mut z, mut on) = (points[i], ends[i], 0., [0; 3]);
+                        let counts = ask!(bed, mandrikelo_max_height, marks, stamp, p[0], p[1], q[0], q[1], RADIUS, &mut z; on.as_mut_ptr());
                         stamp = counts[1];
                         black_box(z);
                     }
@@ -315,8 +315,8 @@ fn tools(bed: &Bed) {
         [
             &mut || {
                 for p in &points {
-                    let mut z = 0.;
-                    stamp = ask!(bed, mandrikelo_max_bull, marks, stamp, p[0], p[1], RADIUS, 1., &mut z)[1];
+                    let (mut z, mut on) = (0., [0; 3]);
+                    stamp = ask!(bed, mandrikelo_max_bull, marks, stamp, p[0], p[1], RADIUS, 1., &mut z; on.as_mut_ptr())[1];
                     black_box(z);
                 }
             },
@@ -329,8 +329,8 @@ fn tools(bed: &Bed) {
         [
             &mut || {
                 for p in &points {
-                    let mut z = 0.;
-                    stamp = ask!(bed, mandrikelo_max_sections, marks, stamp, p[0], p[1], table.as_ptr(), table.len(), &mut z)[1];
+                    let (mut z, mut on) = (0., [0; 3]);
+                    stamp = ask!(bed, mandrikelo_max_sections, marks, stamp, p[0], p[1], table.as_ptr(), table.len(), &mut z; on.as_mut_ptr())[1];
                     black_box(z);
                 }
             },

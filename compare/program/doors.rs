@@ -30,17 +30,17 @@ pub mod raw {
         pub fn mandrikelo_max_height(
             mesh: *const f64, mesh_len: usize, measures: *const f64, sizes: *const u32, starts: *const u32, starts_len: usize,
             members: *const u32, members_len: usize, marks: *mut u32, marks_len: usize, stamp: u32, px: f64, py: f64, qx: f64,
-            qy: f64, r: f64, found: *mut f64, counts: *mut u32,
+            qy: f64, r: f64, found: *mut f64, counts: *mut u32, touched: *mut u32,
         ) -> u32;
         pub fn mandrikelo_max_bull(
             mesh: *const f64, mesh_len: usize, measures: *const f64, sizes: *const u32, starts: *const u32, starts_len: usize,
             members: *const u32, members_len: usize, marks: *mut u32, marks_len: usize, stamp: u32, px: f64, py: f64, r: f64,
-            rc: f64, found: *mut f64, counts: *mut u32,
+            rc: f64, found: *mut f64, counts: *mut u32, touched: *mut u32,
         ) -> u32;
         pub fn mandrikelo_max_sections(
             mesh: *const f64, mesh_len: usize, measures: *const f64, sizes: *const u32, starts: *const u32, starts_len: usize,
             members: *const u32, members_len: usize, marks: *mut u32, marks_len: usize, stamp: u32, px: f64, py: f64,
-            sections: *const f64, sections_len: usize, found: *mut f64, counts: *mut u32,
+            sections: *const f64, sections_len: usize, found: *mut f64, counts: *mut u32, touched: *mut u32,
         ) -> u32;
         pub fn mandrikelo_bull_chord_clear(
             mesh: *const f64, mesh_len: usize, measures: *const f64, sizes: *const u32, starts: *const u32, starts_len: usize,
@@ -168,53 +168,71 @@ pub struct Answer {
     pub verdict: u32,
     pub count: u32,
     pub stamp: u32,
+    /// Of a height: the triangle that last raised it, kind and which; all 0 of a verdict.
+    pub touched: [u32; 3],
     pub intact: bool,
 }
 
-fn with_height(marks: &Lent<u32>, refusal: u32, height: Lent<f64>, counts: Lent<u32>) -> Answer {
-    let intact = marks.intact() && height.intact() && counts.intact();
-    Answer { refusal, height: height.get()[0], verdict: 0, count: counts.get()[0], stamp: counts.get()[1], intact }
+/// What a height question is lent for its answer.
+struct Room {
+    height: Lent<f64>,
+    counts: Lent<u32>,
+    touched: Lent<u32>,
+}
+
+impl Room {
+    fn new() -> Self {
+        Room { height: Lent::room(1, f64::GUARD), counts: Lent::room(2, u32::GUARD), touched: Lent::room(3, u32::GUARD) }
+    }
+}
+
+fn with_height(marks: &Lent<u32>, refusal: u32, room: Room) -> Answer {
+    let intact = marks.intact() && room.height.intact() && room.counts.intact() && room.touched.intact();
+    let (counts, t) = (room.counts.get(), room.touched.get());
+    Answer { refusal, height: room.height.get()[0], verdict: 0, count: counts[0], stamp: counts[1], touched: [t[0], t[1], t[2]], intact }
 }
 
 fn with_verdict(marks: &Lent<u32>, refusal: u32, counts: Lent<u32>) -> Answer {
     let intact = marks.intact() && counts.intact();
     let c = counts.get();
-    Answer { refusal, height: 0., verdict: c[0], count: c[1], stamp: c[2], intact }
+    Answer { refusal, height: 0., verdict: c[0], count: c[1], stamp: c[2], touched: [0; 3], intact }
 }
 
 pub fn max_height(mesh: &[f64], h: &Handed, marks: &mut Lent<u32>, stamp: u32, q: &[f64]) -> Answer {
-    let (mut height, mut counts) = (Lent::room(1, f64::GUARD), Lent::room(2, u32::GUARD));
+    let mut room = Room::new();
     let refusal = unsafe {
         mandrikelo_max_height(
             mesh.as_ptr(), mesh.len(), h.measures.as_ptr(), h.sizes.as_ptr(), h.starts.as_ptr(), h.starts.len(),
-            h.members.as_ptr(), h.members.len(), marks.at(), marks.len(), stamp, q[0], q[1], q[2], q[3], q[4], height.at(),
-            counts.at(),
+            h.members.as_ptr(), h.members.len(), marks.at(), marks.len(), stamp, q[0], q[1], q[2], q[3], q[4], room.height.at(), room.counts.at(),
+            room.touched.at(),
         )
     };
-    with_height(marks, refusal, height, counts)
+    with_height(marks, refusal, room)
 }
 
 pub fn max_bull(mesh: &[f64], h: &Handed, marks: &mut Lent<u32>, stamp: u32, q: &[f64]) -> Answer {
-    let (mut height, mut counts) = (Lent::room(1, f64::GUARD), Lent::room(2, u32::GUARD));
+    let mut room = Room::new();
     let refusal = unsafe {
         mandrikelo_max_bull(
             mesh.as_ptr(), mesh.len(), h.measures.as_ptr(), h.sizes.as_ptr(), h.starts.as_ptr(), h.starts.len(),
-            h.members.as_ptr(), h.members.len(), marks.at(), marks.len(), stamp, q[0], q[1], q[2], q[3], height.at(), counts.at(),
+            h.members.as_ptr(), h.members.len(), marks.at(), marks.len(), stamp, q[0], q[1], q[2], q[3], room.height.at(), room.counts.at(),
+            room.touched.at(),
         )
     };
-    with_height(marks, refusal, height, counts)
+    with_height(marks, refusal, room)
 }
 
 pub fn max_sections(mesh: &[f64], h: &Handed, marks: &mut Lent<u32>, stamp: u32, q: &[f64], sections: &[f64]) -> Answer {
-    let (mut height, mut counts) = (Lent::room(1, f64::GUARD), Lent::room(2, u32::GUARD));
+    let mut room = Room::new();
     let refusal = unsafe {
         mandrikelo_max_sections(
             mesh.as_ptr(), mesh.len(), h.measures.as_ptr(), h.sizes.as_ptr(), h.starts.as_ptr(), h.starts.len(),
             h.members.as_ptr(), h.members.len(), marks.at(), marks.len(), stamp, q[0], q[1], sections.as_ptr(), sections.len(),
-            height.at(), counts.at(),
+            room.height.at(), room.counts.at(),
+            room.touched.at(),
         )
     };
-    with_height(marks, refusal, height, counts)
+    with_height(marks, refusal, room)
 }
 
 pub fn bull_chord_clear(mesh: &[f64], h: &Handed, marks: &mut Lent<u32>, stamp: u32, q: &[f64]) -> Answer {

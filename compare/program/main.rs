@@ -21,6 +21,7 @@ mod rng;
 mod sheet;
 mod shipped;
 mod stl;
+mod touched;
 mod writer;
 include!(concat!(env!("OUT"), "/missing.rs"));
 

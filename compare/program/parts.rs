@@ -174,6 +174,8 @@ pub const PARTS: &[Part] = &[
     crate::sheet::PART,
     crate::writer::PART,
     crate::stl::PART,
+    crate::touched::CONTACTS,
+    crate::touched::QUESTIONS,
 ];
 
 /// Questions asked of one mesh.
@@ -191,7 +193,7 @@ fn told(what: &str, ours: f64, theirs: f64) -> String {
     )
 }
 
-fn agree(what: &str, ours: f64, theirs: f64) -> Verdict {
+pub fn agree(what: &str, ours: f64, theirs: f64) -> Verdict {
     if same(ours, theirs) { Ok(()) } else { Err(told(what, ours, theirs)) }
 }
 
@@ -794,7 +796,7 @@ fn compare_questions(case: &Case, tally: &mut Tally, width: usize, asked: Questi
             return Err(at(&format!("refusal {} where document 01 has {refusal}", answer.refusal)));
         }
         if refusal != 0 {
-            if answer.height.to_bits() != 0 || answer.verdict != 0 || answer.count != 0 || answer.stamp != stamp {
+            if answer.height.to_bits() != 0 || answer.verdict != 0 || answer.count != 0 || answer.stamp != stamp || answer.touched != [0; 3] {
                 return Err(at(&format!("refusal {refusal} with {answer:?}")));
             }
             if !lent.holds(&marks) {

@@ -9,6 +9,7 @@ use lib.Dec.{eqb, leb, lit<}
 use lib.Ieee.{Float}
 use lib.ListN.{length, replicate, length-replicate}
 use Rattle.numbers.proofs.Branches.{either, taken, left, both-true}
+use Rattle.walk.specs.declared.Best.{Best}
 use Rattle.walk.specs.Walk.{Walk, nextStamp, readyMarks, fold, walked, chased}
 use Rattle.walk.specs.Inside.{Below, Room, Walkable, seen, judged, look, strike}
 use Rattle.walk.specs.declared.Seen.{Seen}
@@ -26,7 +27,7 @@ use Rattle.query.proofs.Patches.{patch-inside}
 use Rattle.query.specs.Looked.{within}
 use Rattle.query.proofs.Using.{walkable, usable-head}
 use Rattle.query.proofs.Passing.{sound-marked, sound-usable}
-use Rattle.ask.specs.Ask.{refusalOf, begun, Outcome, ended, refusedBy, answeredBy, answerOf, askedHeight, refusedChord, blockedEarly, ruledBy, rulingOf, askedChord}
+use Rattle.ask.specs.Ask.{atFloor, refusalOf, begun, Outcome, ended, refusedBy, answeredBy, answerOf, askedHeight, refusedChord, blockedEarly, ruledBy, rulingOf, askedChord}
 use Rattle.ask.specs.Demand.{GoodQuestion}
 use Rattle.ask.specs.declared.Answer.{Answer}
 use Rattle.ask.specs.declared.Ruling.{Ruling}
@@ -88,18 +89,18 @@ module _ (numbers tool : Bool) (ix : Index) (marks : List ℕ) (stamp : ℕ) (p 
       (omega (arith, k .nine), rw s (walkable ix marks stamp p (a .index-stands) (i .0) (i .1)), omega (arith, unmarked-length next m, k .few))
 
   -- ---- a height question
-  module _ (step : Float → ℕ → Float) where
+  module _ (step : Best → ℕ → Best) where
     pub height-refused : (n ≡ 0 → ⊥) → ended (refusedBy n stamp) marks ≡ askedHeight numbers tool step ix marks stamp p
     unfolding askedHeight answerOf
     height-refused z = left _ _ _ _ (ne-eqb _ 0 (λ k. z (e ∙ k))) (ap (λ (j : ℕ). ended (refusedBy j stamp) marks) e)
 
-    pub height-answered : (next : ℕ) (m m′ : List ℕ) (s : Seen) → n ≡ 0 → next ≡ nextStamp stamp → m ≡ readyMarks marks stamp → seen m′ s ≡ fold (look next step) (seen m (record { count = 0; best = ix .header .floor })) (within ix p) → ended (record { refusal = 0; height = s .best; count = s .count; stamp = next }) m′ ≡ askedHeight numbers tool step ix marks stamp p
+    pub height-answered : (next : ℕ) (m m′ : List ℕ) (s : Seen) → n ≡ 0 → next ≡ nextStamp stamp → m ≡ readyMarks marks stamp → seen m′ s ≡ fold (look next step) (seen m (record { count = 0; best = atFloor (ix .header .floor) })) (within ix p) → ended (answeredBy (seen m′ s) next) m′ ≡ askedHeight numbers tool step ix marks stamp p
     unfolding askedHeight answerOf
     height-answered next m m′ s z f g w =
-        let v : Walk Float = walked (nextStamp stamp) step (begun marks stamp (ix .header .floor)) (within ix p) in
+        let v : Walk Best = walked (nextStamp stamp) step (begun marks stamp (atFloor (ix .header .floor))) (within ix p) in
         let i : seen m′ s ≡ v = w ∙ walk-is next step _ _ ∙ (rw (g, f)) in
         taken _ _ _ _ (eq-eqb _ 0 (sym e ∙ z))
-        (ap (λ (u : Walk Float). ended (answeredBy u next) (u .marks)) i ∙ ap (λ (k : ℕ). ended (answeredBy v k) (v .marks)) f)
+        (ap (λ (u : Walk Best). ended (answeredBy u next) (u .marks)) i ∙ ap (λ (k : ℕ). ended (answeredBy v k) (v .marks)) f)
 
   -- ---- a chord question
   module _ (early : Bool) (blocks : ℕ → Bool) where
@@ -123,5 +124,5 @@ module _ (numbers tool : Bool) (ix : Index) (marks : List ℕ) (stamp : ℕ) (p 
         ∙ ap (λ (x : ℕ). ended (ruledBy u x) (u .marks)) g))
 
 -- what the step over one cell keeps
-pub cell-keeps : (stamp : ℕ) (step : Float → ℕ → Float) (ms : List ℕ) {w w′ : Walk Float} → w′ ≡ fold (look stamp step) w ms → Below (length (w .marks)) ms → Kept stamp w w′
+pub cell-keeps : (stamp : ℕ) (step : Best → ℕ → Best) (ms : List ℕ) {w w′ : Walk Best} → w′ ≡ fold (look stamp step) w ms → Below (length (w .marks)) ms → Kept stamp w w′
 cell-keeps stamp step ms {w} e b = rw e (fold-keeps stamp (look stamp step) (look-keeps stamp step) ms w b)

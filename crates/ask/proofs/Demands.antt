@@ -9,6 +9,7 @@ use lib.Dec.{eqb}
 use lib.Ieee.{Float}
 use lib.ListN.{length}
 use Rattle.numbers.proofs.Branches.{by-test}
+use Rattle.walk.specs.declared.Best.{Best}
 use Rattle.walk.specs.Walk.{Walk, walked, nextStamp}
 use Rattle.grid.specs.Index.{Index, BuiltFrom}
 use Rattle.grid.proofs.Indexing.{index-sound}
@@ -18,7 +19,7 @@ use Rattle.query.specs.Patch.{patchOf}
 use Rattle.query.proofs.Looks.{looks-once}
 use Rattle.query.proofs.Patches.{patch-inside}
 use Rattle.ask.specs.declared.Answer.{Answer}
-use Rattle.ask.specs.Ask.{refusalOf, begun, Outcome, ended, refusedBy, answeredBy, answerOf, askedHeight}
+use Rattle.ask.specs.Ask.{refusalOf, atFloor, begun, Outcome, ended, refusedBy, answeredBy, answerOf, askedHeight}
 use Rattle.ask.specs.Demand.{GoodAccepted, LookedAll, HeightPromise}
 use Rattle.ask.proofs.Answers.{passed, good-passes}
 
@@ -40,9 +41,9 @@ module _ (numbers tool : Bool) (ix : Index) (marks : List ℕ) (stamp : ℕ) (p 
       record { looks = looks-once ix marks stamp p (index-sound ix b) (a .index-stands) (a .marked .nine) right top; all = e }
 
   -- an answer with refusal 0 is that of its walk
-  module _ (step : Float → ℕ → Float) (a : Answer) (m : List ℕ) (e : ended a m ≡ askedHeight numbers tool step ix marks stamp p) where
-    abbrev found : Walk Float
-    found = walked (nextStamp stamp) step (begun marks stamp (ix .header .floor)) (within ix p)
+  module _ (step : Best → ℕ → Best) (a : Answer) (m : List ℕ) (e : ended a m ≡ askedHeight numbers tool step ix marks stamp p) where
+    abbrev found : Walk Best
+    found = walked (nextStamp stamp) step (begun marks stamp (atFloor (ix .header .floor))) (within ix p)
 
     height-refusal : a .refusal ≡ refusal
     unfolding askedHeight answerOf
@@ -72,7 +73,7 @@ module _ (numbers tool : Bool) (ix : Index) (marks : List ℕ) (stamp : ℕ) (px
   abbrev cells : Patch
   cells = patchOf (ix .header) px py qx qy reach
 
-  module _ (step : Float → ℕ → Float) (c : Answer) where
+  module _ (step : Best → ℕ → Best) (c : Answer) where
     pub height-demand : ended c m ≡ askedHeight numbers tool step ix marks stamp cells → HeightPromise numbers tool ix marks stamp cells c
     height-demand e = let i = patch-inside (ix .header) px py qx qy reach in height-promise numbers tool ix marks stamp cells (i .0) (i .1) step c m e
 

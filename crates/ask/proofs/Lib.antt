@@ -1,2 +1,3 @@
+pub mod Raises
 pub mod Answers
 pub mod Demands

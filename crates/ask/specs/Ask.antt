@@ -4,9 +4,12 @@ use mathlib.Core.List.{List}
 use Prim.Native.Nat.{ℕ}
 use lib.Dec.{eqb}
 use lib.Ieee.{Float, le}
-use Rattle.numbers.specs.Reals.{f0, maxOf}
+use Rattle.numbers.specs.Reals.{f0}
+use Rattle.plane.specs.declared.Touch.{Touch}
 use Rattle.plane.specs.declared.Contact.{Contact}
 use Rattle.plane.specs.declared.Contact.the-variants.{Nothing, Height}
+use Rattle.plane.specs.Contacts.{exceedsOf}
+use Rattle.walk.specs.declared.Best.{Best}
 use Rattle.walk.specs.Walk.{Walk, nextStamp, readyMarks, walked, chased}
 use Rattle.grid.specs.Index.{Index}
 use Rattle.grid.specs.Ladder.{demand}
@@ -33,10 +36,19 @@ refusalOf numbers tool ix marks stamp p =
     (demand (usable ix marks stamp p) 7
     0)))
 
--- The best so far, with one contact more.
-unfoldable pub raisedBy : Contact → Float → Float
-raisedBy Nothing best = best
-raisedBy (Height z t) best = maxOf best z
+-- The floor, which no triangle has raised.
+abbrev pub atFloor : Float → Best
+atFloor z = record { height = z; triangle = 0; kind = 0; which = 0 }
+
+-- The best so far, with the height z of triangle i, which touches t: only a strictly higher one raises it, and is named from then on.
+unfoldable pub raisedTo : Float → Touch → ℕ → Best → Best
+raisedTo z t i best =
+    cond (exceedsOf z (best .height)) (record { height = z; triangle = i; kind = t .kind; which = t .which }) best
+
+-- The same with the contact of triangle i.
+unfoldable pub raisedBy : Contact → ℕ → Best → Best
+raisedBy Nothing i best = best
+raisedBy (Height z t) i best = raisedTo z t i best
 
 -- Where a walk begins: with the next stamp's marks, no triangle looked at, and v.
 abbrev pub begun : {A : Type 0} → List ℕ → ℕ → A → Walk A
@@ -52,24 +64,30 @@ pub record Outcome (A : Type 0) : Type 0 where
 abbrev pub ended : {A : Type 0} → A → List ℕ → Outcome A
 ended a m = record { answer = a; marks = m }
 
--- Refused by k: zero height, zero count, the stamp as handed.
+-- Refused by k: zero height, zero count, the stamp as handed; nothing is named.
 abbrev pub refusedBy : ℕ → ℕ → Answer
-refusedBy k stamp = record { refusal = k; height = f0; count = 0; stamp = stamp }
+refusedBy k stamp = record { refusal = k; height = f0; count = 0; stamp = stamp; triangle = 0; kind = 0; which = 0 }
 
--- Accepted: the height that the walk w found, how many triangles it looked at, and its stamp.
-abbrev pub answeredBy : Walk Float → ℕ → Answer
-answeredBy w stamp = record { refusal = 0; height = w .value; count = w .count; stamp = stamp }
+-- Accepted: the height that the walk w found, how many triangles it looked at, its stamp, and the triangle and the touch that last raised the height.
+abbrev pub answeredBy : Walk Best → ℕ → Answer
+answeredBy w stamp =
+    let b = w .value in
+    record { refusal = 0; height = b .height; count = w .count; stamp = stamp; triangle = b .triangle; kind = b .kind; which = b .which }
+
+-- What an answer tells: the height, the triangle that last raised it, and what of it is touched.
+abbrev pub toldBy : Answer → Best
+toldBy a = record { height = a .height; triangle = a .triangle; kind = a .kind; which = a .which }
 
 -- A question that is refused by k, or else walks to w. A refusal leaves the marks untouched.
-unfoldable pub answerOf : ℕ → List ℕ → ℕ → Walk Float → Outcome Answer
+unfoldable pub answerOf : ℕ → List ℕ → ℕ → Walk Best → Outcome Answer
 answerOf k marks stamp w =
     cond (eqb k 0) (ended (answeredBy w (nextStamp stamp)) (w .marks)) (ended (refusedBy k stamp) marks)
 
 -- The question with the cells p, whose step takes the best so far and the next triangle. Its walk begins at the floor.
-unfoldable pub askedHeight : Bool → Bool → (Float → ℕ → Float) → Index → List ℕ → ℕ → Patch → Outcome Answer
+unfoldable pub askedHeight : Bool → Bool → (Best → ℕ → Best) → Index → List ℕ → ℕ → Patch → Outcome Answer
 askedHeight numbers tool step ix marks stamp p =
     answerOf (refusalOf numbers tool ix marks stamp p) marks stamp
-    (walked (nextStamp stamp) step (begun marks stamp (ix .header .floor)) (within ix p))
+    (walked (nextStamp stamp) step (begun marks stamp (atFloor (ix .header .floor))) (within ix p))
 
 -- ---- a chord question
 

@@ -2,18 +2,24 @@
 ghost use mathlib.Core.Path.{_≡_};
 ghost use Prim.Native.Nat.{_≤_};
 ghost use Rattle.grid.specs.Index.{indexOf};
-ghost use Rattle.ask.specs.Ask.{isCorner, refusalOf, raisedBy, findingNumber};
+ghost use Rattle.ask.specs.Ask.{isCorner, refusalOf, raisedTo, raisedBy, findingNumber};
 ghost use Rattle.ask.specs.Demand.{GoodAccepted};
 use grid::Header;
 use plane::Contact;
+use plane::Touch;
 use query::Patch;
+use walk::Best;
 
-// A height question's answer: its refusal or 0, the height, how many triangles were looked at, and the stamp.
+// A height question's answer: its refusal or 0, the height, how many triangles were looked at, and the stamp; then the triangle that last raised the height and what
+// of it is touched, its kind and which of three, all 0 for the floor.
 pub struct Answer {
     pub refusal: u32,
     pub height: f64,
     pub count: u32,
     pub stamp: u32,
+    pub triangle: u32,
+    pub kind: u32,
+    pub which: u32,
 }
 
 // A chord question's verdict: none where it is refused.
@@ -71,14 +77,29 @@ pub fn is_corner(r: f64, rc: f64) -> bool
     if 0.0 <= rc { rc <= r } else { false }
 }
 
-// The best so far with one contact more.
-pub fn raise_by(c: Contact, best: f64) -> f64
-    ensures { λ r. ⌜ r ≡ raisedBy c best ⌝ }
+// The best so far with the contact of triangle i.
+pub fn raise_by(c: Contact, i: u32, best: Best) -> Best
+    ensures { λ r. ⌜ r ≡ raisedBy c i best ⌝ }
 {
     match c {
         Contact::Nothing => best,
-        Contact::Height(z, _) => numbers::max(best, z),
+        Contact::Height(z, t) => raise_to(z, t, i, best),
     }
+}
+
+// The same with a height.
+fn raise_to(z: f64, t: Touch, i: u32, best: Best) -> Best
+    ensures { λ r. ⌜ r ≡ raisedTo z t i best ⌝ }
+{
+    if plane::exceeds(z, best.height) {
+        return Best {
+            height: z,
+            triangle: i,
+            kind: t.kind,
+            which: t.which,
+        };
+    }
+    best
 }
 
 // The number of a verdict.

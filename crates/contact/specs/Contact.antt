@@ -9,6 +9,7 @@ use Rattle.plane.specs.Mesh.{triangleOf, topOf}
 use Rattle.spans.specs.Mesh.{isRadius}
 use Rattle.bull.specs.declared.Bull.{Bull}
 use Rattle.bull.specs.Bull.{bullContactAbove}
+use Rattle.walk.specs.declared.Best.{Best}
 use Rattle.grid.specs.Index.{Index}
 use Rattle.query.specs.Asked.{isPoint}
 use Rattle.query.specs.Patch.{patchOf}
@@ -20,12 +21,12 @@ use Rattle.contact.specs.declared.Axis.{Axis}
 
 -- ---- a bull-nose cutter
 
--- The best so far with one triangle: it counts only where its top is above the best so far, and its edges only where they can exceed it.
-unfoldable pub bullRaised : Triangle → Bull → Float → Float
-bullRaised t k best = cond (le (topOf t) best) best (raisedBy (bullContactAbove t k best) best)
+-- The best so far with triangle i: it counts only where its top is above the best so far, and its edges only where they can exceed it.
+unfoldable pub bullRaised : Triangle → ℕ → Bull → Best → Best
+bullRaised t i k best = cond (le (topOf t) (best .height)) best (raisedBy (bullContactAbove t k (best .height)) i best)
 
-unfoldable pub bullStep : List Float → Bull → Float → ℕ → Float
-bullStep mesh k best i = bullRaised (triangleOf mesh i) k best
+unfoldable pub bullStep : List Float → Bull → Best → ℕ → Best
+bullStep mesh k best i = bullRaised (triangleOf mesh i) i k best
 
 -- 2: the axis is a point, the radius in its range.
 unfoldable pub isStand : Float → Float → Float → Bool
@@ -45,13 +46,13 @@ BullPromise ix marks stamp k a =
 
 -- ---- a tool of sections
 
--- The best so far with one triangle: it counts only where its top less the lowest z0 is above the best so far.
-unfoldable pub toolRaised : Triangle → Axis → List Float → Float → Float
-toolRaised t a table best =
-    cond (le (topOf t ⊖ a .low) best) best (raisedOver t (a .x) (a .y) table best (sectionsIn table))
+-- The best so far with triangle i: it counts only where its top less the lowest z0 is above the best so far.
+unfoldable pub toolRaised : Triangle → ℕ → Axis → List Float → Best → Best
+toolRaised t i a table best =
+    cond (le (topOf t ⊖ a .low) (best .height)) best (raisedOver t i (a .x) (a .y) table best (sectionsIn table))
 
-unfoldable pub toolStep : List Float → Axis → List Float → Float → ℕ → Float
-toolStep mesh a table best i = toolRaised (triangleOf mesh i) a table best
+unfoldable pub toolStep : List Float → Axis → List Float → Best → ℕ → Best
+toolStep mesh a table best i = toolRaised (triangleOf mesh i) i a table best
 
 -- 2: the axis is a point.
 unfoldable pub isPlace : Float → Float → Bool

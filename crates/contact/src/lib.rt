@@ -13,6 +13,7 @@ use bull::Bull;
 use grid::Header;
 use plane::Triangle;
 use query::Patch;
+use walk::Best;
 use walk::Seen;
 
 // Where a tool stands, and the lowest z0 of its sections.
@@ -50,7 +51,12 @@ pub fn max_bull(
     let columns = h.columns;
     let first = Seen {
         count: 0,
-        best: h.floor,
+        best: Best {
+            height: h.floor,
+            triangle: 0,
+            kind: 0,
+            which: 0,
+        },
     };
     let p = query::patch_of(h, px, py, px, py, r);
     let stands = is_stand(px, py, r);
@@ -62,15 +68,22 @@ pub fn max_bull(
             height: 0.0,
             count: 0,
             stamp,
+            triangle: 0,
+            kind: 0,
+            which: 0,
         };
     }
     let next = walk::next_stamp(marks, stamp);
     let s = visit_bull(mesh, starts, members, marks, next, columns, p, k, first);
+    let best = s.best;
     Answer {
         refusal: 0,
-        height: s.best,
+        height: best.height,
         count: s.count,
         stamp: next,
+        triangle: best.triangle,
+        kind: best.kind,
+        which: best.which,
     }
 }
 
@@ -95,7 +108,12 @@ pub fn max_sections(
     let columns = h.columns;
     let first = Seen {
         count: 0,
-        best: h.floor,
+        best: Best {
+            height: h.floor,
+            triangle: 0,
+            kind: 0,
+            which: 0,
+        },
     };
     let reach = tool::widest(table);
     let low = tool::lowest(table);
@@ -109,6 +127,9 @@ pub fn max_sections(
             height: 0.0,
             count: 0,
             stamp,
+            triangle: 0,
+            kind: 0,
+            which: 0,
         };
     }
     let next = walk::next_stamp(marks, stamp);
@@ -125,11 +146,15 @@ pub fn max_sections(
         table,
         first,
     );
+    let best = s.best;
     Answer {
         refusal: 0,
-        height: s.best,
+        height: best.height,
         count: s.count,
         stamp: next,
+        triangle: best.triangle,
+        kind: best.kind,
+        which: best.which,
     }
 }
 
@@ -159,32 +184,32 @@ fn is_place(x: f64, y: f64) -> bool
     }
 }
 
-// The best so far with a triangle.
-fn raise_bull_on(t: Triangle, k: Bull, best: f64) -> f64
-    ensures { λ r. ⌜ r ≡ bullRaised t k best ⌝ }
+// The best so far with triangle i.
+fn raise_bull_on(t: Triangle, i: u32, k: Bull, best: Best) -> Best
+    ensures { λ r. ⌜ r ≡ bullRaised t i k best ⌝ }
 {
-    if plane::top(t) <= best {
+    if plane::top(t) <= best.height {
         return best;
     }
-    ask::raise_by(bull::bull_contact_above(t, k, best), best)
+    ask::raise_by(bull::bull_contact_above(t, k, best.height), i, best)
 }
 
 // The best so far with triangle i.
-fn raise_bull(mesh: &[f64], k: Bull, best: f64, i: usize) -> f64
+fn raise_bull(mesh: &[f64], k: Bull, best: Best, i: u32) -> Best
     requires { ⌜ 9 * i + 9 ≤ length (now mesh) ⌝ }
     ensures { λ r. ⌜ r ≡ bullStep (now (mesh .entry)) k best i ⌝ }
 {
-    raise_bull_on(plane::triangle_at(mesh, i), k, best)
+    raise_bull_on(plane::triangle_at(mesh, i as usize), i, k, best)
 }
 
 // Looks at triangle i, unless its mark is the stamp.
-fn look_bull(mesh: &[f64], marks: &mut [u32], stamp: u32, k: Bull, s: Seen, i: usize) -> Seen
+fn look_bull(mesh: &[f64], marks: &mut [u32], stamp: u32, k: Bull, s: Seen, i: u32) -> Seen
     requires { ⌜ (length (now mesh) ≡ length (now marks) * 9) × (i < length (now marks)) × Room stamp (seen (now marks) s) ⌝ }
     ensures { λ r. ⌜ seen (now (marks .exit)) r ≡ look stamp (bullStep (now (mesh .entry)) k) (seen (now (marks .entry)) s) i ⌝ }
 {
     let count = s.count;
     let best = s.best;
-    if !walk::fresh(marks, stamp, i) {
+    if !walk::fresh(marks, stamp, i as usize) {
         return s;
     }
     Seen {
@@ -200,7 +225,7 @@ fn cell_bull(mesh: &[f64], part: &[u32], marks: &mut [u32], stamp: u32, k: Bull,
 {
     let mut found = s;
     for j in 0..part.len() {
-        found = look_bull(mesh, marks, stamp, k, found, part[j] as usize);
+        found = look_bull(mesh, marks, stamp, k, found, part[j]);
     }
     found
 }
@@ -236,25 +261,25 @@ fn visit_bull(
     found
 }
 
-// The best so far with a triangle.
-fn raise_tool_on(t: Triangle, a: Axis, table: &[f64], best: f64) -> f64
-    ensures { λ r. ⌜ r ≡ toolRaised t a (now (table .entry)) best ⌝ }
+// The best so far with triangle i.
+fn raise_tool_on(t: Triangle, i: u32, a: Axis, table: &[f64], best: Best) -> Best
+    ensures { λ r. ⌜ r ≡ toolRaised t i a (now (table .entry)) best ⌝ }
 {
     let x = a.x;
     let y = a.y;
     let low = a.low;
-    if plane::top(t) - low <= best {
+    if plane::top(t) - low <= best.height {
         return best;
     }
-    tool::raise_over(t, x, y, table, best)
+    tool::raise_over(t, i, x, y, table, best)
 }
 
 // The best so far with triangle i.
-fn raise_tool(mesh: &[f64], a: Axis, table: &[f64], best: f64, i: usize) -> f64
+fn raise_tool(mesh: &[f64], a: Axis, table: &[f64], best: Best, i: u32) -> Best
     requires { ⌜ 9 * i + 9 ≤ length (now mesh) ⌝ }
     ensures { λ r. ⌜ r ≡ toolStep (now (mesh .entry)) a (now (table .entry)) best i ⌝ }
 {
-    raise_tool_on(plane::triangle_at(mesh, i), a, table, best)
+    raise_tool_on(plane::triangle_at(mesh, i as usize), i, a, table, best)
 }
 
 // Looks at triangle i, unless its mark is the stamp.
@@ -265,14 +290,14 @@ fn look_tool(
     a: Axis,
     table: &[f64],
     s: Seen,
-    i: usize,
+    i: u32,
 ) -> Seen
     requires { ⌜ (length (now mesh) ≡ length (now marks) * 9) × (i < length (now marks)) × Room stamp (seen (now marks) s) ⌝ }
     ensures { λ r. ⌜ seen (now (marks .exit)) r ≡ look stamp (toolStep (now (mesh .entry)) a (now (table .entry))) (seen (now (marks .entry)) s) i ⌝ }
 {
     let count = s.count;
     let best = s.best;
-    if !walk::fresh(marks, stamp, i) {
+    if !walk::fresh(marks, stamp, i as usize) {
         return s;
     }
     Seen {
@@ -297,7 +322,7 @@ fn cell_tool(
 {
     let mut found = s;
     for j in 0..part.len() {
-        found = look_tool(mesh, marks, stamp, a, table, found, part[j] as usize);
+        found = look_tool(mesh, marks, stamp, a, table, found, part[j]);
     }
     found
 }

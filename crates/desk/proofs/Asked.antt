@@ -13,7 +13,7 @@ use Rattle.desk.proofs.Left.{finding-back}
 
 module _ (h g : Header) (same : h ≡ g) where
   pub height-told : (asked : Header → Outcome Answer) (L : Header → Answer → Type 0) (a : Answer) (marks : List ℕ) → ended a marks ≡ asked h → L h a
-      → (heightLeft (a .refusal) marks (a .height ∷ []) (a .count ∷ a .stamp ∷ []) ≡ heightLeftBy (asked g)) × L g a
+      → (heightLeft (a .refusal) marks (a .height ∷ []) (a .count ∷ a .stamp ∷ []) (a .triangle ∷ a .kind ∷ a .which ∷ []) ≡ heightLeftBy (asked g)) × L g a
   unfolding heightLeftBy
   height-told asked L a marks e l = (ap heightLeftBy (e ∙ ap asked same), subst (λ (k : Header). L k a) same l)
 

@@ -63,24 +63,34 @@ headerFrom fs ns =
 abbrev pub indexFrom : List Float → List Float → List ℕ → List ℕ → List ℕ → Index
 indexFrom mesh fs ns starts members = indexOf mesh (headerFrom fs ns) starts members
 
--- A height asked: the refusal, the marks, the height, the count and the stamp afterwards.
+-- A height asked: the refusal, the marks, the height, the count and the stamp afterwards; the triangle that last raised the height and what of it is touched.
 pub record HeightLeft : Type 0 where
   pub refusal : ℕ
   pub marks : List ℕ
   pub height : List Float
   pub counts : List ℕ
+  pub touched : List ℕ
 
-abbrev pub heightLeft : ℕ → List ℕ → List Float → List ℕ → HeightLeft
-heightLeft k ms hs ns = record { refusal = k; marks = ms; height = hs; counts = ns }
+abbrev pub heightLeft : ℕ → List ℕ → List Float → List ℕ → List ℕ → HeightLeft
+heightLeft k ms hs ns ts = record { refusal = k; marks = ms; height = hs; counts = ns; touched = ts }
 
 unfoldable pub heightLeftBy : asked.Outcome Answer → HeightLeft
 heightLeftBy o =
     let a = o .answer in
-    heightLeft (a .refusal) (o .marks) (a .height ∷ []) (a .count ∷ a .stamp ∷ [])
+    heightLeft (a .refusal) (o .marks) (a .height ∷ []) (a .count ∷ a .stamp ∷ []) (a .triangle ∷ a .kind ∷ a .which ∷ [])
 
 -- The height's answer that C reads off its arrays.
-abbrev pub answerFrom : ℕ → List Float → List ℕ → Answer
-answerFrom k fs ns = record { refusal = k; height = num fs 0; count = getD ns 0 0; stamp = getD ns 1 0 }
+abbrev pub answerFrom : ℕ → List Float → List ℕ → List ℕ → Answer
+answerFrom k fs ns ts =
+    record {
+      refusal = k;
+      height = num fs 0;
+      count = getD ns 0 0;
+      stamp = getD ns 1 0;
+      triangle = getD ts 0 0;
+      kind = getD ts 1 0;
+      which = getD ts 2 0;
+    }
 
 -- A chord asked: the refusal, the marks; the verdict's number, the count and the stamp afterwards.
 pub record VerdictLeft : Type 0 where

@@ -96,15 +96,16 @@ pub extern "C" fn mandrikelo_max_height(
     r: f64,
     found: &mut [f64; 1],
     counts: &mut [u32; 2],
+    touched: &mut [u32; 3],
 ) -> u32
-    ensures { λ k. ⌜ heightLeft k (now (marks .exit)) (now (found .exit)) (now (counts .exit))
+    ensures { λ k. ⌜ heightLeft k (now (marks .exit)) (now (found .exit)) (now (counts .exit)) (now (touched .exit))
         ≡ heightLeftBy (maxHeightOf
         (indexFrom (now (mesh .entry)) (now (measures .entry)) (now (sizes .entry)) (now (starts .entry)) (now (members .entry)))
         (now (marks .entry)) stamp (sweep px py qx qy r)) ⌝ }
     ensures { λ k. ⌜ DiskPromise
         (indexFrom (now (mesh .entry)) (now (measures .entry)) (now (sizes .entry)) (now (starts .entry)) (now (members .entry)))
         (now (marks .entry)) stamp (sweep px py qx qy r)
-        (answerFrom k (now (found .exit)) (now (counts .exit))) ⌝ }
+        (answerFrom k (now (found .exit)) (now (counts .exit)) (now (touched .exit))) ⌝ }
 {
     let a = height::max_height(
         mesh,
@@ -123,8 +124,12 @@ pub extern "C" fn mandrikelo_max_height(
     let z = a.height;
     let count = a.count;
     let next = a.stamp;
+    let triangle = a.triangle;
+    let kind = a.kind;
+    let which = a.which;
     *found = [z];
     *counts = [count, next];
+    *touched = [triangle, kind, which];
     k
 }
 
@@ -144,15 +149,16 @@ pub extern "C" fn mandrikelo_max_bull(
     rc: f64,
     found: &mut [f64; 1],
     counts: &mut [u32; 2],
+    touched: &mut [u32; 3],
 ) -> u32
-    ensures { λ k. ⌜ heightLeft k (now (marks .exit)) (now (found .exit)) (now (counts .exit))
+    ensures { λ k. ⌜ heightLeft k (now (marks .exit)) (now (found .exit)) (now (counts .exit)) (now (touched .exit))
         ≡ heightLeftBy (maxBullOf
         (indexFrom (now (mesh .entry)) (now (measures .entry)) (now (sizes .entry)) (now (starts .entry)) (now (members .entry)))
         (now (marks .entry)) stamp (record { x = px; y = py; r = r; rc = rc })) ⌝ }
     ensures { λ k. ⌜ BullPromise
         (indexFrom (now (mesh .entry)) (now (measures .entry)) (now (sizes .entry)) (now (starts .entry)) (now (members .entry)))
         (now (marks .entry)) stamp (record { x = px; y = py; r = r; rc = rc })
-        (answerFrom k (now (found .exit)) (now (counts .exit))) ⌝ }
+        (answerFrom k (now (found .exit)) (now (counts .exit)) (now (touched .exit))) ⌝ }
 {
     let a = contact::max_bull(
         mesh,
@@ -170,8 +176,12 @@ pub extern "C" fn mandrikelo_max_bull(
     let z = a.height;
     let count = a.count;
     let next = a.stamp;
+    let triangle = a.triangle;
+    let kind = a.kind;
+    let which = a.which;
     *found = [z];
     *counts = [count, next];
+    *touched = [triangle, kind, which];
     k
 }
 
@@ -190,15 +200,16 @@ pub extern "C" fn mandrikelo_max_sections(
     sections: &[f64],
     found: &mut [f64; 1],
     counts: &mut [u32; 2],
+    touched: &mut [u32; 3],
 ) -> u32
-    ensures { λ k. ⌜ heightLeft k (now (marks .exit)) (now (found .exit)) (now (counts .exit))
+    ensures { λ k. ⌜ heightLeft k (now (marks .exit)) (now (found .exit)) (now (counts .exit)) (now (touched .exit))
         ≡ heightLeftBy (maxSectionsOf
         (indexFrom (now (mesh .entry)) (now (measures .entry)) (now (sizes .entry)) (now (starts .entry)) (now (members .entry)))
         (now (marks .entry)) stamp px py (now (sections .entry))) ⌝ }
     ensures { λ k. ⌜ SectionsPromise
         (indexFrom (now (mesh .entry)) (now (measures .entry)) (now (sizes .entry)) (now (starts .entry)) (now (members .entry)))
         (now (marks .entry)) stamp px py (now (sections .entry))
-        (answerFrom k (now (found .exit)) (now (counts .exit))) ⌝ }
+        (answerFrom k (now (found .exit)) (now (counts .exit)) (now (touched .exit))) ⌝ }
 {
     let a = contact::max_sections(
         mesh,
@@ -215,8 +226,12 @@ pub extern "C" fn mandrikelo_max_sections(
     let z = a.height;
     let count = a.count;
     let next = a.stamp;
+    let triangle = a.triangle;
+    let kind = a.kind;
+    let which = a.which;
     *found = [z];
     *counts = [count, next];
+    *touched = [triangle, kind, which];
     k
 }
 

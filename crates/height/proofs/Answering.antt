@@ -5,9 +5,9 @@ use mathlib.Core.Path.{_≡_, refl, ap, sym, _∙_}
 use Prim.Native.Nat.{ℕ, _*_, _≤_}
 use native.Mathlib.Omega.{arith}
 use borrow.Author.Tests.{eq-eqb}
-use lib.Ieee.{Float}
 use lib.ListN.{length}
 use Rattle.numbers.proofs.Branches.{taken}
+use Rattle.walk.specs.declared.Best.{Best}
 use Rattle.walk.specs.Walk.{Walk, nextStamp}
 use Rattle.grid.specs.Index.{Index}
 use Rattle.query.specs.declared.Patch.{Patch}
@@ -42,12 +42,12 @@ module _ (ix : Index) (marks : List ℕ) (stamp : ℕ) (p : Patch) (a : Bool) (n
     pub refused : (n ≡ 0 → ⊥) → (ended (refusedBy n stamp) marks ≡ maxHeightOf ix marks stamp s) × DiskPromise ix marks stamp s (refusedBy n stamp)
     refused z = tells (refusedBy n stamp) marks (height-refused a true ix marks stamp p n e _ z)
 
-    walk-told : n ≡ 0 → (w : Walk Float) → w ≡ capsuleWalk ix marks stamp (capsuleFor (ix .header) s) p → ended (answeredBy w (nextStamp stamp)) (w .marks) ≡ askedHeight a true (diskStep (ix .mesh) (capsuleFor (ix .header) s)) ix marks stamp p
+    walk-told : n ≡ 0 → (w : Walk Best) → w ≡ capsuleWalk ix marks stamp (capsuleFor (ix .header) s) p → ended (answeredBy w (nextStamp stamp)) (w .marks) ≡ askedHeight a true (diskStep (ix .mesh) (capsuleFor (ix .header) s)) ix marks stamp p
     unfolding askedHeight answerOf capsuleWalk
     walk-told z w v =
-        taken _ _ _ _ (eq-eqb _ 0 (sym e ∙ z)) (ap (λ (u : Walk Float). ended (answeredBy u (nextStamp stamp)) (u .marks)) v)
+        taken _ _ _ _ (eq-eqb _ 0 (sym e ∙ z)) (ap (λ (u : Walk Best). ended (answeredBy u (nextStamp stamp)) (u .marks)) v)
 
-    pub answered : n ≡ 0 → (q : Capsule) (w : Walk Float) (next : ℕ) → q ≡ capsuleFor (ix .header) s → w ≡ capsuleWalk ix marks stamp q p → next ≡ nextStamp stamp → (ended (answeredBy w next) (w .marks) ≡ maxHeightOf ix marks stamp s) × DiskPromise ix marks stamp s (answeredBy w next)
+    pub answered : n ≡ 0 → (q : Capsule) (w : Walk Best) (next : ℕ) → q ≡ capsuleFor (ix .header) s → w ≡ capsuleWalk ix marks stamp q p → next ≡ nextStamp stamp → (ended (answeredBy w next) (w .marks) ≡ maxHeightOf ix marks stamp s) × DiskPromise ix marks stamp s (answeredBy w next)
     answered z q w next b c d =
         tells (answeredBy w next) (w .marks)
         (ap (λ (k : ℕ). ended (answeredBy w k) (w .marks)) d ∙ walk-told z w (c ∙ ap (λ (k : Capsule). capsuleWalk ix marks stamp k p) b))

@@ -14,7 +14,7 @@ use Rattle.query.proofs.Patches.{patch-inside}
 use Rattle.query.proofs.Using.{usable-head}
 use Rattle.query.proofs.Looks.{looks-shared}
 use Rattle.ask.specs.declared.Answer.{Answer}
-use Rattle.ask.specs.Ask.{Outcome, ended}
+use Rattle.ask.specs.Ask.{atFloor, Outcome, ended, toldBy}
 use Rattle.ask.proofs.Answers.{passed}
 use Rattle.ask.proofs.Demands.{height-walked, height-promise}
 use Rattle.height.specs.Sweep.{Sweep, patchFor, capsuleFor, diskStep}
@@ -36,17 +36,18 @@ module _ (ix : Index) (marks : List ℕ) (stamp : ℕ) (s : Sweep) (a : Answer) 
       let u = c .index-stands in
       let shared = looks-shared ix marks stamp p (index-sound ix b) u (c .marked .nine) (i .0) (i .1) in
       let real = coordinate-real (ix .header .floor) (usable-head ix marks stamp p u .ranged .floor) in
-      let v = ap (λ (o : Outcome Answer). o .answer .height) (w .1) in
+      let v = ap (λ (o : Outcome Answer). toldBy (o .answer)) (w .1) in
+      let y = ap (λ (o : Outcome Answer). o .answer .height) (w .1) in
       record {
         looks = l .looks;
         count = l .all;
         height = rw v
             (⊎-elim inl
-            (λ o. inr (record { above = o .above; one = o .one; ofThem = shared (o .one) (o .looked); touch = o .touch; computed = o .computed }))
-            (fold-is (ix .mesh) q is (ix .header .floor) real));
-        none = λ k t y touch g above higher.
+            (λ o. inr (record { above = o .above; ofThem = shared _ (o .looked); computed = o .computed }))
+            (fold-is (ix .mesh) q is (atFloor (ix .header .floor)) real));
+        none = λ k t z touch g above higher.
             let n : 0 < times k is = omega (arith, l .looks .each k t) in
-            fold-none (ix .mesh) q is (ix .header .floor) real k n y touch g (rw v at above) (rw v at higher);
+            fold-none (ix .mesh) q is (atFloor (ix .header .floor)) real k n z touch g (rw y at above) (rw y at higher);
       }
 
   pub disk-promise : DiskPromise ix marks stamp s a

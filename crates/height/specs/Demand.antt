@@ -10,31 +10,31 @@ use Rattle.plane.specs.declared.Touch.{Touch}
 use Rattle.plane.specs.declared.Contact.the-variants.{Height}
 use Rattle.plane.specs.Mesh.{triangleOf, topOf}
 use Rattle.capsule.specs.declared.Capsule.{Capsule}
+use Rattle.walk.specs.declared.Best.{Best}
 use Rattle.grid.specs.Index.{Index, BuiltFrom}
 use Rattle.query.specs.declared.Patch.{Patch}
 use Rattle.query.specs.Looked.{Shares, LooksOnce, lookedIn}
 use Rattle.ask.specs.declared.Answer.{Answer}
+use Rattle.ask.specs.Ask.{atFloor, toldBy}
 use Rattle.ask.specs.Demand.{GoodAccepted}
 use Rattle.height.specs.Sweep.{Sweep, patchFor, capsuleFor, heightOf}
 use Rattle.height.specs.Height.{isSweep}
 
--- The height "lies above the floor and is the computed height of one of them".
-pub record HeightOfOne (ix : Index) (p : Patch) (q : Capsule) (height : Float) : Type 0 where
-  pub above : lt (ix .header .floor) height ≡ true
-  pub one : ℕ
-  pub ofThem : Shares ix p one
-  pub touch : Touch
-  pub computed : heightOf (ix .mesh) q one ≡ Height height touch
+-- The height "lies above the floor and is the computed height of one of them", which is the triangle named; and what is touched there is what is told.
+pub record HeightOfOne (ix : Index) (p : Patch) (q : Capsule) (b : Best) : Type 0 where
+  pub above : lt (ix .header .floor) (b .height) ≡ true
+  pub ofThem : Shares ix p (b .triangle)
+  pub computed : heightOf (ix .mesh) q (b .triangle) ≡ Height (b .height) (record { kind = b .kind; which = b .which })
 
 -- What an accepted question with the cells p and the capsule q has done over the list `is`, with the answer a:
 --   looks   it "has looked at each triangle sharing a grid cell with the question exactly once, and at no other";
 --   count   "the count reported is the number of those triangles";
---   height  "a swept-disk height is the floor, or lies above it and is the computed height of one of them";
+--   height  "a swept-disk height is the floor, or lies above it and is the computed height of one of them", and that one is named; the floor names none;
 --   none    "none of them has both its top and its computed height above the answer".
 pub record Demand3 (ix : Index) (p : Patch) (q : Capsule) (is : List ℕ) (a : Answer) : Type 0 where
   pub looks : LooksOnce ix p is
   pub count : a .count ≡ length is
-  pub height : (a .height ≡ ix .header .floor) ⊎ HeightOfOne ix p q (a .height)
+  pub height : (toldBy a ≡ atFloor (ix .header .floor)) ⊎ HeightOfOne ix p q (toldBy a)
   pub none : (i : ℕ) → Shares ix p i
       → (z : Float) (t : Touch) → heightOf (ix .mesh) q i ≡ Height z t
       → lt (a .height) (topOf (triangleOf (ix .mesh) i)) ≡ true

@@ -8,6 +8,7 @@ use Rattle.plane.specs.Mesh.{triangleOf, topOf}
 use Rattle.capsule.specs.declared.Capsule.{Capsule}
 use Rattle.capsule.specs.Region.{capsuleOf}
 use Rattle.capsule.specs.Candidates.{highestIn}
+use Rattle.walk.specs.declared.Best.{Best}
 use Rattle.walk.specs.Walk.{Walk, walked, nextStamp}
 use Rattle.walk.specs.Inside.{Walkable}
 use Rattle.grid.specs.declared.Header.{Header}
@@ -15,7 +16,7 @@ use Rattle.grid.specs.Index.{Index}
 use Rattle.query.specs.declared.Patch.{Patch}
 use Rattle.query.specs.Patch.{patchOf}
 use Rattle.query.specs.Looked.{within}
-use Rattle.ask.specs.Ask.{raisedBy, begun}
+use Rattle.ask.specs.Ask.{atFloor, raisedBy, begun}
 use Rattle.height.specs.declared.Swept.{Swept}
 
 -- A sweep: a disk of radius r moved from p to q.
@@ -42,23 +43,23 @@ unfoldable pub heightOf : List Float → Capsule → ℕ → Contact
 heightOf mesh q i = highestIn q (triangleOf mesh i)
 
 -- One triangle of the walk: it counts only where its top is above the best so far.
-unfoldable pub diskStep : List Float → Capsule → Float → ℕ → Float
-diskStep mesh q best i = cond (le (topOf (triangleOf mesh i)) best) best (raisedBy (heightOf mesh q i) best)
+unfoldable pub diskStep : List Float → Capsule → Best → ℕ → Best
+diskStep mesh q best i = cond (le (topOf (triangleOf mesh i)) (best .height)) best (raisedBy (heightOf mesh q i) i best)
 
 -- The walk with a capsule over the cells p: it begins at the header's floor, with the next stamp.
-unfoldable pub capsuleWalk : Index → List ℕ → ℕ → Capsule → Patch → Walk Float
+unfoldable pub capsuleWalk : Index → List ℕ → ℕ → Capsule → Patch → Walk Best
 capsuleWalk ix marks stamp q p =
-    walked (nextStamp stamp) (diskStep (ix .mesh) q) (begun marks stamp (ix .header .floor)) (within ix p)
+    walked (nextStamp stamp) (diskStep (ix .mesh) q) (begun marks stamp (atFloor (ix .header .floor))) (within ix p)
 
 -- The walk of a sweep.
-unfoldable pub sweepWalk : Index → List ℕ → ℕ → Sweep → Walk Float
+unfoldable pub sweepWalk : Index → List ℕ → ℕ → Sweep → Walk Best
 sweepWalk ix marks stamp s = capsuleWalk ix marks stamp (capsuleFor (ix .header) s) (patchFor (ix .header) s)
 
 -- ---- what the parts of the code promise each other
 
 -- what a walk found, with its marks
-abbrev pub walkLeft : Swept → List ℕ → Walk Float
-walkLeft s m = record { marks = m; count = s .count; value = s .height }
+abbrev pub walkLeft : Swept → List ℕ → Walk Best
+walkLeft s m = record { marks = m; count = s .count; value = s .best }
 
 -- the cells p of an index of n triangles can be walked
 abbrev pub Sweepable : Index → ℕ → Patch → Type 0

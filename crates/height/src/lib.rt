@@ -13,11 +13,12 @@ use ask::Answer;
 use capsule::Capsule;
 use grid::Header;
 use query::Patch;
+use walk::Best;
 use walk::Seen;
 
 // What the walk of a sweep found, how many triangles it looked at, and its stamp.
 pub struct Swept {
-    pub height: f64,
+    pub best: Best,
     pub count: u32,
     pub stamp: u32,
 }
@@ -50,6 +51,9 @@ pub fn max_height(
             height: 0.0,
             count: 0,
             stamp,
+            triangle: 0,
+            kind: 0,
+            which: 0,
         };
     }
     let s = sweep_in(
@@ -62,11 +66,15 @@ pub fn max_height(
         capsule::capsule_of(px, py, qx, qy, r, h.eps),
         p,
     );
+    let best = s.best;
     Answer {
         refusal: 0,
-        height: s.height,
+        height: best.height,
         count: s.count,
         stamp: s.stamp,
+        triangle: best.triangle,
+        kind: best.kind,
+        which: best.which,
     }
 }
 
@@ -153,37 +161,43 @@ fn sweep_in(
     let columns = h.columns;
     let first = Seen {
         count: 0,
-        best: h.floor,
+        best: Best {
+            height: h.floor,
+            triangle: 0,
+            kind: 0,
+            which: 0,
+        },
     };
     let next = walk::next_stamp(marks, stamp);
     let found = visit(mesh, starts, members, marks, next, columns, p, q, first);
+    let best = found.best;
     Swept {
-        height: found.best,
+        best,
         count: found.count,
         stamp: next,
     }
 }
 
 // The best so far with triangle i.
-fn raise(mesh: &[f64], q: Capsule, best: f64, i: usize) -> f64
+fn raise(mesh: &[f64], q: Capsule, best: Best, i: u32) -> Best
     requires { ⌜ 9 * i + 9 ≤ length (now mesh) ⌝ }
     ensures { λ r. ⌜ r ≡ diskStep (now (mesh .entry)) q best i ⌝ }
 {
-    let t = plane::triangle_at(mesh, i);
-    if plane::top(t) <= best {
+    let t = plane::triangle_at(mesh, i as usize);
+    if plane::top(t) <= best.height {
         return best;
     }
-    ask::raise_by(capsule::highest_in(q, t), best)
+    ask::raise_by(capsule::highest_in(q, t), i, best)
 }
 
 // Looks at triangle i, unless its mark is the stamp.
-fn look_at(mesh: &[f64], marks: &mut [u32], stamp: u32, q: Capsule, s: Seen, i: usize) -> Seen
+fn look_at(mesh: &[f64], marks: &mut [u32], stamp: u32, q: Capsule, s: Seen, i: u32) -> Seen
     requires { ⌜ (length (now mesh) ≡ length (now marks) * 9) × (i < length (now marks)) × Room stamp (seen (now marks) s) ⌝ }
     ensures { λ r. ⌜ seen (now (marks .exit)) r ≡ look stamp (diskStep (now (mesh .entry)) q) (seen (now (marks .entry)) s) i ⌝ }
 {
     let count = s.count;
     let best = s.best;
-    if !walk::fresh(marks, stamp, i) {
+    if !walk::fresh(marks, stamp, i as usize) {
         return s;
     }
     Seen {
@@ -206,7 +220,7 @@ fn visit_cell(
 {
     let mut found = s;
     for j in 0..part.len() {
-        found = look_at(mesh, marks, stamp, q, found, part[j] as usize);
+        found = look_at(mesh, marks, stamp, q, found, part[j]);
     }
     found
 }

@@ -89,5 +89,8 @@ fn refused(k: u32, stamp: u32) -> Answer
         height: 0.0,
         count: 0,
         stamp,
+        triangle: 0,
+        kind: 0,
+        which: 0,
     }
 }

@@ -14,7 +14,7 @@ use Rattle.probe.specs.declared.Aim.{Aim}
 
 -- The swept-disk height under a run, at the header's radius, asked with wiped marks.
 unfoldable pub heightUnder : Index → Run → Float
-heightUnder ix r = sweepWalk ix (replicate (ix .header .n) 0) 0 (sweep (r .ax) (r .ay) (r .bx) (r .by) (ix .header .r)) .value
+heightUnder ix r = sweepWalk ix (replicate (ix .header .n) 0) 0 (sweep (r .ax) (r .ay) (r .bx) (r .by) (ix .header .r)) .value .height
 
 -- ---- over any height under a run
 module _ (under : Run → Float) where

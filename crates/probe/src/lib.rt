@@ -61,8 +61,9 @@ fn ask(
         r.by,
         h.r,
     );
+    let best = s.best;
     Asked {
-        height: s.height,
+        height: best.height,
         stamp: s.stamp,
     }
 }

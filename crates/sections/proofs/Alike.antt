@@ -8,6 +8,7 @@ use native.Mathlib.Omega.{arith}
 use borrow.Author.Tests.{leb-true, leb-false, lt-leb}
 use lib.Dec.{eqb, leb}
 use lib.Ieee.{Float}
+use Rattle.walk.specs.declared.Best.{Best}
 use lib.ListN.{length, take}
 use lib.Seq.{take-length}
 use Rattle.numbers.proofs.Branches.{left}
@@ -66,7 +67,7 @@ module _ (ix : Index) (marks : List ℕ) (stamp : ℕ) (numbers : Bool) (p q : P
   unfolding refusalOf
   refused = no-rung (isMarked (ix .mesh) marks) numbers (usable ix marks stamp p)
 
-  heights-alike : (f g : Float → ℕ → Float) → askedHeight numbers false f ix marks stamp p ≡ askedHeight numbers false g ix marks stamp q
+  heights-alike : (f g : Best → ℕ → Best) → askedHeight numbers false f ix marks stamp p ≡ askedHeight numbers false g ix marks stamp q
   unfolding askedHeight answerOf refusalOf demand
   heights-alike f g = sym (left _ _ _ _ refused refl) ∙ left _ _ _ _ refused refl
 

@@ -15,6 +15,7 @@ use Rattle.reach.specs.declared.Chord.{Chord}
 use Rattle.section.specs.declared.Section.{Section}
 use Rattle.section.specs.Section.{validSection, sectionContact}
 use Rattle.section_gap.specs.Blocks.{sectionBlocks}
+use Rattle.walk.specs.declared.Best.{Best}
 use Rattle.query.specs.Usable.{every}
 use Rattle.ask.specs.Ask.{raisedBy}
 use Rattle.tool.specs.Tool.{sectionOf, widestOf, lowestOf, raisedOver}
@@ -28,9 +29,9 @@ module _ (table : List Float) (i : ℕ) (s : Section) (here : s ≡ sectionOf ta
   unfolding lowestOf
   lower v r e p = rw (add-one i, p, e, here)
 
-  pub higher : (t : Triangle) (x y best v r : Float) (k : Contact) → v ≡ raisedOver t x y table best i → k ≡ sectionContact t x y s → r ≡ raisedBy k v → r ≡ raisedOver t x y table best (i + 1)
+  pub higher : (t : Triangle) (n : ℕ) (x y : Float) (best v r : Best) (k : Contact) → v ≡ raisedOver t n x y table best i → k ≡ sectionContact t x y s → r ≡ raisedBy k n v → r ≡ raisedOver t n x y table best (i + 1)
   unfolding raisedOver
-  higher t x y best v r k e p q = rw (add-one i, q, p, e, here)
+  higher t n x y best v r k e p q = rw (add-one i, q, p, e, here)
 
   pub valid-here : (b : Bool) → b ≡ validSection s → b ≡ validSection (sectionOf table i)
   valid-here b e = e ∙ ap validSection here

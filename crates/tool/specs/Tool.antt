@@ -10,6 +10,7 @@ use Rattle.cells.specs.Cover.{isFrom}
 use Rattle.golden.specs.Upper.{infinity}
 use Rattle.plane.specs.declared.Triangle.{Triangle}
 use Rattle.plane.specs.Mesh.{boundsOf}
+use Rattle.walk.specs.declared.Best.{Best}
 use Rattle.query.specs.Usable.{every}
 use Rattle.ask.specs.Ask.{raisedBy}
 use Rattle.reach.specs.declared.Chord.{Chord}
@@ -42,10 +43,10 @@ unfoldable pub lowestOf : List Float → ℕ → Float
 lowestOf table zero = infinity
 lowestOf table (suc n) = minOf (lowestOf table n) (sectionOf table n .z0)
 
--- The best so far with the contacts of the first n sections on a triangle, in their order; the axis stands at (x, y).
-unfoldable pub raisedOver : Triangle → Float → Float → List Float → Float → ℕ → Float
-raisedOver t x y table best zero = best
-raisedOver t x y table best (suc n) = raisedBy (sectionContact t x y (sectionOf table n)) (raisedOver t x y table best n)
+-- The best so far with the contacts of the first n sections on triangle k, in their order; the axis stands at (x, y).
+unfoldable pub raisedOver : Triangle → ℕ → Float → Float → List Float → Best → ℕ → Best
+raisedOver t k x y table best zero = best
+raisedOver t k x y table best (suc n) = raisedBy (sectionContact t x y (sectionOf table n)) k (raisedOver t k x y table best n)
 
 -- Whether a triangle blocks none of the sections on a chord.
 unfoldable pub passesAll : Triangle → Chord → List Float → Bool

@@ -9,6 +9,7 @@ ghost use Rattle.tool.specs.Tool.{sectionOf, sectionsIn, isTool, widestO
 use plane::Triangle;
 use reach::Chord;
 use section::Section;
+use walk::Best;
 
 // Section i of a table.
 pub fn section_at(table: &[f64], i: usize) -> Section
@@ -82,15 +83,16 @@ pub fn lowest(table: &[f64]) -> f64
     low
 }
 
-// The best so far with the contacts of all sections on a triangle.
-pub fn raise_over(t: Triangle, x: f64, y: f64, table: &[f64], best: f64) -> f64
-    ensures { λ r. ⌜ r ≡ raisedOver t x y (now (table .entry)) best (sectionsIn (now (table .entry))) ⌝ }
+// The best so far with the contacts of all sections on triangle k.
+pub fn raise_over(t: Triangle, k: u32, x: f64, y: f64, table: &[f64], best: Best) -> Best
+    ensures { λ r. ⌜ r ≡ raisedOver t k x y (now (table .entry)) best (sectionsIn (now (table .entry))) ⌝ }
 {
     let n = table.len() / 4;
     let mut high = best;
     for i in 0..n {
         high = ask::raise_by(
             section::section_contact(t, x, y, section_at(table, i)),
+            k,
             high,
         );
     }

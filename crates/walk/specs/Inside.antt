@@ -3,14 +3,14 @@ use mathlib.Core.Bool.{Bool, not, cond}
 use mathlib.Core.List.{List, [], _∷_}
 use Prim.Native.Nat.{ℕ, _+_, _*_, _^_, _≤_, _<_}
 use lib.Dec.{eqb}
-use lib.Ieee.{Float}
 use lib.ListN.{length, getD, set}
 use Rattle.walk.specs.Walk.{Walk, cell}
+use Rattle.walk.specs.declared.Best.{Best}
 use Rattle.walk.specs.declared.Seen.{Seen}
 use Rattle.walk.specs.declared.Verdict.{Verdict}
 
 -- a height question with these marks, where it stands; and a chord question
-abbrev pub seen : List ℕ → Seen → Walk Float
+abbrev pub seen : List ℕ → Seen → Walk Best
 seen m s = record { marks = m; count = s .count; value = s .best }
 
 abbrev pub judged : List ℕ → Verdict → Walk Bool

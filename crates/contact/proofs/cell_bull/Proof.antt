@@ -20,9 +20,6 @@ abbrev μ-loop : tie.MeasureT-loop
 loop-holds : tie.Need-loop-holds Inv-loop μ-loop
 loop-holds c = (going-starts, search needs, search needs)
 
-cast-look-bull : tie.Need-cast-look-bull Inv-loop μ-loop
-cast-look-bull c = omega (arith, c .shared-slice-known3 .given (c .before .before .before .loop .j))
-
 look-bull-requires : tie.Need-look-bull-requires Inv-loop μ-loop
 look-bull-requires c κs =
     let l = c .before .before .before .loop in
@@ -45,5 +42,5 @@ returns c = members-end (c .before .loop .j) (omega arith) (c .before .loop .inv
 pub cell-bull-spec : {M : Type 1} → statement M
 cell-bull-spec =
     tie.close
-    (tie.spec Inv-loop μ-loop loop-holds (λ c. search needs) (λ c. omega arith) cast-look-bull look-bull-requires (λ c. omega arith) (λ c. omega arith)
+    (tie.spec Inv-loop μ-loop loop-holds (λ c. search needs) (λ c. omega arith) look-bull-requires (λ c. omega arith) (λ c. omega arith)
     loop-again same-length returns)

@@ -20,9 +20,6 @@ abbrev μ-loop : tie.MeasureT-loop
 loop-holds : tie.Need-loop-holds Inv-loop μ-loop
 loop-holds c = (going-starts, search needs, search needs)
 
-cast-look-tool : tie.Need-cast-look-tool Inv-loop μ-loop
-cast-look-tool c = omega (arith, c .shared-slice-known4 .given (c .before .before .before .loop .j))
-
 look-tool-requires : tie.Need-look-tool-requires Inv-loop μ-loop
 look-tool-requires c κs =
     let l = c .before .before .before .loop in
@@ -45,5 +42,5 @@ returns c = members-end (c .before .loop .j) (omega arith) (c .before .loop .inv
 pub cell-tool-spec : {M : Type 1} → statement M
 cell-tool-spec =
     tie.close
-    (tie.spec Inv-loop μ-loop loop-holds (λ c. search needs) (λ c. omega arith) cast-look-tool look-tool-requires (λ c. omega arith) (λ c. omega arith)
+    (tie.spec Inv-loop μ-loop loop-holds (λ c. search needs) (λ c. omega arith) look-tool-requires (λ c. omega arith) (λ c. omega arith)
     loop-again same-length returns)

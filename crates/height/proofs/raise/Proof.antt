@@ -5,12 +5,12 @@ use Rattle.height.proofs.raise.Tie as tie
 
 returns : tie.Need-returns
 returns c =
-    raise-skips _ _ _ _ _ _ (c .before .before .triangle-at .ensures) (c .before .top .ensures) (c .if1 .taken)
+    raise-skips _ _ _ _ _ _ (c .before .before .before .triangle-at .ensures) (c .before .before .top .ensures) (c .if1 .taken)
 
 returns-2 : tie.Need-returns-2
 returns-2 c =
     let d = c .before .before in
-    raise-takes _ _ _ _ _ _ (d .before .before .triangle-at .ensures) (d .before .top .ensures) (d .if1 .left) _ _ (c .before .highest-in .ensures) (c .raise-by .ensures)
+    raise-takes _ _ _ _ _ _ (d .before .before .before .triangle-at .ensures) (d .before .before .top .ensures) (d .if1 .left) _ _ (c .before .highest-in .ensures) (c .raise-by .ensures)
 
 pub raise-spec : {M : Type 1} → statement M
 raise-spec =

@@ -84,4 +84,4 @@ visit-spec =
     (tie.spec Inv-loop2 μ-loop2 Inv-loop μ-loop loop-holds loop2-holds
     (λ c. record { fits = omega (arith, cell-fits c, c .before .before .before .before .before .before .before .before) })
     (λ c. record { fits = omega (arith, cell-fits c, c .before .before .before .before .before .before .before .before) })
-    stretch-requires visit-cell-requires (λ c. omega arith) (λ c. omega arith) loop2-again (λ c. omega arith) (λ c. omega arith) loop-again same-length returns)
+    stretch-requires visit-cell-requires (λ c. omega (arith, c .before .before .before .before .before .loop2-test .taken, c .before .before .before .before .before .before .before .before .before .before .before .before .before)) (λ c. omega arith) loop2-again (λ c. omega arith) (λ c. omega arith) loop-again same-length returns)

@@ -2,7 +2,7 @@
 use mathlib.Core.Path.{_≡_, ap, _∙_}
 use native.Mathlib.Omega.{arith}
 use borrow.Author.Needs.{needs}
-use lib.Ieee.{Float}
+use Rattle.walk.specs.declared.Best.{Best}
 use Rattle.walk.specs.Walk.{Walk}
 use Rattle.query.proofs.Patches.{patch-inside}
 use Rattle.probe.proofs.Asking.{swept-value, swept-marks, marked-is}
@@ -19,10 +19,10 @@ swept-height-requires c κs =
 
 returns : tie.Need-returns
 returns c =
-    let s = c .before .before .before .before .before .before .before .before in
-    let e = c .before .before .swept-height .ensures in (
-      ap (λ (w : Walk Float). w .value) (e .0) ∙ swept-value _ _ _ (s .pre .1) (s .args .r),
-      marked-is _ _ _ _ _ (e .1) (ap (λ (w : Walk Float). w .marks) (e .0)) (swept-marks _ _ _ (s .pre .1) (s .args .r)),
+    let s = c .before .before .before .before .before .before .before .before .before in
+    let e = c .before .before .before .swept-height .ensures in (
+      ap (λ (w : Walk Best). w .value .height) (e .0) ∙ swept-value _ _ _ (s .pre .1) (s .args .r),
+      marked-is _ _ _ _ _ (e .1) (ap (λ (w : Walk Best). w .marks) (e .0)) (swept-marks _ _ _ (s .pre .1) (s .args .r)),
     )
 
 pub ask-spec : {M : Type 1} → statement M

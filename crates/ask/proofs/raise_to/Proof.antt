@@ -1,0 +1,15 @@
+use Rattle.numbers.proofs.Branches.{flags}
+use Rattle.ask.specs.Ask.{raisedTo}
+use Rattle.ask.proofs.raise_to.Statement.{statement}
+use Rattle.ask.proofs.raise_to.Tie as tie
+
+returns : tie.Need-returns
+unfolding raisedTo
+returns c = search flags
+
+returns-2 : tie.Need-returns-2
+unfolding raisedTo
+returns-2 c = search flags
+
+pub raise-to-spec : {M : Type 1} → statement M
+raise-to-spec = tie.close (tie.spec (λ c κs. tt) returns returns-2)
