@@ -2,7 +2,7 @@
 use mathlib.Core.Bool.{Bool, true, false, cond}
 use mathlib.Core.List.{List}
 use mathlib.Core.Path.{_≡_, refl, ap, sym, _∙_}
-use Prim.Native.Nat.{ℕ, _+_, _*_, _^_, _≤_, _<_}
+use Prim.Native.Nat.{ℕ, _+_, _*_, _/_, _^_, _≤_, _<_}
 use native.Mathlib.Omega.{arith}
 use borrow.Author.Tests.{leb-true, eqb-true, eq-eqb, ne-eqb}
 use lib.Dec.{eqb, leb, lit<}
@@ -17,6 +17,7 @@ use Rattle.walk.specs.declared.Verdict.{Verdict}
 use Rattle.walk.proofs.Rings.{Kept, unmarked-length, look-keeps, fold-keeps}
 use Rattle.walk.proofs.Lists.{walk-is, chase-is}
 use Rattle.grid.specs.declared.Header.{Header}
+use Rattle.grid.specs.Boxes.{isBoxed}
 use Rattle.grid.specs.Index.{Index, SoundIndex}
 use Rattle.grid.proofs.Ladder.{demanded, demand-next}
 use Rattle.query.specs.declared.Patch.{Patch}
@@ -26,7 +27,7 @@ use Rattle.query.specs.Usable.{usable}
 use Rattle.query.proofs.Patches.{patch-inside}
 use Rattle.query.specs.Looked.{within}
 use Rattle.query.proofs.Using.{walkable, usable-head}
-use Rattle.query.proofs.Passing.{sound-marked, sound-usable}
+use Rattle.query.proofs.Passing.{sound-boxed, sound-marked, sound-usable}
 use Rattle.ask.specs.Ask.{atFloor, refusalOf, begun, Outcome, ended, refusedBy, answeredBy, answerOf, askedHeight, refusedChord, blockedEarly, ruledBy, rulingOf, askedChord}
 use Rattle.ask.specs.Demand.{GoodQuestion}
 use Rattle.ask.specs.declared.Answer.{Answer}
@@ -44,9 +45,14 @@ marked-is mesh marks e =
     let a = both-true (leb (length marks) 65536) (eqb (length mesh) (length marks * 9)) e in
     record { few = leb-true _ _ (a .0); nine = eqb-true _ _ (a .1) }
 
+pub boxed-is : (mesh boxes : List Float) (marks : List ℕ) → Marked mesh marks → isBoxed mesh boxes ≡ true → length boxes ≡ length marks * 5
+unfolding isBoxed
+boxed-is mesh boxes marks m e = omega (arith, m .nine, eqb-true (length boxes) (length mesh / 9 * 5) e)
+
 -- ---- a question that was not refused
 pub record Passed (ix : Index) (marks : List ℕ) (stamp : ℕ) (p : Patch) : Type 0 where
   pub marked : Marked (ix .mesh) marks
+  pub five : length (ix .boxes) ≡ length marks * 5
   pub index-stands : usable ix marks stamp p ≡ true
 
 module _ (numbers tool : Bool) (ix : Index) (marks : List ℕ) (stamp : ℕ) (p : Patch) where
@@ -54,18 +60,21 @@ module _ (numbers tool : Bool) (ix : Index) (marks : List ℕ) (stamp : ℕ) (p 
   unfolding refusalOf
   passed e =
       let a = demanded (isMarked (ix .mesh) marks) 1 _ (lit< tt) e in
-      let b = demanded numbers 2 _ (lit< tt) (a .1) in
+      let d = demanded (isBoxed (ix .mesh) (ix .boxes)) 23 _ (lit< tt) (a .1) in
+      let b = demanded numbers 2 _ (lit< tt) (d .1) in
       let c = demanded tool 8 _ (lit< tt) (b .1) in
-      record { marked = marked-is (ix .mesh) marks (a .0); index-stands = demanded (usable ix marks stamp p) 7 _ (lit< tt) (c .1) .0 }
+      let m = marked-is (ix .mesh) marks (a .0) in
+      record { marked = m; five = boxed-is (ix .mesh) (ix .boxes) marks m (d .0); index-stands = demanded (usable ix marks stamp p) 7 _ (lit< tt) (c .1) .0 }
 
   -- a good question over a sound index is not
   pub good-passes : SoundIndex ix → GoodQuestion numbers tool ix marks stamp → p .x1 ≤ ix .header .columns → p .y1 ≤ ix .header .rows → refusalOf numbers tool ix marks stamp p ≡ 0
   unfolding refusalOf
   good-passes d g right top =
       sym (demand-next _ _ _ _ (sound-marked ix d marks stamp (g .marked) (g .low))
+      (demand-next _ _ _ _ (sound-boxed ix d)
       (demand-next _ _ _ _ (g .numbersInRange)
       (demand-next _ _ _ _ (g .toolInRange)
-      (demand-next _ _ _ _ (sound-usable ix d marks stamp (g .marked) (g .low) p right top) refl))))
+      (demand-next _ _ _ _ (sound-usable ix d marks stamp (g .marked) (g .low) p right top) refl)))))
 
 ready-length : (marks : List ℕ) (stamp : ℕ) → length (readyMarks marks stamp) ≡ length marks
 unfolding readyMarks
@@ -79,14 +88,14 @@ inside h px py qx qy reach p e = rw e (patch-inside h px py qx qy reach)
 -- n is the refusal that the code found
 module _ (numbers tool : Bool) (ix : Index) (marks : List ℕ) (stamp : ℕ) (p : Patch) (n : ℕ) (e : n ≡ refusalOf numbers tool ix marks stamp p) where
   -- where the walk of an accepted question begins, with the marks m
-  pub ready : {A : Type 0} (next : ℕ) (m : List ℕ) (v : A) → n ≡ 0 → m ≡ readyMarks marks stamp → (p .x1 ≤ ix .header .columns) × (p .y1 ≤ ix .header .rows) → (length (ix .mesh) ≡ length m * 9) × Walkable (ix .starts) (ix .members) (length m) (ix .header .columns) (p .x0) (p .x1) (p .y0) (p .y1) × Room next (record { marks = m; count = 0; value = v })
+  pub ready : {A : Type 0} (next : ℕ) (m : List ℕ) (v : A) → n ≡ 0 → m ≡ readyMarks marks stamp → (p .x1 ≤ ix .header .columns) × (p .y1 ≤ ix .header .rows) → (length (ix .mesh) ≡ length m * 9) × Walkable (ix .starts) (ix .members) (length m) (ix .header .columns) (p .x0) (p .x1) (p .y0) (p .y1) × Room next (record { marks = m; count = 0; value = v }) × (length (ix .boxes) ≡ length m * 5)
   ready next m v z f i =
       let a = passed _ _ _ _ _ _ (sym e ∙ z) in
       let k = a .marked in
       let l : length m ≡ length marks = ap length f ∙ ready-length marks stamp in
       let d : length (ix .mesh) ≡ ix .header .n * 9 = usable-head ix marks stamp p (a .index-stands) .nine in
       let s : length m ≡ ix .header .n = omega (arith, k .nine) in
-      (omega (arith, k .nine), rw s (walkable ix marks stamp p (a .index-stands) (i .0) (i .1)), omega (arith, unmarked-length next m, k .few))
+      (omega (arith, k .nine), rw s (walkable ix marks stamp p (a .index-stands) (i .0) (i .1)), omega (arith, unmarked-length next m, k .few), omega (arith, a .five))
 
   -- ---- a height question
   module _ (step : Best → ℕ → Best) where

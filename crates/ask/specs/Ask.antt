@@ -11,6 +11,7 @@ use Rattle.plane.specs.declared.Contact.the-variants.{Nothing, Height}
 use Rattle.plane.specs.Contacts.{exceedsOf}
 use Rattle.walk.specs.declared.Best.{Best}
 use Rattle.walk.specs.Walk.{Walk, nextStamp, readyMarks, walked, chased}
+use Rattle.grid.specs.Boxes.{isBoxed}
 use Rattle.grid.specs.Index.{Index}
 use Rattle.grid.specs.Ladder.{demand}
 use Rattle.query.specs.declared.Patch.{Patch}
@@ -26,15 +27,16 @@ use Rattle.ask.specs.declared.Ruling.{Ruling}
 unfoldable pub isCorner : Float → Float → Bool
 isCorner r rc = le f0 rc && le rc r
 
--- 1, 2, 8 and 7 in this order, each where its test does not hold; 0 where the question with the cells p is accepted. `numbers` and `tool` say whether its numbers
+-- 1, 23, 2, 8 and 7 in this order, each where its test does not hold; 0 where the question with the cells p is accepted. `numbers` and `tool` say whether its numbers
 -- and its tool are in their ranges.
 unfoldable pub refusalOf : Bool → Bool → Index → List ℕ → ℕ → Patch → ℕ
 refusalOf numbers tool ix marks stamp p =
     demand (isMarked (ix .mesh) marks) 1
+    (demand (isBoxed (ix .mesh) (ix .boxes)) 23
     (demand numbers 2
     (demand tool 8
     (demand (usable ix marks stamp p) 7
-    0)))
+    0))))
 
 -- The floor, which no triangle has raised.
 abbrev pub atFloor : Float → Best

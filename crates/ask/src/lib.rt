@@ -43,6 +43,7 @@ pub fn refusal(
     h: Header,
     starts: &[u32],
     members: &[u32],
+    boxes: &[f64],
     marks: &[u32],
     stamp: u32,
     p: Patch,
@@ -51,12 +52,15 @@ pub fn refusal(
 ) -> u32
     requires { ⌜ (p .x1 ≤ h .columns) × (p .y1 ≤ h .rows) ⌝ }
     ensures { λ k. ⌜ k
-        ≡ refusalOf numbers tool (indexOf (now (mesh .entry)) h (now (starts .entry)) (now (members .entry))) (now (marks .entry)) stamp p ⌝ }
-    ensures { λ k. ⌜ GoodAccepted numbers tool (indexOf (now (mesh .entry)) h (now (starts .entry)) (now (members .entry)))
+        ≡ refusalOf numbers tool (indexOf (now (mesh .entry)) h (now (starts .entry)) (now (members .entry)) (now (boxes .entry))) (now (marks .entry)) stamp p ⌝ }
+    ensures { λ k. ⌜ GoodAccepted numbers tool (indexOf (now (mesh .entry)) h (now (starts .entry)) (now (members .entry)) (now (boxes .entry)))
         (now (marks .entry)) stamp k ⌝ }
 {
     if !query::is_marked(mesh, marks) {
         return 1;
+    }
+    if !grid::is_boxed(mesh, boxes) {
+        return 23;
     }
     if !numbers {
         return 2;
@@ -64,7 +68,7 @@ pub fn refusal(
     if !tool {
         return 8;
     }
-    if query::usable(mesh, h, starts, members, marks, stamp, p) {
+    if query::usable(mesh, h, starts, members, boxes, marks, stamp, p) {
         return 0;
     }
     7

@@ -4,7 +4,6 @@ use mathlib.Core.Bool.{Bool, false, cond}
 use lib.Ieee.{Float, lt, le}
 use Rattle.numbers.specs.Reals.{_⊕_, f0, minOf}
 use Rattle.plane.specs.declared.Triangle.{Triangle}
-use Rattle.plane.specs.Mesh.{topOf}
 use Rattle.golden.specs.Search.{goldenMax}
 use Rattle.touch.specs.declared.Stretch.{Stretch}
 use Rattle.touch.specs.declared.Stretch.the-variants.{Nowhere, Between}
@@ -23,7 +22,8 @@ unfoldable pub bullSearched : Triangle → Chord → Float → Float → Stretch
 bullSearched t m r rc Nowhere = false
 bullSearched t m r rc (Between s0 s1) = lt f0 (goldenMax (bullGap t m r rc) s0 s1 40)
 
--- Whether a triangle blocks the chord. Contacts never exceed the triangle's top, so one whose top, lifted, is not above the lower tip does not.
-unfoldable pub bullBlocks : Triangle → Chord → Float → Float → Bool
-bullBlocks t m r rc =
-    cond (le (topOf t ⊕ m .lift) (minOf (m .az) (m .bz))) false (bullSearched t m r rc (stretchOf t m r 50))
+-- Whether a triangle with the top `top` blocks the chord. Contacts never exceed the triangle's top, so one whose top, lifted, is not above the lower tip does
+-- not.
+unfoldable pub bullBlocks : Triangle → Float → Chord → Float → Float → Bool
+bullBlocks t top m r rc =
+    cond (le (top ⊕ m .lift) (minOf (m .az) (m .bz))) false (bullSearched t m r rc (stretchOf t m r 50))

@@ -10,13 +10,13 @@ use plane::Triangle;
 use reach::Chord;
 use touch::Stretch;
 
-// Whether a triangle blocks the cutter of the radius r and the corner radius rc on the chord.
-pub fn bull_blocks(t: Triangle, m: Chord, r: f64, rc: f64) -> bool
-    ensures { λ b. ⌜ b ≡ bullBlocks t m r rc ⌝ }
+// Whether a triangle with this top blocks the cutter of the radius r and the corner radius rc on the chord.
+pub fn bull_blocks(t: Triangle, top: f64, m: Chord, r: f64, rc: f64) -> bool
+    ensures { λ b. ⌜ b ≡ bullBlocks t top m r rc ⌝ }
 {
     let lift = m.lift;
     let low = numbers::min(m.az, m.bz);
-    if plane::top(t) + lift <= low {
+    if top + lift <= low {
         return false;
     }
     searched(t, m, r, rc, reach::stretch_of(t, m, r, 50))

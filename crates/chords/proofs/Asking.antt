@@ -30,11 +30,11 @@ module _ (ix : Index) (marks : List ℕ) (stamp : ℕ) (c : Ruling) (o : List �
 
   -- the answer, and what is promised beside it
   module _ (p : Patch) (a b : Bool) where
-    pub bull-answers : (r rc : Float) → p ≡ patchOf (ix .header) (m .ax) (m .ay) (m .bx) (m .by) r → a ≡ isRide m r → b ≡ isCorner r rc → ended c o ≡ askedChord a b (blockedAtOnce (ix .header .floor) m) (bullBlocksAt (ix .mesh) m r rc) ix marks stamp p → (ended c o ≡ bullChordOf ix marks stamp m r rc) × BullChordPromise ix marks stamp m r rc c
+    pub bull-answers : (r rc : Float) → p ≡ patchOf (ix .header) (m .ax) (m .ay) (m .bx) (m .by) r → a ≡ isRide m r → b ≡ isCorner r rc → ended c o ≡ askedChord a b (blockedAtOnce (ix .header .floor) m) (bullBlocksAt (ix .mesh) (ix .boxes) m r rc) ix marks stamp p → (ended c o ≡ bullChordOf ix marks stamp m r rc) × BullChordPromise ix marks stamp m r rc c
     unfolding bullChordOf
     bull-answers r rc = chord-told _ _ ix marks stamp (m .ax) (m .ay) (m .bx) (m .by) r o _ _ c p a b
 
-    pub tool-answers : (reach low : Float) (table : List Float) → reach ≡ widestOf table (sectionsIn table) → low ≡ lowestOf table (sectionsIn table) → p ≡ patchOf (ix .header) (m .ax) (m .ay) (m .bx) (m .by) reach → a ≡ isChord m → b ≡ isTool table → ended c o ≡ askedChord a b (blockedAtOnce (ix .header .floor) m) (toolBlocksAt (ix .mesh) m low table) ix marks stamp p → (ended c o ≡ sectionsChordOf ix marks stamp m table) × SectionsChordPromise ix marks stamp m table c
+    pub tool-answers : (reach low : Float) (table : List Float) → reach ≡ widestOf table (sectionsIn table) → low ≡ lowestOf table (sectionsIn table) → p ≡ patchOf (ix .header) (m .ax) (m .ay) (m .bx) (m .by) reach → a ≡ isChord m → b ≡ isTool table → ended c o ≡ askedChord a b (blockedAtOnce (ix .header .floor) m) (toolBlocksAt (ix .mesh) (ix .boxes) m low table) ix marks stamp p → (ended c o ≡ sectionsChordOf ix marks stamp m table) × SectionsChordPromise ix marks stamp m table c
     unfolding sectionsChordOf
     tool-answers reach low table r l e f g i =
         chord-told _ _ ix marks stamp (m .ax) (m .ay) (m .bx) (m .by) _ o _ _ c p a b (e ∙ ap (patchOf (ix .header) (m .ax) (m .ay) (m .bx) (m .by)) r) f g (rw l at i)

@@ -5,8 +5,10 @@ use Prim.Native.Nat.{ℕ}
 use lib.Ieee.{Float, lt, le}
 use Rattle.numbers.specs.Reals.{_⊕_, _⊖_, minOf}
 use Rattle.plane.specs.declared.Triangle.{Triangle}
-use Rattle.plane.specs.Mesh.{triangleOf, topOf}
+use Rattle.plane.specs.declared.Bounds.{Bounds}
+use Rattle.plane.specs.Mesh.{triangleOf}
 use Rattle.spans.specs.Mesh.{isCoordinate, isRadius}
+use Rattle.grid.specs.Boxes.{boxAt}
 use Rattle.grid.specs.Index.{Index}
 use Rattle.query.specs.Asked.{isPoint}
 use Rattle.query.specs.Patch.{patchOf}
@@ -32,45 +34,46 @@ blockedAtOnce floor m = lt (minOf (m .az) (m .bz)) (floor ⊕ m .lift)
 
 -- ---- a bull-nose cutter
 
--- Triangle i blocks it.
-unfoldable pub bullBlocksAt : List Float → Chord → Float → Float → ℕ → Bool
-bullBlocksAt mesh m r rc i = bullBlocks (triangleOf mesh i) m r rc
+-- Triangle i, with its top as the box table has it, blocks it.
+unfoldable pub bullBlocksAt : List Float → List Float → Chord → Float → Float → ℕ → Bool
+bullBlocksAt mesh boxes m r rc i = bullBlocks (triangleOf mesh i) (boxAt boxes i .top) m r rc
 
 -- 2: the chord, and the radius in its range.
 unfoldable pub isRide : Chord → Float → Bool
 isRide m r = isChord m && isRadius r
 
--- bull_chord_clear: 1, 2, 8 (the corner radius) and 7; reach is the radius.
+-- bull_chord_clear: 1, 23, 2, 8 (the corner radius) and 7; reach is the radius.
 unfoldable pub bullChordOf : Index → List ℕ → ℕ → Chord → Float → Float → Outcome Ruling
 bullChordOf ix marks stamp m r rc =
-    askedChord (isRide m r) (isCorner r rc) (blockedAtOnce (ix .header .floor) m) (bullBlocksAt (ix .mesh) m r rc)
+    askedChord (isRide m r) (isCorner r rc) (blockedAtOnce (ix .header .floor) m) (bullBlocksAt (ix .mesh) (ix .boxes) m r rc)
     ix marks stamp (patchOf (ix .header) (m .ax) (m .ay) (m .bx) (m .by) r)
 
 -- What `bull_chord_clear` promises of its verdict over the index built from its mesh.
 abbrev pub BullChordPromise : Index → List ℕ → ℕ → Chord → Float → Float → Ruling → Type 0
 BullChordPromise ix marks stamp m r rc a =
-    ChordPromise (isRide m r) (isCorner r rc) (blockedAtOnce (ix .header .floor) m) (bullBlocksAt (ix .mesh) m r rc)
+    ChordPromise (isRide m r) (isCorner r rc) (blockedAtOnce (ix .header .floor) m) (bullBlocksAt (ix .mesh) (ix .boxes) m r rc)
     ix marks stamp (patchOf (ix .header) (m .ax) (m .ay) (m .bx) (m .by) r) a
 
 -- ---- a tool of sections, with the lowest z0 of them
 
--- A triangle blocks it: a contact is at most the triangle's top less the lowest z0, so one that, lifted, is not above the lower tip does not.
-unfoldable pub toolBlocks : Triangle → Chord → Float → List Float → Bool
-toolBlocks t m low table =
-    cond (le (topOf t ⊖ low ⊕ m .lift) (minOf (m .az) (m .bz))) false (not (passesAll t m table))
+-- A triangle with the box b blocks it: a contact is at most the triangle's top less the lowest z0, so one that, lifted, is not above the lower tip does not.
+unfoldable pub toolBlocks : Triangle → Bounds → Chord → Float → List Float → Bool
+toolBlocks t b m low table =
+    cond (le (b .top ⊖ low ⊕ m .lift) (minOf (m .az) (m .bz))) false (not (passesAll t b m table))
 
-unfoldable pub toolBlocksAt : List Float → Chord → Float → List Float → ℕ → Bool
-toolBlocksAt mesh m low table i = toolBlocks (triangleOf mesh i) m low table
+-- Triangle i, with its box as the box table has it, blocks it.
+unfoldable pub toolBlocksAt : List Float → List Float → Chord → Float → List Float → ℕ → Bool
+toolBlocksAt mesh boxes m low table i = toolBlocks (triangleOf mesh i) (boxAt boxes i) m low table
 
--- sections_chord_clear: 1, 2, 8 (the sections) and 7; reach is the largest r1.
+-- sections_chord_clear: 1, 23, 2, 8 (the sections) and 7; reach is the largest r1.
 unfoldable pub sectionsChordOf : Index → List ℕ → ℕ → Chord → List Float → Outcome Ruling
 sectionsChordOf ix marks stamp m table =
-    askedChord (isChord m) (isTool table) (blockedAtOnce (ix .header .floor) m) (toolBlocksAt (ix .mesh) m (lowestOf table (sectionsIn table)) table)
+    askedChord (isChord m) (isTool table) (blockedAtOnce (ix .header .floor) m) (toolBlocksAt (ix .mesh) (ix .boxes) m (lowestOf table (sectionsIn table)) table)
     ix marks stamp (patchOf (ix .header) (m .ax) (m .ay) (m .bx) (m .by) (widestOf table (sectionsIn table)))
 
 -- What `sections_chord_clear` promises of its verdict over the index built from its mesh.
 abbrev pub SectionsChordPromise : Index → List ℕ → ℕ → Chord → List Float → Ruling → Type 0
 SectionsChordPromise ix marks stamp m table a =
     ChordPromise (isChord m) (isTool table) (blockedAtOnce (ix .header .floor) m)
-    (toolBlocksAt (ix .mesh) m (lowestOf table (sectionsIn table)) table)
+    (toolBlocksAt (ix .mesh) (ix .boxes) m (lowestOf table (sectionsIn table)) table)
     ix marks stamp (patchOf (ix .header) (m .ax) (m .ay) (m .bx) (m .by) (widestOf table (sectionsIn table))) a

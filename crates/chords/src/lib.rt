@@ -12,6 +12,7 @@ ghost use Rattle.chords.specs.Chords.{toolBlocks, toolBlocksAt, sections
 use ask::Finding;
 use ask::Ruling;
 use grid::Header;
+use plane::Bounds;
 use plane::Triangle;
 use query::Patch;
 use reach::Chord;
@@ -23,6 +24,7 @@ pub fn bull_chord_clear(
     h: Header,
     starts: &[u32],
     members: &[u32],
+    boxes: &[f64],
     marks: &mut [u32],
     stamp: u32,
     m: Chord,
@@ -30,8 +32,8 @@ pub fn bull_chord_clear(
     rc: f64,
 ) -> Ruling
     ensures { λ a. ⌜ ended a (now (marks .exit))
-        ≡ bullChordOf (indexOf (now (mesh .entry)) h (now (starts .entry)) (now (members .entry))) (now (marks .entry)) stamp m r rc ⌝ }
-    ensures { λ a. ⌜ BullChordPromise (indexOf (now (mesh .entry)) h (now (starts .entry)) (now (members .entry)))
+        ≡ bullChordOf (indexOf (now (mesh .entry)) h (now (starts .entry)) (now (members .entry)) (now (boxes .entry))) (now (marks .entry)) stamp m r rc ⌝ }
+    ensures { λ a. ⌜ BullChordPromise (indexOf (now (mesh .entry)) h (now (starts .entry)) (now (members .entry)) (now (boxes .entry)))
         (now (marks .entry)) stamp m r rc a ⌝ }
 {
     let columns = h.columns;
@@ -39,7 +41,7 @@ pub fn bull_chord_clear(
     let p = query::patch_of(h, m.ax, m.ay, m.bx, m.by, r);
     let asked = is_ride(m, r);
     let corner = ask::is_corner(r, rc);
-    let n = ask::refusal(mesh, h, starts, members, marks, stamp, p, asked, corner);
+    let n = ask::refusal(mesh, h, starts, members, boxes, marks, stamp, p, asked, corner);
     if n != 0 {
         return refused(n, stamp);
     }
@@ -47,7 +49,7 @@ pub fn bull_chord_clear(
         return blocked(stamp);
     }
     let next = walk::next_stamp(marks, stamp);
-    let v = chase_bull(mesh, starts, members, marks, next, columns, p, m, r, rc);
+    let v = chase_bull(mesh, starts, members, boxes, marks, next, columns, p, m, r, rc);
     Ruling {
         refusal: 0,
         finding: finding_of(v.clear),
@@ -62,15 +64,16 @@ pub fn sections_chord_clear(
     h: Header,
     starts: &[u32],
     members: &[u32],
+    boxes: &[f64],
     marks: &mut [u32],
     stamp: u32,
     m: Chord,
     table: &[f64],
 ) -> Ruling
     ensures { λ a. ⌜ ended a (now (marks .exit))
-        ≡ sectionsChordOf (indexOf (now (mesh .entry)) h (now (starts .entry)) (now (members .entry)))
+        ≡ sectionsChordOf (indexOf (now (mesh .entry)) h (now (starts .entry)) (now (members .entry)) (now (boxes .entry)))
         (now (marks .entry)) stamp m (now (table .entry)) ⌝ }
-    ensures { λ a. ⌜ SectionsChordPromise (indexOf (now (mesh .entry)) h (now (starts .entry)) (now (members .entry)))
+    ensures { λ a. ⌜ SectionsChordPromise (indexOf (now (mesh .entry)) h (now (starts .entry)) (now (members .entry)) (now (boxes .entry)))
         (now (marks .entry)) stamp m (now (table .entry)) a ⌝ }
 {
     let columns = h.columns;
@@ -80,7 +83,7 @@ pub fn sections_chord_clear(
     let p = query::patch_of(h, m.ax, m.ay, m.bx, m.by, reach);
     let asked = is_chord(m);
     let valid = tool::is_tool(table);
-    let n = ask::refusal(mesh, h, starts, members, marks, stamp, p, asked, valid);
+    let n = ask::refusal(mesh, h, starts, members, boxes, marks, stamp, p, asked, valid);
     if n != 0 {
         return refused(n, stamp);
     }
@@ -92,6 +95,7 @@ pub fn sections_chord_clear(
         mesh,
         starts,
         members,
+        boxes,
         marks,
         next,
         columns,
@@ -197,36 +201,46 @@ fn blocked_at_once(floor: f64, m: Chord) -> bool
 }
 
 // Whether triangle i blocks the cutter.
-fn bull_blocks_at(mesh: &[f64], m: Chord, r: f64, rc: f64, i: usize) -> bool
-    requires { ⌜ 9 * i + 9 ≤ length (now mesh) ⌝ }
-    ensures { λ b. ⌜ b ≡ bullBlocksAt (now (mesh .entry)) m r rc i ⌝ }
+fn bull_blocks_at(mesh: &[f64], boxes: &[f64], m: Chord, r: f64, rc: f64, i: usize) -> bool
+    requires { ⌜ (9 * i + 9 ≤ length (now mesh)) × (5 * i + 5 ≤ length (now boxes)) ⌝ }
+    ensures { λ b. ⌜ b ≡ bullBlocksAt (now (mesh .entry)) (now (boxes .entry)) m r rc i ⌝ }
 {
-    bull_gap::bull_blocks(plane::triangle_at(mesh, i), m, r, rc)
+    let b = grid::box_at(boxes, i);
+    bull_gap::bull_blocks(plane::triangle_at(mesh, i), b.top, m, r, rc)
 }
 
-// Whether a triangle blocks the tool.
-fn tool_blocks(t: Triangle, m: Chord, low: f64, table: &[f64]) -> bool
-    ensures { λ b. ⌜ b ≡ toolBlocks t m low (now (table .entry)) ⌝ }
+// Whether a triangle with the box b blocks the tool.
+fn tool_blocks(t: Triangle, b: Bounds, m: Chord, low: f64, table: &[f64]) -> bool
+    ensures { λ a. ⌜ a ≡ toolBlocks t b m low (now (table .entry)) ⌝ }
 {
     let lift = m.lift;
     let tip = numbers::min(m.az, m.bz);
-    if plane::top(t) - low + lift <= tip {
+    if b.top - low + lift <= tip {
         return false;
     }
-    !tool::passes_all(t, m, table)
+    !tool::passes_all(t, b, m, table)
 }
 
 // Whether triangle i blocks the tool.
-fn tool_blocks_at(mesh: &[f64], m: Chord, low: f64, table: &[f64], i: usize) -> bool
-    requires { ⌜ 9 * i + 9 ≤ length (now mesh) ⌝ }
-    ensures { λ b. ⌜ b ≡ toolBlocksAt (now (mesh .entry)) m low (now (table .entry)) i ⌝ }
+fn tool_blocks_at(
+    mesh: &[f64],
+    boxes: &[f64],
+    m: Chord,
+    low: f64,
+    table: &[f64],
+    i: usize,
+) -> bool
+    requires { ⌜ (9 * i + 9 ≤ length (now mesh)) × (5 * i + 5 ≤ length (now boxes)) ⌝ }
+    ensures { λ b. ⌜ b ≡ toolBlocksAt (now (mesh .entry)) (now (boxes .entry)) m low (now (table .entry)) i ⌝ }
 {
-    tool_blocks(plane::triangle_at(mesh, i), m, low, table)
+    let b = grid::box_at(boxes, i);
+    tool_blocks(plane::triangle_at(mesh, i), b, m, low, table)
 }
 
 // Looks at triangle i, unless its mark is the stamp: does it block?
 fn strike_bull(
     mesh: &[f64],
+    boxes: &[f64],
     marks: &mut [u32],
     stamp: u32,
     m: Chord,
@@ -235,8 +249,9 @@ fn strike_bull(
     v: Verdict,
     i: usize,
 ) -> Verdict
-    requires { ⌜ (length (now mesh) ≡ length (now marks) * 9) × (i < length (now marks)) × Room stamp (judged (now marks) v) × (v .clear ≡ true) ⌝ }
-    ensures { λ w. ⌜ judged (now (marks .exit)) w ≡ strike stamp (bullBlocksAt (now (mesh .entry)) m r rc) (judged (now (marks .entry)) v) i ⌝ }
+    requires { ⌜ (length (now mesh) ≡ length (now marks) * 9) × (i < length (now marks)) × Room stamp (judged (now marks) v) × (v .clear ≡ true)
+        × (length (now boxes) ≡ length (now marks) * 5) ⌝ }
+    ensures { λ w. ⌜ judged (now (marks .exit)) w ≡ strike stamp (bullBlocksAt (now (mesh .entry)) (now (boxes .entry)) m r rc) (judged (now (marks .entry)) v) i ⌝ }
 {
     let count = v.count;
     if !walk::fresh(marks, stamp, i) {
@@ -244,7 +259,7 @@ fn strike_bull(
     }
     Verdict {
         count: count + 1, // a blocker too
-        clear: !bull_blocks_at(mesh, m, r, rc, i),
+        clear: !bull_blocks_at(mesh, boxes, m, r, rc, i),
     }
 }
 
@@ -253,6 +268,7 @@ fn chase_bull(
     mesh: &[f64],
     starts: &[u32],
     members: &[u32],
+    boxes: &[f64],
     marks: &mut [u32],
     stamp: u32,
     columns: usize,
@@ -263,8 +279,8 @@ fn chase_bull(
 ) -> Verdict
     requires { ⌜ (length (now mesh) ≡ length (now marks) * 9)
         × Walkable (now starts) (now members) (length (now marks)) columns (p .x0) (p .x1) (p .y0) (p .y1)
-        × Room stamp (judged (now marks) (record { count = 0; clear = true })) ⌝ }
-    ensures { λ w. ⌜ judged (now (marks .exit)) w ≡ fold (strike stamp (bullBlocksAt (now (mesh .entry)) m r rc))
+        × Room stamp (judged (now marks) (record { count = 0; clear = true })) × (length (now boxes) ≡ length (now marks) * 5) ⌝ }
+    ensures { λ w. ⌜ judged (now (marks .exit)) w ≡ fold (strike stamp (bullBlocksAt (now (mesh .entry)) (now (boxes .entry)) m r rc))
         (judged (now (marks .entry)) (record { count = 0; clear = true }))
         (block (now (starts .entry)) (now (members .entry)) columns (p .x0) (p .x1) (p .y0) (p .y1)) ⌝ }
 {
@@ -280,7 +296,7 @@ fn chase_bull(
         for x in x0..x1 {
             let part = walk::stretch(starts, members, y * columns + x);
             for j in 0..part.len() {
-                v = strike_bull(mesh, marks, stamp, m, r, rc, v, part[j] as usize);
+                v = strike_bull(mesh, boxes, marks, stamp, m, r, rc, v, part[j] as usize);
                 if !v.clear {
                     break 'rows; // out of all three rings
                 }
@@ -293,6 +309,7 @@ fn chase_bull(
 // Looks at triangle i, unless its mark is the stamp: does it block?
 fn strike_tool(
     mesh: &[f64],
+    boxes: &[f64],
     marks: &mut [u32],
     stamp: u32,
     m: Chord,
@@ -301,8 +318,9 @@ fn strike_tool(
     v: Verdict,
     i: usize,
 ) -> Verdict
-    requires { ⌜ (length (now mesh) ≡ length (now marks) * 9) × (i < length (now marks)) × Room stamp (judged (now marks) v) × (v .clear ≡ true) ⌝ }
-    ensures { λ w. ⌜ judged (now (marks .exit)) w ≡ strike stamp (toolBlocksAt (now (mesh .entry)) m low (now (table .entry)))
+    requires { ⌜ (length (now mesh) ≡ length (now marks) * 9) × (i < length (now marks)) × Room stamp (judged (now marks) v) × (v .clear ≡ true)
+        × (length (now boxes) ≡ length (now marks) * 5) ⌝ }
+    ensures { λ w. ⌜ judged (now (marks .exit)) w ≡ strike stamp (toolBlocksAt (now (mesh .entry)) (now (boxes .entry)) m low (now (table .entry)))
         (judged (now (marks .entry)) v) i ⌝ }
 {
     let count = v.count;
@@ -311,7 +329,7 @@ fn strike_tool(
     }
     Verdict {
         count: count + 1,
-        clear: !tool_blocks_at(mesh, m, low, table, i),
+        clear: !tool_blocks_at(mesh, boxes, m, low, table, i),
     }
 }
 
@@ -320,6 +338,7 @@ fn chase_tool(
     mesh: &[f64],
     starts: &[u32],
     members: &[u32],
+    boxes: &[f64],
     marks: &mut [u32],
     stamp: u32,
     columns: usize,
@@ -330,8 +349,8 @@ fn chase_tool(
 ) -> Verdict
     requires { ⌜ (length (now mesh) ≡ length (now marks) * 9)
         × Walkable (now starts) (now members) (length (now marks)) columns (p .x0) (p .x1) (p .y0) (p .y1)
-        × Room stamp (judged (now marks) (record { count = 0; clear = true })) ⌝ }
-    ensures { λ w. ⌜ judged (now (marks .exit)) w ≡ fold (strike stamp (toolBlocksAt (now (mesh .entry)) m low (now (table .entry))))
+        × Room stamp (judged (now marks) (record { count = 0; clear = true })) × (length (now boxes) ≡ length (now marks) * 5) ⌝ }
+    ensures { λ w. ⌜ judged (now (marks .exit)) w ≡ fold (strike stamp (toolBlocksAt (now (mesh .entry)) (now (boxes .entry)) m low (now (table .entry))))
         (judged (now (marks .entry)) (record { count = 0; clear = true }))
         (block (now (starts .entry)) (now (members .entry)) columns (p .x0) (p .x1) (p .y0) (p .y1)) ⌝ }
 {
@@ -347,7 +366,7 @@ fn chase_tool(
         for x in x0..x1 {
             let part = walk::stretch(starts, members, y * columns + x);
             for j in 0..part.len() {
-                v = strike_tool(mesh, marks, stamp, m, low, table, v, part[j] as usize);
+                v = strike_tool(mesh, boxes, marks, stamp, m, low, table, v, part[j] as usize);
                 if !v.clear {
                     break 'rows;
                 }

@@ -29,6 +29,7 @@ pub fn max_bull(
     h: Header,
     starts: &[u32],
     members: &[u32],
+    boxes: &[f64],
     marks: &mut [u32],
     stamp: u32,
     px: f64,
@@ -37,9 +38,9 @@ pub fn max_bull(
     rc: f64,
 ) -> Answer
     ensures { λ a. ⌜ ended a (now (marks .exit))
-        ≡ maxBullOf (indexOf (now (mesh .entry)) h (now (starts .entry)) (now (members .entry)))
+        ≡ maxBullOf (indexOf (now (mesh .entry)) h (now (starts .entry)) (now (members .entry)) (now (boxes .entry)))
         (now (marks .entry)) stamp (record { x = px; y = py; r = r; rc = rc }) ⌝ }
-    ensures { λ a. ⌜ BullPromise (indexOf (now (mesh .entry)) h (now (starts .entry)) (now (members .entry)))
+    ensures { λ a. ⌜ BullPromise (indexOf (now (mesh .entry)) h (now (starts .entry)) (now (members .entry)) (now (boxes .entry)))
         (now (marks .entry)) stamp (record { x = px; y = py; r = r; rc = rc }) a ⌝ }
 {
     let k = Bull {
@@ -61,7 +62,7 @@ pub fn max_bull(
     let p = query::patch_of(h, px, py, px, py, r);
     let stands = is_stand(px, py, r);
     let corner = ask::is_corner(r, rc);
-    let n = ask::refusal(mesh, h, starts, members, marks, stamp, p, stands, corner);
+    let n = ask::refusal(mesh, h, starts, members, boxes, marks, stamp, p, stands, corner);
     if n != 0 {
         return Answer {
             refusal: n,
@@ -74,7 +75,7 @@ pub fn max_bull(
         };
     }
     let next = walk::next_stamp(marks, stamp);
-    let s = visit_bull(mesh, starts, members, marks, next, columns, p, k, first);
+    let s = visit_bull(mesh, starts, members, boxes, marks, next, columns, p, k, first);
     let best = s.best;
     Answer {
         refusal: 0,
@@ -93,6 +94,7 @@ pub fn max_sections(
     h: Header,
     starts: &[u32],
     members: &[u32],
+    boxes: &[f64],
     marks: &mut [u32],
     stamp: u32,
     px: f64,
@@ -100,9 +102,9 @@ pub fn max_sections(
     table: &[f64],
 ) -> Answer
     ensures { λ a. ⌜ ended a (now (marks .exit))
-        ≡ maxSectionsOf (indexOf (now (mesh .entry)) h (now (starts .entry)) (now (members .entry)))
+        ≡ maxSectionsOf (indexOf (now (mesh .entry)) h (now (starts .entry)) (now (members .entry)) (now (boxes .entry)))
         (now (marks .entry)) stamp px py (now (table .entry)) ⌝ }
-    ensures { λ a. ⌜ SectionsPromise (indexOf (now (mesh .entry)) h (now (starts .entry)) (now (members .entry)))
+    ensures { λ a. ⌜ SectionsPromise (indexOf (now (mesh .entry)) h (now (starts .entry)) (now (members .entry)) (now (boxes .entry)))
         (now (marks .entry)) stamp px py (now (table .entry)) a ⌝ }
 {
     let columns = h.columns;
@@ -120,7 +122,7 @@ pub fn max_sections(
     let p = query::patch_of(h, px, py, px, py, reach);
     let stands = is_place(px, py);
     let valid = tool::is_tool(table);
-    let n = ask::refusal(mesh, h, starts, members, marks, stamp, p, stands, valid);
+    let n = ask::refusal(mesh, h, starts, members, boxes, marks, stamp, p, stands, valid);
     if n != 0 {
         return Answer {
             refusal: n,
@@ -138,6 +140,7 @@ pub fn max_sections(
         mesh,
         starts,
         members,
+        boxes,
         marks,
         next,
         columns,
@@ -184,28 +187,38 @@ fn is_place(x: f64, y: f64) -> bool
     }
 }
 
-// The best so far with triangle i.
-fn raise_bull_on(t: Triangle, i: u32, k: Bull, best: Best) -> Best
-    ensures { λ r. ⌜ r ≡ bullRaised t i k best ⌝ }
+// The best so far with triangle i, whose top is given.
+fn raise_bull_on(t: Triangle, top: f64, i: u32, k: Bull, best: Best) -> Best
+    ensures { λ r. ⌜ r ≡ bullRaised t top i k best ⌝ }
 {
-    if plane::top(t) <= best.height {
+    if top <= best.height {
         return best;
     }
     ask::raise_by(bull::bull_contact_above(t, k, best.height), i, best)
 }
 
 // The best so far with triangle i.
-fn raise_bull(mesh: &[f64], k: Bull, best: Best, i: u32) -> Best
-    requires { ⌜ 9 * i + 9 ≤ length (now mesh) ⌝ }
-    ensures { λ r. ⌜ r ≡ bullStep (now (mesh .entry)) k best i ⌝ }
+fn raise_bull(mesh: &[f64], boxes: &[f64], k: Bull, best: Best, i: u32) -> Best
+    requires { ⌜ (9 * i + 9 ≤ length (now mesh)) × (5 * i + 5 ≤ length (now boxes)) ⌝ }
+    ensures { λ r. ⌜ r ≡ bullStep (now (mesh .entry)) (now (boxes .entry)) k best i ⌝ }
 {
-    raise_bull_on(plane::triangle_at(mesh, i as usize), i, k, best)
+    let b = grid::box_at(boxes, i as usize);
+    raise_bull_on(plane::triangle_at(mesh, i as usize), b.top, i, k, best)
 }
 
 // Looks at triangle i, unless its mark is the stamp.
-fn look_bull(mesh: &[f64], marks: &mut [u32], stamp: u32, k: Bull, s: Seen, i: u32) -> Seen
-    requires { ⌜ (length (now mesh) ≡ length (now marks) * 9) × (i < length (now marks)) × Room stamp (seen (now marks) s) ⌝ }
-    ensures { λ r. ⌜ seen (now (marks .exit)) r ≡ look stamp (bullStep (now (mesh .entry)) k) (seen (now (marks .entry)) s) i ⌝ }
+fn look_bull(
+    mesh: &[f64],
+    boxes: &[f64],
+    marks: &mut [u32],
+    stamp: u32,
+    k: Bull,
+    s: Seen,
+    i: u32,
+) -> Seen
+    requires { ⌜ (length (now mesh) ≡ length (now marks) * 9) × (i < length (now marks)) × Room stamp (seen (now marks) s)
+        × (length (now boxes) ≡ length (now marks) * 5) ⌝ }
+    ensures { λ r. ⌜ seen (now (marks .exit)) r ≡ look stamp (bullStep (now (mesh .entry)) (now (boxes .entry)) k) (seen (now (marks .entry)) s) i ⌝ }
 {
     let count = s.count;
     let best = s.best;
@@ -214,18 +227,19 @@ fn look_bull(mesh: &[f64], marks: &mut [u32], stamp: u32, k: Bull, s: Seen, i: u
     }
     Seen {
         count: count + 1,
-        best: raise_bull(mesh, k, best, i),
+        best: raise_bull(mesh, boxes, k, best, i),
     }
 }
 
 // The step over one cell: looks at each of its numbers.
-fn cell_bull(mesh: &[f64], part: &[u32], marks: &mut [u32], stamp: u32, k: Bull, s: Seen) -> Seen
-    requires { ⌜ (length (now mesh) ≡ length (now marks) * 9) × Below (length (now marks)) (now part) × Room stamp (seen (now marks) s) ⌝ }
-    ensures { λ r. ⌜ seen (now (marks .exit)) r ≡ fold (look stamp (bullStep (now (mesh .entry)) k)) (seen (now (marks .entry)) s) (now (part .entry)) ⌝ }
+fn cell_bull(mesh: &[f64], boxes: &[f64], part: &[u32], marks: &mut [u32], stamp: u32, k: Bull, s: Seen) -> Seen
+    requires { ⌜ (length (now mesh) ≡ length (now marks) * 9) × Below (length (now marks)) (now part) × Room stamp (seen (now marks) s)
+        × (length (now boxes) ≡ length (now marks) * 5) ⌝ }
+    ensures { λ r. ⌜ seen (now (marks .exit)) r ≡ fold (look stamp (bullStep (now (mesh .entry)) (now (boxes .entry)) k)) (seen (now (marks .entry)) s) (now (part .entry)) ⌝ }
 {
     let mut found = s;
     for j in 0..part.len() {
-        found = look_bull(mesh, marks, stamp, k, found, part[j]);
+        found = look_bull(mesh, boxes, marks, stamp, k, found, part[j]);
     }
     found
 }
@@ -235,6 +249,7 @@ fn visit_bull(
     mesh: &[f64],
     starts: &[u32],
     members: &[u32],
+    boxes: &[f64],
     marks: &mut [u32],
     stamp: u32,
     columns: usize,
@@ -243,8 +258,9 @@ fn visit_bull(
     s: Seen,
 ) -> Seen
     requires { ⌜ (length (now mesh) ≡ length (now marks) * 9)
-        × Walkable (now starts) (now members) (length (now marks)) columns (p .x0) (p .x1) (p .y0) (p .y1) × Room stamp (seen (now marks) s) ⌝ }
-    ensures { λ r. ⌜ seen (now (marks .exit)) r ≡ fold (look stamp (bullStep (now (mesh .entry)) k)) (seen (now (marks .entry)) s)
+        × Walkable (now starts) (now members) (length (now marks)) columns (p .x0) (p .x1) (p .y0) (p .y1) × Room stamp (seen (now marks) s)
+        × (length (now boxes) ≡ length (now marks) * 5) ⌝ }
+    ensures { λ r. ⌜ seen (now (marks .exit)) r ≡ fold (look stamp (bullStep (now (mesh .entry)) (now (boxes .entry)) k)) (seen (now (marks .entry)) s)
         (block (now (starts .entry)) (now (members .entry)) columns (p .x0) (p .x1) (p .y0) (p .y1)) ⌝ }
 {
     let x0 = p.x0;
@@ -255,36 +271,45 @@ fn visit_bull(
     for y in y0..y1 {
         for x in x0..x1 {
             let part = walk::stretch(starts, members, y * columns + x);
-            found = cell_bull(mesh, part, marks, stamp, k, found);
+            found = cell_bull(mesh, boxes, part, marks, stamp, k, found);
         }
     }
     found
 }
 
-// The best so far with triangle i.
-fn raise_tool_on(t: Triangle, i: u32, a: Axis, table: &[f64], best: Best) -> Best
-    ensures { λ r. ⌜ r ≡ toolRaised t i a (now (table .entry)) best ⌝ }
+// The best so far with triangle i, whose top is given.
+fn raise_tool_on(t: Triangle, top: f64, i: u32, a: Axis, table: &[f64], best: Best) -> Best
+    ensures { λ r. ⌜ r ≡ toolRaised t top i a (now (table .entry)) best ⌝ }
 {
     let x = a.x;
     let y = a.y;
     let low = a.low;
-    if plane::top(t) - low <= best.height {
+    if top - low <= best.height {
         return best;
     }
     tool::raise_over(t, i, x, y, table, best)
 }
 
 // The best so far with triangle i.
-fn raise_tool(mesh: &[f64], a: Axis, table: &[f64], best: Best, i: u32) -> Best
-    requires { ⌜ 9 * i + 9 ≤ length (now mesh) ⌝ }
-    ensures { λ r. ⌜ r ≡ toolStep (now (mesh .entry)) a (now (table .entry)) best i ⌝ }
+fn raise_tool(
+    mesh: &[f64],
+    boxes: &[f64],
+    a: Axis,
+    table: &[f64],
+    best: Best,
+    i: u32,
+) -> Best
+    requires { ⌜ (9 * i + 9 ≤ length (now mesh)) × (5 * i + 5 ≤ length (now boxes)) ⌝ }
+    ensures { λ r. ⌜ r ≡ toolStep (now (mesh .entry)) (now (boxes .entry)) a (now (table .entry)) best i ⌝ }
 {
-    raise_tool_on(plane::triangle_at(mesh, i as usize), i, a, table, best)
+    let b = grid::box_at(boxes, i as usize);
+    raise_tool_on(plane::triangle_at(mesh, i as usize), b.top, i, a, table, best)
 }
 
 // Looks at triangle i, unless its mark is the stamp.
 fn look_tool(
     mesh: &[f64],
+    boxes: &[f64],
     marks: &mut [u32],
     stamp: u32,
     a: Axis,
@@ -292,8 +317,9 @@ fn look_tool(
     s: Seen,
     i: u32,
 ) -> Seen
-    requires { ⌜ (length (now mesh) ≡ length (now marks) * 9) × (i < length (now marks)) × Room stamp (seen (now marks) s) ⌝ }
-    ensures { λ r. ⌜ seen (now (marks .exit)) r ≡ look stamp (toolStep (now (mesh .entry)) a (now (table .entry))) (seen (now (marks .entry)) s) i ⌝ }
+    requires { ⌜ (length (now mesh) ≡ length (now marks) * 9) × (i < length (now marks)) × Room stamp (seen (now marks) s)
+        × (length (now boxes) ≡ length (now marks) * 5) ⌝ }
+    ensures { λ r. ⌜ seen (now (marks .exit)) r ≡ look stamp (toolStep (now (mesh .entry)) (now (boxes .entry)) a (now (table .entry))) (seen (now (marks .entry)) s) i ⌝ }
 {
     let count = s.count;
     let best = s.best;
@@ -302,13 +328,14 @@ fn look_tool(
     }
     Seen {
         count: count + 1,
-        best: raise_tool(mesh, a, table, best, i),
+        best: raise_tool(mesh, boxes, a, table, best, i),
     }
 }
 
 // The step over one cell: looks at each of its numbers.
 fn cell_tool(
     mesh: &[f64],
+    boxes: &[f64],
     part: &[u32],
     marks: &mut [u32],
     stamp: u32,
@@ -316,13 +343,14 @@ fn cell_tool(
     table: &[f64],
     s: Seen,
 ) -> Seen
-    requires { ⌜ (length (now mesh) ≡ length (now marks) * 9) × Below (length (now marks)) (now part) × Room stamp (seen (now marks) s) ⌝ }
-    ensures { λ r. ⌜ seen (now (marks .exit)) r ≡ fold (look stamp (toolStep (now (mesh .entry)) a (now (table .entry))))
+    requires { ⌜ (length (now mesh) ≡ length (now marks) * 9) × Below (length (now marks)) (now part) × Room stamp (seen (now marks) s)
+        × (length (now boxes) ≡ length (now marks) * 5) ⌝ }
+    ensures { λ r. ⌜ seen (now (marks .exit)) r ≡ fold (look stamp (toolStep (now (mesh .entry)) (now (boxes .entry)) a (now (table .entry))))
         (seen (now (marks .entry)) s) (now (part .entry)) ⌝ }
 {
     let mut found = s;
     for j in 0..part.len() {
-        found = look_tool(mesh, marks, stamp, a, table, found, part[j]);
+        found = look_tool(mesh, boxes, marks, stamp, a, table, found, part[j]);
     }
     found
 }
@@ -332,6 +360,7 @@ fn visit_tool(
     mesh: &[f64],
     starts: &[u32],
     members: &[u32],
+    boxes: &[f64],
     marks: &mut [u32],
     stamp: u32,
     columns: usize,
@@ -341,8 +370,9 @@ fn visit_tool(
     s: Seen,
 ) -> Seen
     requires { ⌜ (length (now mesh) ≡ length (now marks) * 9)
-        × Walkable (now starts) (now members) (length (now marks)) columns (p .x0) (p .x1) (p .y0) (p .y1) × Room stamp (seen (now marks) s) ⌝ }
-    ensures { λ r. ⌜ seen (now (marks .exit)) r ≡ fold (look stamp (toolStep (now (mesh .entry)) a (now (table .entry))))
+        × Walkable (now starts) (now members) (length (now marks)) columns (p .x0) (p .x1) (p .y0) (p .y1) × Room stamp (seen (now marks) s)
+        × (length (now boxes) ≡ length (now marks) * 5) ⌝ }
+    ensures { λ r. ⌜ seen (now (marks .exit)) r ≡ fold (look stamp (toolStep (now (mesh .entry)) (now (boxes .entry)) a (now (table .entry))))
         (seen (now (marks .entry)) s) (block (now (starts .entry)) (now (members .entry)) columns (p .x0) (p .x1) (p .y0) (p .y1)) ⌝ }
 {
     let x0 = p.x0;
@@ -353,7 +383,7 @@ fn visit_tool(
     for y in y0..y1 {
         for x in x0..x1 {
             let part = walk::stretch(starts, members, y * columns + x);
-            found = cell_tool(mesh, part, marks, stamp, a, table, found);
+            found = cell_tool(mesh, boxes, part, marks, stamp, a, table, found);
         }
     }
     found

@@ -9,6 +9,7 @@ use lib.Ieee.{Float}
 use borrow.Author.Tests.{eq-eqb, ne-eqb}
 use Rattle.numbers.proofs.Branches.{taken, left}
 use Rattle.grid.specs.Index.{Index, BuiltFrom}
+use Rattle.grid.specs.Boxes.{isBoxed}
 use Rattle.grid.specs.Ladder.{demand}
 use Rattle.grid.proofs.Ladder.{demanded}
 use Rattle.query.specs.Asked.{isMarked}
@@ -30,7 +31,7 @@ module _ (ix : Index) (marks : List ℕ) (levels runs : List Float) (p : Paramet
   unfolding planAlong
   along-y o n e q = left (eqb axis 0) _ _ _ (ne-eqb axis 0 n) (taken (eqb axis 1) _ _ _ (eq-eqb axis 1 e) q)
 
-  pub along-none : (a : Planned) (k : ℕ) → (axis ≡ 0 → ⊥) → (axis ≡ 1 → ⊥) → k ≡ demand (isMarked (ix .mesh) marks) 1 9 → a ≡ refusedBy k → outcome a levels runs marks ≡ planAlong ix marks levels runs p axis
+  pub along-none : (a : Planned) (k : ℕ) → (axis ≡ 0 → ⊥) → (axis ≡ 1 → ⊥) → k ≡ demand (isMarked (ix .mesh) marks) 1 (demand (isBoxed (ix .mesh) (ix .boxes)) 23 9) → a ≡ refusedBy k → outcome a levels runs marks ≡ planAlong ix marks levels runs p axis
   unfolding planAlong
   along-none a k n m e q =
       left (eqb axis 0) _ _ _ (ne-eqb axis 0 n)
@@ -41,12 +42,12 @@ module _ (ix : Index) (marks : List ℕ) (levels runs : List Float) (p : Paramet
   along-seven : BuiltFrom ix → planAlong ix marks levels runs p axis .answer .refusal ≡ 7 → ⊥
   unfolding planAlong
   along-seven b =
-      let none = outcome (refusedBy (demand (isMarked (ix .mesh) marks) 1 9)) levels runs marks in
+      let none = outcome (refusedBy (demand (isMarked (ix .mesh) marks) 1 (demand (isBoxed (ix .mesh) (ix .boxes)) 23 9))) levels runs marks in
       either-way (eqb axis 0) (planOf ix marks levels runs p X) (cond (eqb axis 1) (planOf ix marks levels runs p Y) none)
       (planned-seven ix marks levels runs p X b)
       (either-way (eqb axis 1) (planOf ix marks levels runs p Y) none
       (planned-seven ix marks levels runs p Y b)
-      (λ e. let z = rung (isMarked (ix .mesh) marks) 1 9 (λ z. omega arith) e in omega arith))
+      (λ e. let z = rung _ 23 9 (λ z. omega arith) (rung (isMarked (ix .mesh) marks) 1 _ (λ z. omega arith) e) in omega arith))
 
   pub along-never : (o : Outcome) → o ≡ planAlong ix marks levels runs p axis → NeverSeven ix (o .answer .refusal)
   along-never o e b s = along-seven b (sym (ap (λ (o : Outcome). o .answer .refusal) e) ∙ s)
@@ -60,8 +61,8 @@ module _ (ix : Index) (p : Parameters) (axis : ℕ) (a : Planned) where
   lost-y e f z = rw e (f z)
 
 module _ (ix : Index) (p : Parameters) (axis : Axis) (a : Planned) where
-  pub lost-none : (marks : List ℕ) (k : ℕ) → k ≡ demand (isMarked (ix .mesh) marks) 1 9 → a ≡ refusedBy k → a .refusal ≡ 0 → NothingLost ix p axis a
-  lost-none marks k e q z = let n = demanded (isMarked (ix .mesh) marks) 1 9 (lit< tt) (sym e ∙ sym (ap (λ (x : Planned). x .refusal) q) ∙ z) .1 in absurd (omega arith)
+  pub lost-none : (marks : List ℕ) (k : ℕ) → k ≡ demand (isMarked (ix .mesh) marks) 1 (demand (isBoxed (ix .mesh) (ix .boxes)) 23 9) → a ≡ refusedBy k → a .refusal ≡ 0 → NothingLost ix p axis a
+  lost-none marks k e q z = let n = demanded _ 23 9 (lit< tt) (demanded (isMarked (ix .mesh) marks) 1 _ (lit< tt) (sym e ∙ sym (ap (λ (x : Planned). x .refusal) q) ∙ z) .1) .1 in absurd (omega arith)
 
   -- only the refusal and the dropped length count
   pub lost-laid : (b : Planned) → a .refusal ≡ b .refusal → a .dropped ≡ b .dropped → (a .refusal ≡ 0 → NothingLost ix p axis a) → b .refusal ≡ 0 → NothingLost ix p axis b

@@ -43,7 +43,7 @@ narrow h e =
 
 -- what stands in C's arrays with these measures and sizes
 abbrev leftWith : Outcome → List Float → List ℕ → BuiltLeft
-leftWith o fs ns = builtLeft (o .built .refusal) (o .starts) (o .members) fs ns (o .built .triangle ∷ o .built .number ∷ [])
+leftWith o fs ns = builtLeft (o .built .refusal) (o .starts) (o .members) (o .boxes) fs ns (o .built .triangle ∷ o .built .number ∷ [])
 
 abbrev zeros : Outcome → BuiltLeft
 zeros o = leftWith o (f0 ∷ f0 ∷ f0 ∷ f0 ∷ f0 ∷ f0 ∷ []) (0 ∷ 0 ∷ 0 ∷ [])

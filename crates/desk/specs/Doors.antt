@@ -22,18 +22,19 @@ measuresOf h = h .«origin_x» ∷ h .«origin_y» ∷ h .cell ∷ h .floor ∷ 
 abbrev pub sizesOf : Header → List ℕ
 sizesOf h = h .n ∷ h .columns ∷ h .rows ∷ []
 
--- An index built: the refusal, both tables, measures and sizes, and which number was bad; a refusal leaves zeros in measures and sizes, and any outcome
+-- An index built: the refusal, the three tables, measures and sizes, and which number was bad; a refusal leaves zeros in measures and sizes, and any outcome
 -- but 4 leaves zeros in the last.
 pub record BuiltLeft : Type 0 where
   pub refusal : ℕ
   pub starts : List ℕ
   pub members : List ℕ
+  pub boxes : List Float
   pub measures : List Float
   pub sizes : List ℕ
   pub bad : List ℕ
 
-abbrev pub builtLeft : ℕ → List ℕ → List ℕ → List Float → List ℕ → List ℕ → BuiltLeft
-builtLeft k s m fs ns bs = record { refusal = k; starts = s; members = m; measures = fs; sizes = ns; bad = bs }
+abbrev pub builtLeft : ℕ → List ℕ → List ℕ → List Float → List Float → List ℕ → List ℕ → BuiltLeft
+builtLeft k s m x fs ns bs = record { refusal = k; starts = s; members = m; boxes = x; measures = fs; sizes = ns; bad = bs }
 
 unfoldable pub builtLeftBy : Outcome → BuiltLeft
 builtLeftBy o =
@@ -41,8 +42,8 @@ builtLeftBy o =
     let h = o .built .header in
     let bad = o .built .triangle ∷ o .built .number ∷ [] in
     cond (eqb k 0)
-    (builtLeft k (o .starts) (o .members) (measuresOf h) (sizesOf h) bad)
-    (builtLeft k (o .starts) (o .members) (f0 ∷ f0 ∷ f0 ∷ f0 ∷ f0 ∷ f0 ∷ []) (0 ∷ 0 ∷ 0 ∷ []) bad)
+    (builtLeft k (o .starts) (o .members) (o .boxes) (measuresOf h) (sizesOf h) bad)
+    (builtLeft k (o .starts) (o .members) (o .boxes) (f0 ∷ f0 ∷ f0 ∷ f0 ∷ f0 ∷ f0 ∷ []) (0 ∷ 0 ∷ 0 ∷ []) bad)
 
 -- The header that C hands over.
 unfoldable pub headerFrom : List Float → List ℕ → Header
@@ -60,8 +61,8 @@ headerFrom fs ns =
     }
 
 -- The index that C hands over.
-abbrev pub indexFrom : List Float → List Float → List ℕ → List ℕ → List ℕ → Index
-indexFrom mesh fs ns starts members = indexOf mesh (headerFrom fs ns) starts members
+abbrev pub indexFrom : List Float → List Float → List ℕ → List ℕ → List ℕ → List Float → Index
+indexFrom mesh fs ns starts members boxes = indexOf mesh (headerFrom fs ns) starts members boxes
 
 -- A height asked: the refusal, the marks, the height, the count and the stamp afterwards; the triangle that last raised the height and what of it is touched.
 pub record HeightLeft : Type 0 where

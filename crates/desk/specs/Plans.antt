@@ -6,6 +6,7 @@ use lib.Dec.{eqb}
 use lib.Ieee.{Float}
 use lib.ListN.{getD}
 use Rattle.numbers.specs.Reals.{num}
+use Rattle.grid.specs.Boxes.{isBoxed}
 use Rattle.grid.specs.Index.{Index}
 use Rattle.grid.specs.Ladder.{demand}
 use Rattle.query.specs.Asked.{isMarked}
@@ -28,12 +29,12 @@ parametersFrom xs =
       «cutting_length» = num xs 6;
     }
 
--- The plan along the axis of that number: 0 is X, 1 is Y. Any other is a parameter that is refused: 9 in its place, after 1 and before 7.
+-- The plan along the axis of that number: 0 is X, 1 is Y. Any other is a parameter that is refused: 9 in its place, after 1 and 23 and before 7.
 unfoldable pub planAlong : Index → List ℕ → List Float → List Float → Parameters → ℕ → Outcome
 planAlong ix marks levels runs p axis =
     cond (eqb axis 0) (planOf ix marks levels runs p X)
     (cond (eqb axis 1) (planOf ix marks levels runs p Y)
-    (outcome (refusedBy (demand (isMarked (ix .mesh) marks) 1 9)) levels runs marks))
+    (outcome (refusedBy (demand (isMarked (ix .mesh) marks) 1 (demand (isBoxed (ix .mesh) (ix .boxes)) 23 9))) levels runs marks))
 
 -- The axis of a number, where it has one.
 abbrev pub axisFrom : ℕ → Axis

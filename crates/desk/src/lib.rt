@@ -4,6 +4,7 @@ ghost use mathlib.Core.Path.{_≡_};
 ghost use Rattle.desk.specs.Doors.{builtLeft, builtLeftBy, headerFrom, indexFrom, heightLeft, heightLeftBy, answerFrom};
 ghost use Rattle.desk.specs.Doors.{verdictLeft, verdictLeftBy, rulingFrom};
 ghost use Rattle.grid.specs.Build.{buildOf};
+ghost use Rattle.grid.specs.Boxes.{isBoxed};
 ghost use Rattle.grid.specs.Index.{indexOf, BuildPromise};
 ghost use Rattle.grid.specs.Ladder.{demand};
 ghost use Rattle.query.specs.Asked.{isMarked};
@@ -21,7 +22,7 @@ use reach::Chord;
 use rows::Axis;
 use terms::Parameters;
 
-// The index of a mesh: starts and members get its tables, measures and sizes its header; after 4 bad holds the triangle and which of its nine numbers
+// The index of a mesh: starts, members and boxes get its tables, measures and sizes its header; after 4 bad holds the triangle and which of its nine numbers
 // came first, else 0 and 0.
 #[no_mangle]
 pub extern "C" fn mandrikelo_build(
@@ -30,16 +31,17 @@ pub extern "C" fn mandrikelo_build(
     r: f64,
     starts: &mut [u32],
     members: &mut [u32],
+    boxes: &mut [f64],
     measures: &mut [f64; 6],
     sizes: &mut [u32; 3],
     bad: &mut [u32; 2],
 ) -> u32
-    ensures { λ k. ⌜ builtLeft k (now (starts .exit)) (now (members .exit)) (now (measures .exit)) (now (sizes .exit)) (now (bad .exit))
-        ≡ builtLeftBy (buildOf (now (mesh .entry)) floor r (now (starts .entry)) (now (members .entry))) ⌝ }
+    ensures { λ k. ⌜ builtLeft k (now (starts .exit)) (now (members .exit)) (now (boxes .exit)) (now (measures .exit)) (now (sizes .exit)) (now (bad .exit))
+        ≡ builtLeftBy (buildOf (now (mesh .entry)) floor r (now (starts .entry)) (now (members .entry)) (now (boxes .entry))) ⌝ }
     ensures { λ k. ⌜ BuildPromise
-        (indexFrom (now (mesh .entry)) (now (measures .exit)) (now (sizes .exit)) (now (starts .exit)) (now (members .exit))) k ⌝ }
+        (indexFrom (now (mesh .entry)) (now (measures .exit)) (now (sizes .exit)) (now (starts .exit)) (now (members .exit)) (now (boxes .exit))) k ⌝ }
 {
-    let b = grid::build(mesh, floor, r, starts, members);
+    let b = grid::build(mesh, floor, r, starts, members, boxes);
     let k = b.refusal;
     let triangle = b.triangle;
     let number = b.number;
@@ -87,6 +89,7 @@ pub extern "C" fn mandrikelo_max_height(
     sizes: &[u32; 3],
     starts: &[u32],
     members: &[u32],
+    boxes: &[f64],
     marks: &mut [u32],
     stamp: u32,
     px: f64,
@@ -100,10 +103,12 @@ pub extern "C" fn mandrikelo_max_height(
 ) -> u32
     ensures { λ k. ⌜ heightLeft k (now (marks .exit)) (now (found .exit)) (now (counts .exit)) (now (touched .exit))
         ≡ heightLeftBy (maxHeightOf
-        (indexFrom (now (mesh .entry)) (now (measures .entry)) (now (sizes .entry)) (now (starts .entry)) (now (members .entry)))
+        (indexFrom (now (mesh .entry)) (now (measures .entry)) (now (sizes .entry)) (now (starts .entry)) (now (members .entry))
+        (now (boxes .entry)))
         (now (marks .entry)) stamp (sweep px py qx qy r)) ⌝ }
     ensures { λ k. ⌜ DiskPromise
-        (indexFrom (now (mesh .entry)) (now (measures .entry)) (now (sizes .entry)) (now (starts .entry)) (now (members .entry)))
+        (indexFrom (now (mesh .entry)) (now (measures .entry)) (now (sizes .entry)) (now (starts .entry)) (now (members .entry))
+        (now (boxes .entry)))
         (now (marks .entry)) stamp (sweep px py qx qy r)
         (answerFrom k (now (found .exit)) (now (counts .exit)) (now (touched .exit))) ⌝ }
 {
@@ -112,6 +117,7 @@ pub extern "C" fn mandrikelo_max_height(
         header_from(measures, sizes),
         starts,
         members,
+        boxes,
         marks,
         stamp,
         px,
@@ -141,6 +147,7 @@ pub extern "C" fn mandrikelo_max_bull(
     sizes: &[u32; 3],
     starts: &[u32],
     members: &[u32],
+    boxes: &[f64],
     marks: &mut [u32],
     stamp: u32,
     px: f64,
@@ -153,10 +160,12 @@ pub extern "C" fn mandrikelo_max_bull(
 ) -> u32
     ensures { λ k. ⌜ heightLeft k (now (marks .exit)) (now (found .exit)) (now (counts .exit)) (now (touched .exit))
         ≡ heightLeftBy (maxBullOf
-        (indexFrom (now (mesh .entry)) (now (measures .entry)) (now (sizes .entry)) (now (starts .entry)) (now (members .entry)))
+        (indexFrom (now (mesh .entry)) (now (measures .entry)) (now (sizes .entry)) (now (starts .entry)) (now (members .entry))
+        (now (boxes .entry)))
         (now (marks .entry)) stamp (record { x = px; y = py; r = r; rc = rc })) ⌝ }
     ensures { λ k. ⌜ BullPromise
-        (indexFrom (now (mesh .entry)) (now (measures .entry)) (now (sizes .entry)) (now (starts .entry)) (now (members .entry)))
+        (indexFrom (now (mesh .entry)) (now (measures .entry)) (now (sizes .entry)) (now (starts .entry)) (now (members .entry))
+        (now (boxes .entry)))
         (now (marks .entry)) stamp (record { x = px; y = py; r = r; rc = rc })
         (answerFrom k (now (found .exit)) (now (counts .exit)) (now (touched .exit))) ⌝ }
 {
@@ -165,6 +174,7 @@ pub extern "C" fn mandrikelo_max_bull(
         header_from(measures, sizes),
         starts,
         members,
+        boxes,
         marks,
         stamp,
         px,
@@ -193,6 +203,7 @@ pub extern "C" fn mandrikelo_max_sections(
     sizes: &[u32; 3],
     starts: &[u32],
     members: &[u32],
+    boxes: &[f64],
     marks: &mut [u32],
     stamp: u32,
     px: f64,
@@ -204,10 +215,12 @@ pub extern "C" fn mandrikelo_max_sections(
 ) -> u32
     ensures { λ k. ⌜ heightLeft k (now (marks .exit)) (now (found .exit)) (now (counts .exit)) (now (touched .exit))
         ≡ heightLeftBy (maxSectionsOf
-        (indexFrom (now (mesh .entry)) (now (measures .entry)) (now (sizes .entry)) (now (starts .entry)) (now (members .entry)))
+        (indexFrom (now (mesh .entry)) (now (measures .entry)) (now (sizes .entry)) (now (starts .entry)) (now (members .entry))
+        (now (boxes .entry)))
         (now (marks .entry)) stamp px py (now (sections .entry))) ⌝ }
     ensures { λ k. ⌜ SectionsPromise
-        (indexFrom (now (mesh .entry)) (now (measures .entry)) (now (sizes .entry)) (now (starts .entry)) (now (members .entry)))
+        (indexFrom (now (mesh .entry)) (now (measures .entry)) (now (sizes .entry)) (now (starts .entry)) (now (members .entry))
+        (now (boxes .entry)))
         (now (marks .entry)) stamp px py (now (sections .entry))
         (answerFrom k (now (found .exit)) (now (counts .exit)) (now (touched .exit))) ⌝ }
 {
@@ -216,6 +229,7 @@ pub extern "C" fn mandrikelo_max_sections(
         header_from(measures, sizes),
         starts,
         members,
+        boxes,
         marks,
         stamp,
         px,
@@ -243,6 +257,7 @@ pub extern "C" fn mandrikelo_bull_chord_clear(
     sizes: &[u32; 3],
     starts: &[u32],
     members: &[u32],
+    boxes: &[f64],
     marks: &mut [u32],
     stamp: u32,
     ax: f64,
@@ -258,10 +273,12 @@ pub extern "C" fn mandrikelo_bull_chord_clear(
 ) -> u32
     ensures { λ k. ⌜ verdictLeft k (now (marks .exit)) (now (counts .exit))
         ≡ verdictLeftBy (bullChordOf
-        (indexFrom (now (mesh .entry)) (now (measures .entry)) (now (sizes .entry)) (now (starts .entry)) (now (members .entry)))
+        (indexFrom (now (mesh .entry)) (now (measures .entry)) (now (sizes .entry)) (now (starts .entry)) (now (members .entry))
+        (now (boxes .entry)))
         (now (marks .entry)) stamp (record { ax = ax; ay = ay; az = az; bx = bx; by = by; bz = bz; lift = lift }) r rc) ⌝ }
     ensures { λ k. ⌜ BullChordPromise
-        (indexFrom (now (mesh .entry)) (now (measures .entry)) (now (sizes .entry)) (now (starts .entry)) (now (members .entry)))
+        (indexFrom (now (mesh .entry)) (now (measures .entry)) (now (sizes .entry)) (now (starts .entry)) (now (members .entry))
+        (now (boxes .entry)))
         (now (marks .entry)) stamp (record { ax = ax; ay = ay; az = az; bx = bx; by = by; bz = bz; lift = lift }) r rc
         (rulingFrom k (now (counts .exit))) ⌝ }
 {
@@ -279,6 +296,7 @@ pub extern "C" fn mandrikelo_bull_chord_clear(
         header_from(measures, sizes),
         starts,
         members,
+        boxes,
         marks,
         stamp,
         m,
@@ -302,6 +320,7 @@ pub extern "C" fn mandrikelo_sections_chord_clear(
     sizes: &[u32; 3],
     starts: &[u32],
     members: &[u32],
+    boxes: &[f64],
     marks: &mut [u32],
     stamp: u32,
     ax: f64,
@@ -316,10 +335,12 @@ pub extern "C" fn mandrikelo_sections_chord_clear(
 ) -> u32
     ensures { λ k. ⌜ verdictLeft k (now (marks .exit)) (now (counts .exit))
         ≡ verdictLeftBy (sectionsChordOf
-        (indexFrom (now (mesh .entry)) (now (measures .entry)) (now (sizes .entry)) (now (starts .entry)) (now (members .entry)))
+        (indexFrom (now (mesh .entry)) (now (measures .entry)) (now (sizes .entry)) (now (starts .entry)) (now (members .entry))
+        (now (boxes .entry)))
         (now (marks .entry)) stamp (record { ax = ax; ay = ay; az = az; bx = bx; by = by; bz = bz; lift = lift }) (now (sections .entry))) ⌝ }
     ensures { λ k. ⌜ SectionsChordPromise
-        (indexFrom (now (mesh .entry)) (now (measures .entry)) (now (sizes .entry)) (now (starts .entry)) (now (members .entry)))
+        (indexFrom (now (mesh .entry)) (now (measures .entry)) (now (sizes .entry)) (now (starts .entry)) (now (members .entry))
+        (now (boxes .entry)))
         (now (marks .entry)) stamp (record { ax = ax; ay = ay; az = az; bx = bx; by = by; bz = bz; lift = lift }) (now (sections .entry))
         (rulingFrom k (now (counts .exit))) ⌝ }
 {
@@ -337,6 +358,7 @@ pub extern "C" fn mandrikelo_sections_chord_clear(
         header_from(measures, sizes),
         starts,
         members,
+        boxes,
         marks,
         stamp,
         m,
@@ -391,12 +413,16 @@ fn refused(k: u32) -> Planned
     }
 }
 
-// The refusal of an axis that is neither X nor Y: 9, unless 1 comes first.
-fn no_axis(mesh: &[f64], marks: &[u32]) -> u32
-    ensures { λ k. ⌜ k ≡ demand (isMarked (now (mesh .entry)) (now (marks .entry))) 1 9 ⌝ }
+// The refusal of an axis that is neither X nor Y: 9, unless 1 or 23 comes first.
+fn no_axis(mesh: &[f64], boxes: &[f64], marks: &[u32]) -> u32
+    ensures { λ k. ⌜ k
+        ≡ demand (isMarked (now (mesh .entry)) (now (marks .entry))) 1 (demand (isBoxed (now (mesh .entry)) (now (boxes .entry))) 23 9) ⌝ }
 {
     if !query::is_marked(mesh, marks) {
         return 1;
+    }
+    if !grid::is_boxed(mesh, boxes) {
+        return 23;
     }
     9
 }
@@ -407,6 +433,7 @@ fn plan_along(
     h: Header,
     starts: &[u32],
     members: &[u32],
+    boxes: &[f64],
     marks: &mut [u32],
     levels: &mut [f64],
     runs: &mut [f64],
@@ -414,18 +441,18 @@ fn plan_along(
     axis: u32,
 ) -> Planned
     ensures { λ a. ⌜ outcome a (now (levels .exit)) (now (runs .exit)) (now (marks .exit))
-        ≡ planAlong (indexOf (now (mesh .entry)) h (now (starts .entry)) (now (members .entry)))
+        ≡ planAlong (indexOf (now (mesh .entry)) h (now (starts .entry)) (now (members .entry)) (now (boxes .entry)))
         (now (marks .entry)) (now (levels .entry)) (now (runs .entry)) p axis ⌝ }
-    ensures { λ a. ⌜ (a .refusal ≡ 0 → NothingLost (indexOf (now (mesh .entry)) h (now (starts .entry)) (now (members .entry)))
+    ensures { λ a. ⌜ (a .refusal ≡ 0 → NothingLost (indexOf (now (mesh .entry)) h (now (starts .entry)) (now (members .entry)) (now (boxes .entry)))
         p (axisFrom axis) a) ⌝ }
 {
     if axis == 0 {
-        return plan::plan(mesh, h, starts, members, marks, levels, runs, p, Axis::X);
+        return plan::plan(mesh, h, starts, members, boxes, marks, levels, runs, p, Axis::X);
     }
     if axis == 1 {
-        return plan::plan(mesh, h, starts, members, marks, levels, runs, p, Axis::Y);
+        return plan::plan(mesh, h, starts, members, boxes, marks, levels, runs, p, Axis::Y);
     }
-    refused(no_axis(mesh, marks))
+    refused(no_axis(mesh, boxes, marks))
 }
 
 // The flat runs of a mesh: levels and runs get their tables, lengths the cut and the dropped length, counts the numbers of levels, rows
@@ -437,6 +464,7 @@ pub extern "C" fn mandrikelo_plan(
     sizes: &[u32; 3],
     starts: &[u32],
     members: &[u32],
+    boxes: &[f64],
     marks: &mut [u32],
     parameters: &[f64; 7],
     axis: u32,
@@ -447,17 +475,20 @@ pub extern "C" fn mandrikelo_plan(
 ) -> u32
     ensures { λ k. ⌜ planLeft k (now (levels .exit)) (now (runs .exit)) (now (marks .exit)) (now (lengths .exit)) (now (counts .exit))
         ≡ planLeftBy (planAlong
-        (indexFrom (now (mesh .entry)) (now (measures .entry)) (now (sizes .entry)) (now (starts .entry)) (now (members .entry)))
+        (indexFrom (now (mesh .entry)) (now (measures .entry)) (now (sizes .entry)) (now (starts .entry)) (now (members .entry))
+        (now (boxes .entry)))
         (now (marks .entry)) (now (levels .entry)) (now (runs .entry)) (parametersFrom (now (parameters .entry))) axis) ⌝ }
     ensures { λ k. ⌜ NeverSeven
-        (indexFrom (now (mesh .entry)) (now (measures .entry)) (now (sizes .entry)) (now (starts .entry)) (now (members .entry))) k ⌝ }
+        (indexFrom (now (mesh .entry)) (now (measures .entry)) (now (sizes .entry)) (now (starts .entry)) (now (members .entry))
+        (now (boxes .entry))) k ⌝ }
     ensures { λ k. ⌜ (k ≡ 0 → NothingLost
-        (indexFrom (now (mesh .entry)) (now (measures .entry)) (now (sizes .entry)) (now (starts .entry)) (now (members .entry)))
+        (indexFrom (now (mesh .entry)) (now (measures .entry)) (now (sizes .entry)) (now (starts .entry)) (now (members .entry))
+        (now (boxes .entry)))
         (parametersFrom (now (parameters .entry))) (axisFrom axis) (plannedFrom k (now (lengths .exit)) (now (counts .exit)))) ⌝ }
 {
     let h = header_from(measures, sizes);
     let p = parameters_from(parameters);
-    let a = plan_along(mesh, h, starts, members, marks, levels, runs, p, axis);
+    let a = plan_along(mesh, h, starts, members, boxes, marks, levels, runs, p, axis);
     let k = a.refusal;
     let cut = a.cut;
     let dropped = a.dropped;

@@ -21,15 +21,17 @@ use Rattle.grid.specs.declared.Header.{Header}
 use Rattle.grid.specs.declared.Built.{Built}
 use Rattle.grid.specs.Grid.{trianglesIn, gridOf, cellsIn, coverOf, totalOf}
 use Rattle.grid.specs.Header.{headerOf}
+use Rattle.grid.specs.Boxes.{isBoxed, boxesOf}
 use Rattle.grid.specs.Build.{isNowhere, placeOf, toldWith, refusalOfNumbers, refusalOfMesh, refusalOfGrid, refusalOfMembers, Outcome, outcome, refusedBy, acceptedWith, unless, filledOf, gridded, buildOf}
 use Rattle.grid.specs.Inside.{Gridded}
 use Rattle.grid.proofs.Ladder.{refused-not, demanded}
 use Rattle.grid.proofs.Gridding.{counted}
 
--- ---- refusals 1 to 4
-pub record Accepted (mesh : List Float) (floor r : Float) : Type 0 where
+-- ---- refusals 1, 23, 3, 2 and 4
+pub record Accepted (mesh : List Float) (floor r : Float) (x : List Float) : Type 0 where
   pub nine : length mesh ≡ trianglesIn mesh * 9
   pub few : trianglesIn mesh ≤ 65536
+  pub five : length x ≡ trianglesIn mesh * 5
   pub some : 0 < trianglesIn mesh
   pub bottom : isCoordinate floor ≡ true
   pub radius : isRadius r ≡ true
@@ -53,12 +55,13 @@ unfolding isNowhere
 nowhere Nowhere e = refl
 nowhere (At k) e = let z : _≡_ {A = ℕ} 0 1 = cc in absurd (omega arith)
 
-pub accepted : (mesh : List Float) (floor r : Float) → refusalOfMesh mesh floor r ≡ 0 → Accepted mesh floor r
-unfolding refusalOfMesh refusalOfNumbers
-accepted mesh floor r e =
+pub accepted : (mesh : List Float) (floor r : Float) (x : List Float) → refusalOfMesh mesh floor r x ≡ 0 → Accepted mesh floor r x
+unfolding refusalOfMesh refusalOfNumbers isBoxed
+accepted mesh floor r x e =
     let a = demanded _ 1 _ (lit< tt) e in
     let b = refused-not _ 1 _ (lit< tt) (a .1) in
-    let c = refused-not _ 3 _ (lit< tt) (b .1) in
+    let h = demanded _ 23 _ (lit< tt) (b .1) in
+    let c = refused-not _ 3 _ (lit< tt) (h .1) in
     let d = demanded _ 2 _ (lit< tt) (c .1) in
     let f = demanded _ 2 _ (lit< tt) (d .1) in
     let g = demanded _ 4 _ (lit< tt) (f .1) in
@@ -67,6 +70,7 @@ accepted mesh floor r e =
     record {
       nine = omega (arith, div-add-mod' (length mesh) 9);
       few = ltb-false _ _ (b .0);
+      five = eqb-true (length x) (trianglesIn mesh * 5) (h .0);
       some = omega arith;
       bottom = d .0;
       radius = f .0;
@@ -98,50 +102,51 @@ members-fit k lent e =
     (ltb-false _ _ (a .0), ltb-false _ _ (b .0))
 
 -- ---- refused, or what comes next
-module _ (k p : ℕ) (s m : List ℕ) (next : Outcome) where
-  pub unless-refused : (b : Built) → b ≡ refusedBy k p → (k ≡ 0 → ⊥) → outcome b s m ≡ unless k p s m next
+module _ (k p : ℕ) (s m : List ℕ) (x : List Float) (next : Outcome) where
+  pub unless-refused : (b : Built) → b ≡ refusedBy k p → (k ≡ 0 → ⊥) → outcome b s m x ≡ unless k p s m x next
   unfolding unless
-  unless-refused b e h = ap (λ (x : Built). outcome x s m) e ∙ left _ _ _ _ (ne-eqb k 0 h) refl
+  unless-refused b e h = ap (λ (a : Built). outcome a s m x) e ∙ left _ _ _ _ (ne-eqb k 0 h) refl
 
-  pub unless-next : (o : Outcome) → k ≡ 0 → o ≡ next → o ≡ unless k p s m next
+  pub unless-next : (o : Outcome) → k ≡ 0 → o ≡ next → o ≡ unless k p s m x next
   unfolding unless
   unless-next o h e = taken _ _ _ _ (eq-eqb k 0 h) e
 
 -- ---- the tables, or refusal 6
-module _ (mesh : List Float) (n : ℕ) (g : Grid) (floor r : Float) (s m : List ℕ) (z : Gridded mesh n g) (t k : ℕ) (p : t ≡ totalOf mesh g n) (q : k ≡ refusalOfMembers t (length m)) where
+module _ (mesh : List Float) (n : ℕ) (g : Grid) (floor r : Float) (s m : List ℕ) (x : List Float) (z : Gridded mesh n g) (t k : ℕ) (p : t ≡ totalOf mesh g n) (q : k ≡ refusalOfMembers t (length m)) where
   asked : k ≡ refusalOfMembers (startOf (coverOf mesh g) n (cellsIn g)) (length m)
-  asked = q ∙ ap (λ (x : ℕ). refusalOfMembers x (length m)) (p ∙ counted mesh g n z)
+  asked = q ∙ ap (λ (v : ℕ). refusalOfMembers v (length m)) (p ∙ counted mesh g n z)
 
-  pub filled-refused : (b : Built) → b ≡ refusedBy k 0 → (k ≡ 0 → ⊥) → outcome b s m ≡ filledOf mesh n g floor r s m
+  pub filled-refused : (b : Built) → b ≡ refusedBy k 0 → (k ≡ 0 → ⊥) → outcome b s m x ≡ filledOf mesh n g floor r s m x
   unfolding filledOf
-  filled-refused b e h = unless-refused _ 0 s m _ b (e ∙ ap (λ (x : ℕ). refusedBy x 0) asked) (λ z. h (asked ∙ z))
+  filled-refused b e h = unless-refused _ 0 s m x _ b (e ∙ ap (λ (v : ℕ). refusedBy v 0) asked) (λ z. h (asked ∙ z))
 
-  pub filled-accepted : (h : Header) (s′ m′ : List ℕ) → k ≡ 0 → h ≡ headerOf mesh n g floor r → s′ ≡ startsOf (coverOf mesh g) n (cellsIn g) s
-      → m′ ≡ membersTable (coverOf mesh g) n (cellsIn g) m → outcome (record { refusal = 0; triangle = 0; number = 0; header = h }) s′ m′ ≡ filledOf mesh n g floor r s m
+  pub filled-accepted : (h : Header) (s′ m′ : List ℕ) (x′ : List Float) → k ≡ 0 → h ≡ headerOf mesh n g floor r → s′ ≡ startsOf (coverOf mesh g) n (cellsIn g) s
+      → m′ ≡ membersTable (coverOf mesh g) n (cellsIn g) m → x′ ≡ boxesOf mesh n
+      → outcome (record { refusal = 0; triangle = 0; number = 0; header = h }) s′ m′ x′ ≡ filledOf mesh n g floor r s m x
   unfolding filledOf acceptedWith
-  filled-accepted h s′ m′ e a b c = unless-next _ 0 s m _ _ (sym asked ∙ e) (rw (a, b, c) refl)
+  filled-accepted h s′ m′ x′ e a b c d = unless-next _ 0 s m x _ _ (sym asked ∙ e) (rw (a, b, c, d) refl)
 
 -- ---- refusal 5, or what comes next; g is the grid as it was found
-module _ (mesh : List Float) (n : ℕ) (G : Grid) (floor r : Float) (s m : List ℕ) (g : Grid) (p : g ≡ G) (k : ℕ) (q : k ≡ refusalOfGrid (g .columns) (g .rows) (length s)) where
-  pub gridded-refused : (b : Built) → b ≡ refusedBy k 0 → (k ≡ 0 → ⊥) → outcome b s m ≡ gridded mesh n G floor r s m
+module _ (mesh : List Float) (n : ℕ) (G : Grid) (floor r : Float) (s m : List ℕ) (x : List Float) (g : Grid) (p : g ≡ G) (k : ℕ) (q : k ≡ refusalOfGrid (g .columns) (g .rows) (length s)) where
+  pub gridded-refused : (b : Built) → b ≡ refusedBy k 0 → (k ≡ 0 → ⊥) → outcome b s m x ≡ gridded mesh n G floor r s m x
   unfolding gridded
   gridded-refused b e h =
-      unless-refused _ 0 s m _ b (e ∙ ap (λ (x : ℕ). refusedBy x 0) q) (λ z. h (q ∙ z)) ∙ ap (λ (x : Grid). gridded mesh n x floor r s m) p
+      unless-refused _ 0 s m x _ b (e ∙ ap (λ (v : ℕ). refusedBy v 0) q) (λ z. h (q ∙ z)) ∙ ap (λ (v : Grid). gridded mesh n v floor r s m x) p
 
-  pub gridded-next : (o : Outcome) → k ≡ 0 → o ≡ filledOf mesh n g floor r s m → o ≡ gridded mesh n G floor r s m
+  pub gridded-next : (o : Outcome) → k ≡ 0 → o ≡ filledOf mesh n g floor r s m x → o ≡ gridded mesh n G floor r s m x
   unfolding gridded
-  gridded-next o h e = unless-next _ 0 s m _ o (sym q ∙ h) e ∙ ap (λ (x : Grid). gridded mesh n x floor r s m) p
+  gridded-next o h e = unless-next _ 0 s m x _ o (sym q ∙ h) e ∙ ap (λ (v : Grid). gridded mesh n v floor r s m x) p
 
   pub found-passed : k ≡ 0 → Passed (G .columns) (G .rows) (length s)
-  found-passed h = subst (λ (x : Grid). Passed (x .columns) (x .rows) (length s)) p (passed _ _ _ (sym q ∙ h))
+  found-passed h = subst (λ (v : Grid). Passed (v .columns) (v .rows) (length s)) p (passed _ _ _ (sym q ∙ h))
 
--- ---- refusals 1 to 4, or what comes next
-module _ (mesh : List Float) (floor r : Float) (s m : List ℕ) (k : ℕ) (q : k ≡ refusalOfMesh mesh floor r) where
-  pub built-refused : (p : ℕ) → p ≡ toldWith k mesh → (b : Built) → b ≡ refusedBy k p → (k ≡ 0 → ⊥) → outcome b s m ≡ buildOf mesh floor r s m
+-- ---- refusals 1, 23, 3, 2 and 4, or what comes next
+module _ (mesh : List Float) (floor r : Float) (s m : List ℕ) (x : List Float) (k : ℕ) (q : k ≡ refusalOfMesh mesh floor r x) where
+  pub built-refused : (p : ℕ) → p ≡ toldWith k mesh → (b : Built) → b ≡ refusedBy k p → (k ≡ 0 → ⊥) → outcome b s m x ≡ buildOf mesh floor r s m x
   unfolding buildOf
   built-refused p t b e h =
-      unless-refused _ _ s m _ b (e ∙ ap (refusedBy k) t ∙ ap (λ (x : ℕ). refusedBy x (toldWith x mesh)) q) (λ z. h (q ∙ z))
+      unless-refused _ _ s m x _ b (e ∙ ap (refusedBy k) t ∙ ap (λ (v : ℕ). refusedBy v (toldWith v mesh)) q) (λ z. h (q ∙ z))
 
-  pub built-next : (o : Outcome) → k ≡ 0 → o ≡ gridded mesh (trianglesIn mesh) (gridOf mesh (trianglesIn mesh) r) floor r s m → o ≡ buildOf mesh floor r s m
+  pub built-next : (o : Outcome) → k ≡ 0 → o ≡ gridded mesh (trianglesIn mesh) (gridOf mesh (trianglesIn mesh) r) floor r s m x → o ≡ buildOf mesh floor r s m x
   unfolding buildOf
-  built-next o h e = unless-next _ _ s m _ o (sym q ∙ h) e
+  built-next o h e = unless-next _ _ s m x _ o (sym q ∙ h) e

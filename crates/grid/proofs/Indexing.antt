@@ -21,10 +21,12 @@ use Rattle.cells.proofs.Reading.{cell-is, starts-room, starts-rise, starts-with
 use Rattle.grid.specs.declared.Built.{Built}
 use Rattle.grid.specs.Grid.{trianglesIn, gridOf, cellsIn, cellsOf, coverOf}
 use Rattle.grid.specs.Header.{headerOf, inRanges}
+use Rattle.grid.specs.Boxes.{boxesOf}
 use Rattle.grid.specs.Build.{Outcome, outcome, refusedBy, acceptedWith, unless, filledOf, gridded, buildOf}
 use Rattle.grid.specs.Index.{Index, indexOf, InGrid, BuiltFrom, SoundIndex, BuildPromise}
 use Rattle.grid.specs.Inside.{NearBox, Gridded}
 use Rattle.grid.proofs.Gridding.{within}
+use Rattle.grid.proofs.Boxing.{boxes-length, boxes-at}
 use Rattle.grid.proofs.Accepting.{Accepted, accepted, Passed, passed}
 
 two-million-is : twoMillion ≡ two
@@ -35,7 +37,7 @@ from : (a e k : ℕ) → a ≤ k → k ≤ e → isFrom a e k ≡ true
 unfolding isFrom
 from a e k h l = rw (le-leb a k h, le-leb k e l)
 
-module _ (mesh : List Float) (floor r : Float) (a : Accepted mesh floor r) where
+module _ (mesh : List Float) (floor r : Float) (x : List Float) (a : Accepted mesh floor r x) where
   across : (i : ℕ) → i < trianglesIn mesh → Ordered (extentOf mesh (trianglesIn mesh) .left) (boxOf mesh i .«low_x») (boxOf mesh i .«high_x») (extentOf mesh (trianglesIn mesh) .right)
   across = ordered-x mesh (a .numbers) (trianglesIn mesh) (omega (arith, a .nine))
 
@@ -110,7 +112,8 @@ module _ (mesh : List Float) (floor r : Float) (a : Accepted mesh floor r) where
     sound : SoundIndex
         (indexOf mesh (headerOf mesh (trianglesIn mesh) (gridOf mesh (trianglesIn mesh) r) floor r)
         (startsOf (coverOf mesh (gridOf mesh (trianglesIn mesh) r)) (trianglesIn mesh) (cellsIn (gridOf mesh (trianglesIn mesh) r)) s)
-        (membersTable (coverOf mesh (gridOf mesh (trianglesIn mesh) r)) (trianglesIn mesh) (cellsIn (gridOf mesh (trianglesIn mesh) r)) m))
+        (membersTable (coverOf mesh (gridOf mesh (trianglesIn mesh) r)) (trianglesIn mesh) (cellsIn (gridOf mesh (trianglesIn mesh) r)) m)
+        (boxesOf mesh (trianglesIn mesh)))
     unfolding headerOf
     sound =
         let g = gridOf mesh (trianglesIn mesh) r in
@@ -125,44 +128,56 @@ module _ (mesh : List Float) (floor r : Float) (a : Accepted mesh floor r) where
           cell = cell-is (coverOf mesh g) n (cellsIn g) s m;
           once = λ c i k h. rw (cell-is (coverOf mesh g) n (cellsIn g) s m c k) (once (coverOf mesh g) c n i h);
           below = λ c j k h. let e = cell-is (coverOf mesh g) n (cellsIn g) s m c k in rw e (member-of (coverOf mesh g) c n j (rw e at h) .0);
+          five = boxes-length mesh n;
+          boxed = boxes-at mesh n;
           lies = lies;
         }
 
 -- ---- back from an answer that is no refusal
-unless-then : (k p : ℕ) (s m : List ℕ) (next : Outcome) (Q : Outcome → Type 0) → (k ≡ 0 → next .built .refusal ≡ 0 → Q next) → unless k p s m next .built .refusal ≡ 0 → Q (unless k p s m next)
+unless-then : (k p : ℕ) (s m : List ℕ) (x : List Float) (next : Outcome) (Q : Outcome → Type 0) → (k ≡ 0 → next .built .refusal ≡ 0 → Q next)
+    → unless k p s m x next .built .refusal ≡ 0 → Q (unless k p s m x next)
 unfolding unless refusedBy
-unless-then k p s m next Q f e =
+unless-then k p s m x next Q f e =
     by-test (eqb k 0)
     (λ t. rw t (f (eqb-true k 0 t) (rw t at e)))
     (λ t. let g : k ≡ 0 → ⊥ = eqb-false k 0 t in absurd (g (rw t at e)))
 
-module _ (mesh : List Float) (floor r : Float) (s m : List ℕ) where
+module _ (mesh : List Float) (floor r : Float) (s m : List ℕ) (x : List Float) where
   abbrev Left : Outcome → Type 0
-  Left o = SoundIndex (indexOf mesh (o .built .header) (o .starts) (o .members)) × (o .built ≡ acceptedWith (o .built .header))
+  Left o = SoundIndex (indexOf mesh (o .built .header) (o .starts) (o .members) (o .boxes)) × (o .built ≡ acceptedWith (o .built .header))
 
-  whole : buildOf mesh floor r s m .built .refusal ≡ 0 → Left (buildOf mesh floor r s m)
+  whole : buildOf mesh floor r s m x .built .refusal ≡ 0 → Left (buildOf mesh floor r s m x)
   unfolding buildOf gridded filledOf acceptedWith
   whole =
-      unless-then _ _ s m _ Left
-      (λ x.
-      unless-then _ _ s m _ Left
+      unless-then _ _ s m x _ Left
+      (λ w.
+      unless-then _ _ s m x _ Left
       (λ y.
-      unless-then _ _ s m _ Left
-      (λ z e. (sound mesh floor r (accepted mesh floor r x) s m (passed _ _ _ y), refl))))
+      unless-then _ _ s m x _ Left
+      (λ z e. (sound mesh floor r x (accepted mesh floor r x w) s m (passed _ _ _ y), refl))))
 
-  built-left : (o : Outcome) → o ≡ buildOf mesh floor r s m → o .built .refusal ≡ 0 → Left o
+  built-left : (o : Outcome) → o ≡ buildOf mesh floor r s m x → o .built .refusal ≡ 0 → Left o
   built-left o p = subst (λ (o : Outcome). o .built .refusal ≡ 0 → Left o) (sym p) whole
 
-  pub build-promise : (b : Built) (s′ m′ : List ℕ) → outcome b s′ m′ ≡ buildOf mesh floor r s m → BuildPromise (indexOf mesh (b .header) s′ m′) (b .refusal)
-  build-promise b s′ m′ e =
+  pub build-promise : (b : Built) (s′ m′ : List ℕ) (x′ : List Float) → outcome b s′ m′ x′ ≡ buildOf mesh floor r s m x
+      → BuildPromise (indexOf mesh (b .header) s′ m′ x′) (b .refusal)
+  build-promise b s′ m′ x′ e =
       record {
         built = λ z.
-            record { floor = floor; r = r; oldStarts = s; oldMembers = m; built = sym e ∙ ap (λ (x : Built). outcome x s′ m′) (built-left (outcome b s′ m′) e z .1) };
-        sound = λ z. built-left (outcome b s′ m′) e z .0;
+            record {
+              floor = floor;
+              r = r;
+              oldStarts = s;
+              oldMembers = m;
+              oldBoxes = x;
+              built = sym e ∙ ap (λ (v : Built). outcome v s′ m′ x′) (built-left (outcome b s′ m′ x′) e z .1);
+            };
+        sound = λ z. built-left (outcome b s′ m′ x′) e z .0;
       }
 
 -- the index that `build` makes of its mesh is sound
 pub index-sound : (ix : Index) → BuiltFrom ix → SoundIndex ix
 unfolding acceptedWith
 index-sound ix b =
-    built-left (ix .mesh) (b .floor) (b .r) (b .oldStarts) (b .oldMembers) (outcome (acceptedWith (ix .header)) (ix .starts) (ix .members)) (sym (b .built)) refl .0
+    built-left (ix .mesh) (b .floor) (b .r) (b .oldStarts) (b .oldMembers) (b .oldBoxes)
+    (outcome (acceptedWith (ix .header)) (ix .starts) (ix .members) (ix .boxes)) (sym (b .built)) refl .0

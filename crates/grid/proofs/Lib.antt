@@ -1,4 +1,5 @@
 pub mod Ladder
 pub mod Gridding
+pub mod Boxing
 pub mod Accepting
 pub mod Indexing

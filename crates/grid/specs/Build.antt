@@ -1,4 +1,4 @@
--- Document 01, "Refusal numbers": refusals 1, 3, 2, 4, 5 and 6 in this order, and what the builder answers and leaves in both tables.
+-- Document 01, "Refusal numbers": refusals 1, 23, 3, 2, 4, 5 and 6 in this order, and what the builder answers and leaves in its three tables.
 use mathlib.Core.Bool.{Bool, true, false, cond}
 use mathlib.Core.List.{List}
 use Prim.Native.Nat.{ℕ, _+_, _*_, _/_, _%_}
@@ -14,6 +14,7 @@ use Rattle.grid.specs.declared.Grid.{Grid}
 use Rattle.grid.specs.declared.Header.{Header}
 use Rattle.grid.specs.declared.Built.{Built}
 use Rattle.grid.specs.Grid.{trianglesIn, gridOf, cellsIn, coverOf}
+use Rattle.grid.specs.Boxes.{isBoxed, boxesOf}
 use Rattle.grid.specs.Header.{headerOf}
 use Rattle.grid.specs.Ladder.{refuse, demand}
 
@@ -39,13 +40,14 @@ refusalOfNumbers mesh floor r =
     (demand (isNowhere (firstBad mesh)) 4
     0))
 
--- 1: mesh not a multiple of 9 or over 65,536 triangles. 3: mesh empty.
-unfoldable pub refusalOfMesh : List Float → Float → Float → ℕ
-refusalOfMesh mesh floor r =
+-- 1: mesh not a multiple of 9 or over 65,536 triangles. 23: box table not five numbers a triangle. 3: mesh empty.
+unfoldable pub refusalOfMesh : List Float → Float → Float → List Float → ℕ
+refusalOfMesh mesh floor r x =
     demand (eqb (length mesh % 9) 0) 1
     (refuse (ltb 65536 (trianglesIn mesh)) 1
+    (demand (isBoxed mesh x) 23
     (refuse (eqb (trianglesIn mesh) 0) 3
-    (refusalOfNumbers mesh floor r)))
+    (refusalOfNumbers mesh floor r))))
 
 -- 5: columns or rows over 65,536, cells over 1,048,576, or cells + 1 over the lent starts.
 unfoldable pub refusalOfGrid : ℕ → ℕ → ℕ → ℕ
@@ -63,15 +65,16 @@ refusalOfMembers k lent =
     (refuse (ltb lent k) 6
     0)
 
--- What the builder leaves: its answer and both tables.
+-- What the builder leaves: its answer and the tables of starts, members and boxes.
 pub record Outcome : Type 0 where
   pub built : Built
   pub starts : List ℕ
   pub members : List ℕ
+  pub boxes : List Float
 
--- The three together.
-abbrev pub outcome : Built → List ℕ → List ℕ → Outcome
-outcome b s m = record { built = b; starts = s; members = m }
+-- The four together.
+abbrev pub outcome : Built → List ℕ → List ℕ → List Float → Outcome
+outcome b s m x = record { built = b; starts = s; members = m; boxes = x }
 
 -- The answer of a refused build: its number, a header all zero, and of the number p that is told the triangle and which of its nine it is.
 unfoldable pub refusedBy : ℕ → ℕ → Built
@@ -87,24 +90,24 @@ refusedBy k p =
 unfoldable pub acceptedWith : Header → Built
 acceptedWith h = record { refusal = 0; triangle = 0; number = 0; header = h }
 
--- Refused by k, telling number p, with both tables untouched; where k is 0, what comes next.
-unfoldable pub unless : ℕ → ℕ → List ℕ → List ℕ → Outcome → Outcome
-unless k p s m next = cond (eqb k 0) next (outcome (refusedBy k p) s m)
+-- Refused by k, telling number p, with all tables untouched; where k is 0, what comes next.
+unfoldable pub unless : ℕ → ℕ → List ℕ → List ℕ → List Float → Outcome → Outcome
+unless k p s m x next = cond (eqb k 0) next (outcome (refusedBy k p) s m x)
 
--- Refusal 6, or the header and both tables.
-unfoldable pub filledOf : List Float → ℕ → Grid → Float → Float → List ℕ → List ℕ → Outcome
-filledOf mesh n g floor r s m =
+-- Refusal 6, or the header and the tables.
+unfoldable pub filledOf : List Float → ℕ → Grid → Float → Float → List ℕ → List ℕ → List Float → Outcome
+filledOf mesh n g floor r s m x =
     let on = coverOf mesh g in
-    unless (refusalOfMembers (startOf on n (cellsIn g)) (length m)) 0 s m
-    (outcome (acceptedWith (headerOf mesh n g floor r)) (startsOf on n (cellsIn g) s) (membersTable on n (cellsIn g) m))
+    unless (refusalOfMembers (startOf on n (cellsIn g)) (length m)) 0 s m x
+    (outcome (acceptedWith (headerOf mesh n g floor r)) (startsOf on n (cellsIn g) s) (membersTable on n (cellsIn g) m) (boxesOf mesh n))
 
 -- Refusal 5, then as above.
-unfoldable pub gridded : List Float → ℕ → Grid → Float → Float → List ℕ → List ℕ → Outcome
-gridded mesh n g floor r s m = unless (refusalOfGrid (g .columns) (g .rows) (length s)) 0 s m (filledOf mesh n g floor r s m)
+unfoldable pub gridded : List Float → ℕ → Grid → Float → Float → List ℕ → List ℕ → List Float → Outcome
+gridded mesh n g floor r s m x = unless (refusalOfGrid (g .columns) (g .rows) (length s)) 0 s m x (filledOf mesh n g floor r s m x)
 
--- The builder: refusals 1, 3, 2 and 4, then as above.
-unfoldable pub buildOf : List Float → Float → Float → List ℕ → List ℕ → Outcome
-buildOf mesh floor r s m =
+-- The builder: refusals 1, 23, 3, 2 and 4, then as above.
+unfoldable pub buildOf : List Float → Float → Float → List ℕ → List ℕ → List Float → Outcome
+buildOf mesh floor r s m x =
     let n = trianglesIn mesh in
-    let k = refusalOfMesh mesh floor r in
-    unless k (toldWith k mesh) s m (gridded mesh n (gridOf mesh n r) floor r s m)
+    let k = refusalOfMesh mesh floor r x in
+    unless k (toldWith k mesh) s m x (gridded mesh n (gridOf mesh n r) floor r s m x)

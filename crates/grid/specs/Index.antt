@@ -6,24 +6,27 @@ use mathlib.Core.Path.{_≡_}
 use Prim.Native.Nat.{ℕ, _+_, _*_, _≤_, _<_}
 use lib.ListN.{length, getD}
 use lib.Ieee.{Float}
+use Rattle.spans.specs.Mesh.{boxOf}
 use Rattle.spans.specs.Inside.{AllGood}
 use Rattle.cells.specs.Cover.{Cover, membersOf, stretch, weight, times}
 use Rattle.cells.specs.declared.Cells.{Cells}
 use Rattle.grid.specs.declared.Grid.{Grid}
 use Rattle.grid.specs.declared.Header.{Header}
 use Rattle.grid.specs.Grid.{cellsIn, cellsOf, coverOf}
+use Rattle.grid.specs.Boxes.{boxAt}
 use Rattle.grid.specs.Header.{gridIn, inRanges}
 use Rattle.grid.specs.Build.{buildOf, acceptedWith, outcome}
 
--- What a question is handed to look things up in: a mesh, the header, and the two tables.
+-- What a question is handed to look things up in: a mesh, the header, and the tables of starts, members and boxes.
 pub record Index : Type 0 where
   pub mesh : List Float
   pub header : Header
   pub starts : List ℕ
   pub members : List ℕ
+  pub boxes : List Float
 
-abbrev pub indexOf : List Float → Header → List ℕ → List ℕ → Index
-indexOf mesh h starts members = record { mesh = mesh; header = h; starts = starts; members = members }
+abbrev pub indexOf : List Float → Header → List ℕ → List ℕ → List Float → Index
+indexOf mesh h starts members boxes = record { mesh = mesh; header = h; starts = starts; members = members; boxes = boxes }
 
 -- Which triangle of its mesh covers which cell of its grid.
 abbrev pub coversOf : Index → Cover
@@ -36,7 +39,8 @@ pub record BuiltFrom (ix : Index) : Type 0 where
   pub r : Float
   pub oldStarts : List ℕ
   pub oldMembers : List ℕ
-  pub built : buildOf (ix .mesh) floor r oldStarts oldMembers ≡ outcome (acceptedWith (ix .header)) (ix .starts) (ix .members)
+  pub oldBoxes : List Float
+  pub built : buildOf (ix .mesh) floor r oldStarts oldMembers oldBoxes ≡ outcome (acceptedWith (ix .header)) (ix .starts) (ix .members) (ix .boxes)
 
 -- ---- what follows for an index that is built from its mesh
 
@@ -67,6 +71,9 @@ pub record SoundIndex (ix : Index) : Type 0 where
   -- and each is below n
   pub below : (c j : ℕ) → c < cellsIn (gridIn (ix .header)) → j < length (stretch (ix .starts) (ix .members) c)
       → getD (stretch (ix .starts) (ix .members) c) j 0 < ix .header .n
+  -- five numbers a triangle in the box table, and they are the triangle's box
+  pub five : length (ix .boxes) ≡ ix .header .n * 5
+  pub boxed : (i : ℕ) → i < ix .header .n → boxAt (ix .boxes) i ≡ boxOf (ix .mesh) i
   -- each triangle covers a cell, and none outside the grid
   pub lies : (i : ℕ) → i < ix .header .n → InGrid (gridIn (ix .header)) (cellsOf (ix .mesh) (gridIn (ix .header)) i)
 

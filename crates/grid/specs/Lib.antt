@@ -1,5 +1,6 @@
 pub mod Ladder
 pub mod Grid
+pub mod Boxes
 pub mod Header
 pub mod Build
 pub mod Index

@@ -1,4 +1,4 @@
-// The index of a mesh: a grid over it, and for each cell the triangles that cover it, in two lent tables.
+// The index of a mesh: a grid over it, and for each cell the triangles that cover it, in two lent tables; and the box of each triangle in a third.
 ghost use mathlib.Core.Path.{_≡_};
 ghost use Prim.Native.Nat.{_+_, _*_, _/_, _^_, _<_, _≤_};
 ghost use lib.ListN.{length};
@@ -8,6 +8,7 @@ ghost use Rattle.cells.specs.Cover.{startsOf, membersTable};
 ghost use Rattle.cells.specs.Inside.{Room, CountedAll, Ready, Filled, Fits};
 ghost use Rattle.grid.specs.Grid.{trianglesIn, gridOf, cellsIn, cellsOf, coverOf, totalOf};
 ghost use Rattle.grid.specs.Header.{headerOf};
+ghost use Rattle.grid.specs.Boxes.{boxAt, isBoxed, boxesOf};
 ghost use Rattle.grid.specs.Build.{toldWith, refusalOfNumbers, refusalOfMesh, refusalOfGrid, refusalOfMembers};
 ghost use Rattle.grid.specs.Build.{outcome, refusedBy, filledOf, gridded, buildOf};
 ghost use Rattle.grid.specs.Index.{indexOf, BuildPromise};
@@ -50,19 +51,27 @@ struct Reason {
     place: u32,
 }
 
-// The index of a mesh: starts and members hold its tables, and entries that they do not need stay. A refused call changes neither.
-pub fn build(mesh: &[f64], floor: f64, r: f64, starts: &mut [u32], members: &mut [u32]) -> Built
-    ensures { λ b. ⌜ outcome b (now (starts .exit)) (now (members .exit))
-        ≡ buildOf (now (mesh .entry)) floor r (now (starts .entry)) (now (members .entry)) ⌝ }
-    ensures { λ b. ⌜ BuildPromise (indexOf (now (mesh .entry)) (b .header) (now (starts .exit)) (now (members .exit))) (b .refusal) ⌝ }
+// The index of a mesh: starts, members and boxes hold its tables, and entries that the first two do not need stay. A refused call changes none.
+pub fn build(
+    mesh: &[f64],
+    floor: f64,
+    r: f64,
+    starts: &mut [u32],
+    members: &mut [u32],
+    boxes: &mut [f64],
+) -> Built
+    ensures { λ b. ⌜ outcome b (now (starts .exit)) (now (members .exit)) (now (boxes .exit))
+        ≡ buildOf (now (mesh .entry)) floor r (now (starts .entry)) (now (members .entry)) (now (boxes .entry)) ⌝ }
+    ensures { λ b. ⌜ BuildPromise
+        (indexOf (now (mesh .entry)) (b .header) (now (starts .exit)) (now (members .exit)) (now (boxes .exit))) (b .refusal) ⌝ }
 {
-    let w = refusal_of_mesh(mesh, floor, r);
+    let w = refusal_of_mesh(mesh, floor, r, boxes);
     let k = w.refusal;
     let place = w.place;
     if k != 0 {
         return refused(k, place);
     }
-    build_grid(mesh, floor, r, starts, members)
+    build_grid(mesh, floor, r, starts, members, boxes)
 }
 
 // The answer of a refused call that tells one number of the mesh.
@@ -88,9 +97,32 @@ fn refused(k: u32, place: u32) -> Built
     }
 }
 
-// Refusals 1, 3, 2 and 4.
-fn refusal_of_mesh(mesh: &[f64], floor: f64, r: f64) -> Reason
-    ensures { λ w. ⌜ (w .refusal ≡ refusalOfMesh (now (mesh .entry)) floor r) × (w .place ≡ toldWith (w .refusal) (now (mesh .entry))) ⌝ }
+// The box of triangle i, as the table has it.
+pub fn box_at(boxes: &[f64], i: usize) -> plane::Bounds
+    requires { ⌜ 5 * i + 5 ≤ length (now boxes) ⌝ }
+    ensures { λ b. ⌜ b ≡ boxAt (now (boxes .entry)) i ⌝ }
+{
+    let k = 5 * i;
+    plane::Bounds {
+        low_x: boxes[k],
+        low_y: boxes[k + 1],
+        high_x: boxes[k + 2],
+        high_y: boxes[k + 3],
+        top: boxes[k + 4],
+    }
+}
+
+// Whether a table is five numbers for each triangle of a mesh.
+pub fn is_boxed(mesh: &[f64], boxes: &[f64]) -> bool
+    ensures { λ b. ⌜ b ≡ isBoxed (now (mesh .entry)) (now (boxes .entry)) ⌝ }
+{
+    boxes.len() == mesh.len() / 9 * 5
+}
+
+// Refusals 1, 23, 3, 2 and 4.
+fn refusal_of_mesh(mesh: &[f64], floor: f64, r: f64, boxes: &[f64]) -> Reason
+    ensures { λ w. ⌜ (w .refusal ≡ refusalOfMesh (now (mesh .entry)) floor r (now (boxes .entry)))
+        × (w .place ≡ toldWith (w .refusal) (now (mesh .entry))) ⌝ }
 {
     if mesh.len() % 9 != 0 {
         return Reason {
@@ -102,6 +134,12 @@ fn refusal_of_mesh(mesh: &[f64], floor: f64, r: f64) -> Reason
     if 65536 < n {
         return Reason {
             refusal: 1,
+            place: 0,
+        };
+    }
+    if !is_boxed(mesh, boxes) {
+        return Reason {
+            refusal: 23,
             place: 0,
         };
     }
@@ -196,12 +234,19 @@ fn refusal_of_members(k: usize, lent: usize) -> u32
     0
 }
 
-// The index of a mesh that refusals 1 to 4 pass.
-fn build_grid(mesh: &[f64], floor: f64, r: f64, starts: &mut [u32], members: &mut [u32]) -> Built
-    requires { ⌜ refusalOfMesh (now mesh) floor r ≡ 0 ⌝ }
-    ensures { λ b. ⌜ outcome b (now (starts .exit)) (now (members .exit))
+// The index of a mesh that refusals 1, 23, 3, 2 and 4 pass.
+fn build_grid(
+    mesh: &[f64],
+    floor: f64,
+    r: f64,
+    starts: &mut [u32],
+    members: &mut [u32],
+    boxes: &mut [f64],
+) -> Built
+    requires { ⌜ refusalOfMesh (now mesh) floor r (now boxes) ≡ 0 ⌝ }
+    ensures { λ b. ⌜ outcome b (now (starts .exit)) (now (members .exit)) (now (boxes .exit))
         ≡ gridded (now (mesh .entry)) (trianglesIn (now (mesh .entry))) (gridOf (now (mesh .entry)) (trianglesIn (now (mesh .entry))) r) floor r
-        (now (starts .entry)) (now (members .entry)) ⌝ }
+        (now (starts .entry)) (now (members .entry)) (now (boxes .entry)) ⌝ }
 {
     let n = mesh.len() / 9;
     let g = grid_of(mesh, n, r);
@@ -209,7 +254,7 @@ fn build_grid(mesh: &[f64], floor: f64, r: f64, starts: &mut [u32], members: &mu
     if k != 0 {
         return refused(k, 0);
     }
-    fill_grid(mesh, n, g, floor, r, starts, members)
+    fill_grid(mesh, n, g, floor, r, starts, members, boxes)
 }
 
 // The tables of a grid, or refusal 6.
@@ -221,23 +266,36 @@ fn fill_grid(
     r: f64,
     starts: &mut [u32],
     members: &mut [u32],
+    boxes: &mut [f64],
 ) -> Built
     requires { ⌜ Gridded (now mesh) n g ⌝ }
-    requires { ⌜ cellsIn g + 1 ≤ length (now starts) ⌝ }
-    ensures { λ b. ⌜ outcome b (now (starts .exit)) (now (members .exit))
-        ≡ filledOf (now (mesh .entry)) n g floor r (now (starts .entry)) (now (members .entry)) ⌝ }
+    requires { ⌜ (cellsIn g + 1 ≤ length (now starts)) × (length (now boxes) ≡ n * 5) ⌝ }
+    ensures { λ b. ⌜ outcome b (now (starts .exit)) (now (members .exit)) (now (boxes .exit))
+        ≡ filledOf (now (mesh .entry)) n g floor r (now (starts .entry)) (now (members .entry)) (now (boxes .entry)) ⌝ }
 {
     let k = refusal_of_members(total(mesh, n, g), members.len());
     if k != 0 {
         return refused(k, 0);
     }
     tables(mesh, n, g, starts, members);
+    fill_boxes(mesh, n, boxes);
     let header = header_of(mesh, n, g, floor, r);
     Built {
         refusal: 0,
         triangle: 0,
         number: 0,
         header,
+    }
+}
+
+// The box of each of n triangles, put into the table.
+fn fill_boxes(mesh: &[f64], n: usize, boxes: &mut [f64])
+    requires { ⌜ (n * 9 ≤ length (now mesh)) × (length (now boxes) ≡ n * 5) × AllGood (now mesh) ⌝ }
+    ensures { λ _. ⌜ now (boxes .exit) ≡ boxesOf (now (mesh .entry)) n ⌝ }
+{
+    for i in 0..n {
+        let b = spans::box_of(mesh, i);
+        fives::put(boxes, i, b.low_x, b.low_y, b.high_x, b.high_y, b.top);
     }
 }
 

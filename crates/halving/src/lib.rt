@@ -24,19 +24,20 @@ pub fn halve(
     h: Header,
     starts: &[u32],
     members: &[u32],
+    boxes: &[f64],
     marks: &mut [u32],
     runs: &mut [f64],
     a: Aim,
     r: Run,
     s: Stand,
 ) -> Stand
-    requires { ⌜ Askable (indexOf (now mesh) h (now starts) (now members)) × Marked (h .n) (s .stamp) (now marks) ⌝ }
+    requires { ⌜ Askable (indexOf (now mesh) h (now starts) (now members) (now boxes)) × Marked (h .n) (s .stamp) (now marks) ⌝ }
     ensures { λ e. ⌜ (work (now (runs .exit)) (e .tally)
         ≡ takenAll (work (now (runs .entry)) (s .tally))
-        (piecesOf (clear (heightUnder (indexOf (now (mesh .entry)) h (now (starts .entry)) (now (members .entry)))) a) (a .least) 32 r))
+        (piecesOf (clear (heightUnder (indexOf (now (mesh .entry)) h (now (starts .entry)) (now (members .entry)) (now (boxes .entry)))) a) (a .least) 32 r))
         × Marked (h .n) (e .stamp) (now (marks .exit))
-        × Whole (clear (heightUnder (indexOf (now (mesh .entry)) h (now (starts .entry)) (now (members .entry)))) a) r
-        (piecesOf (clear (heightUnder (indexOf (now (mesh .entry)) h (now (starts .entry)) (now (members .entry)))) a) (a .least) 32 r) ⌝ }
+        × Whole (clear (heightUnder (indexOf (now (mesh .entry)) h (now (starts .entry)) (now (members .entry)) (now (boxes .entry)))) a) r
+        (piecesOf (clear (heightUnder (indexOf (now (mesh .entry)) h (now (starts .entry)) (now (members .entry)) (now (boxes .entry)))) a) (a .least) 32 r) ⌝ }
 {
     let z = r.z;
     let mut bx = [0.0; 33];
@@ -60,7 +61,7 @@ pub fn halve(
             z,
         };
         let k = left[t];
-        let j = probe::judge(mesh, h, starts, members, marks, stamp, a, piece, k);
+        let j = probe::judge(mesh, h, starts, members, boxes, marks, stamp, a, piece, k);
         stamp = j.stamp;
         if j.split {
             let half = runs::first_half(piece);

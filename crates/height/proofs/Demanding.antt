@@ -7,6 +7,10 @@ use Prim.Native.Nat.{ℕ, _<_}
 use native.Mathlib.Omega.{arith}
 use Rattle.cells.specs.Cover.{times}
 use Rattle.walk.specs.Walk.{walked}
+use Rattle.plane.specs.declared.Bounds.{Bounds}
+use Rattle.plane.specs.Mesh.{triangleOf, topOf, boundsOf}
+use Rattle.spans.specs.Mesh.{boxOf}
+use Rattle.grid.specs.Boxes.{boxAt}
 use Rattle.grid.specs.Index.{Index, BuiltFrom}
 use Rattle.grid.proofs.Indexing.{index-sound}
 use Rattle.query.specs.Looked.{Shares, lookedIn}
@@ -26,15 +30,17 @@ module _ (ix : Index) (marks : List ℕ) (stamp : ℕ) (s : Sweep) (a : Answer) 
   demand-3 : BuiltFrom ix → a .refusal ≡ 0 → Demand3 ix (patchFor (ix .header) s) (capsuleFor (ix .header) s) (lookedIn ix marks stamp (patchFor (ix .header) s)) a
   unfolding maxHeightOf walked lookedIn
   demand-3 b z =
+      let sound = index-sound ix b in
+      let top-is : (k : ℕ) → k < ix .header .n → boxAt (ix .boxes) k .top ≡ topOf (triangleOf (ix .mesh) k) = λ k l. unfold boxOf boundsOf in ap (λ (u : Bounds). u .top) (sound .boxed k l) in
       let p = patchFor (ix .header) s in
       let i = patch-inside (ix .header) (s .px) (s .py) (s .qx) (s .qy) (s .r) in
       let q = capsuleFor (ix .header) s in
       let is = lookedIn ix marks stamp p in
-      let w = height-walked (isSweep s) true ix marks stamp p (i .0) (i .1) (diskStep (ix .mesh) q) a m e z in
-      let l = height-promise (isSweep s) true ix marks stamp p (i .0) (i .1) (diskStep (ix .mesh) q) a m e .looked b z in
+      let w = height-walked (isSweep s) true ix marks stamp p (i .0) (i .1) (diskStep (ix .mesh) (ix .boxes) q) a m e z in
+      let l = height-promise (isSweep s) true ix marks stamp p (i .0) (i .1) (diskStep (ix .mesh) (ix .boxes) q) a m e .looked b z in
       let c = passed _ _ _ _ _ _ (w .0) in
       let u = c .index-stands in
-      let shared = looks-shared ix marks stamp p (index-sound ix b) u (c .marked .nine) (i .0) (i .1) in
+      let shared = looks-shared ix marks stamp p sound u (c .marked .nine) (i .0) (i .1) in
       let real = coordinate-real (ix .header .floor) (usable-head ix marks stamp p u .ranged .floor) in
       let v = ap (λ (o : Outcome Answer). toldBy (o .answer)) (w .1) in
       let y = ap (λ (o : Outcome Answer). o .answer .height) (w .1) in
@@ -44,10 +50,10 @@ module _ (ix : Index) (marks : List ℕ) (stamp : ℕ) (s : Sweep) (a : Answer) 
         height = rw v
             (⊎-elim inl
             (λ o. inr (record { above = o .above; ofThem = shared _ (o .looked); computed = o .computed }))
-            (fold-is (ix .mesh) q is (atFloor (ix .header .floor)) real));
+            (fold-is (ix .mesh) (ix .boxes) q is (atFloor (ix .header .floor)) real));
         none = λ k t z touch g above higher.
             let n : 0 < times k is = omega (arith, l .looks .each k t) in
-            fold-none (ix .mesh) q is (atFloor (ix .header .floor)) real k n z touch g (rw y at above) (rw y at higher);
+            fold-none (ix .mesh) (ix .boxes) q is (atFloor (ix .header .floor)) real k n z touch g (rw (y, ← top-is k (t .triangle)) at above) (rw y at higher);
       }
 
   pub disk-promise : DiskPromise ix marks stamp s a

@@ -17,8 +17,8 @@ use Rattle.plane.specs.declared.Touch.{Touch}
 use Rattle.plane.specs.declared.Contact.{Contact}
 use Rattle.plane.specs.declared.Contact.the-variants.{Nothing, Height}
 use Rattle.plane.specs.Contacts.{exceedsOf}
-use Rattle.plane.specs.Mesh.{triangleOf, topOf}
 use Rattle.walk.specs.declared.Best.{Best}
+use Rattle.grid.specs.Boxes.{boxAt}
 use Rattle.walk.specs.Walk.{fold}
 use Rattle.capsule.specs.declared.Capsule.{Capsule}
 use Rattle.ask.specs.Ask.{raisedTo, raisedBy}
@@ -51,20 +51,20 @@ beside : (z : Float) (b : Best) (e : Bool) → Real b → lt (b .height) z ≡ e
 unfolding exceedsOf
 beside z b e n l = rw (n, l)
 
-module _ (mesh : List Float) (q : Capsule) where
+module _ (mesh boxes : List Float) (q : Capsule) where
   -- a triangle that is skipped, or has no contact, or one that is not above, leaves the best; else the best is its contact, and names it
   record Skipped (b : Best) (i : ℕ) : Type 0 where
-    same : diskStep mesh q b i ≡ b
-    why : (z : Float) (t : Touch) → heightOf mesh q i ≡ Height z t → (le (topOf (triangleOf mesh i)) (b .height) ≡ true) ⊎ (lt (b .height) z ≡ false)
+    same : diskStep mesh boxes q b i ≡ b
+    why : (z : Float) (t : Touch) → heightOf mesh q i ≡ Height z t → (le (boxAt boxes i .top) (b .height) ≡ true) ⊎ (lt (b .height) z ≡ false)
 
   record Raised (b : Best) (i : ℕ) : Type 0 where
     height : Float
     touch : Touch
     met : heightOf mesh q i ≡ Height height touch
-    new : diskStep mesh q b i ≡ record { height = height; triangle = i; kind = touch .kind; which = touch .which }
+    new : diskStep mesh boxes q b i ≡ record { height = height; triangle = i; kind = touch .kind; which = touch .which }
     above : lt (b .height) height ≡ true
 
-  by-contact : (b : Best) (i : ℕ) (k : Contact) → Real b → heightOf mesh q i ≡ k → diskStep mesh q b i ≡ raisedBy k i b → Skipped b i ⊎ Raised b i
+  by-contact : (b : Best) (i : ℕ) (k : Contact) → Real b → heightOf mesh q i ≡ k → diskStep mesh boxes q b i ≡ raisedBy k i b → Skipped b i ⊎ Raised b i
   unfolding raisedBy raisedTo
   by-contact b i Nothing n e f = inl (record { same = f; why = λ z t g. absurd (none z t (sym e ∙ g)) })
     where
@@ -78,20 +78,20 @@ module _ (mesh : List Float) (q : Capsule) where
   step-is : (b : Best) (i : ℕ) → Real b → Skipped b i ⊎ Raised b i
   unfolding diskStep
   step-is b i n =
-      by-test (le (topOf (triangleOf mesh i)) (b .height))
+      by-test (le (boxAt boxes i .top) (b .height))
       (λ e. inl (record { same = rw e; why = λ z t g. inl e }))
       (λ e. by-contact b i (heightOf mesh q i) n refl (rw e))
 
-  step-rises : (b : Best) (i : ℕ) → Real b → Rises b (diskStep mesh q b i) × Real (diskStep mesh q b i)
+  step-rises : (b : Best) (i : ℕ) → Real b → Rises b (diskStep mesh boxes q b i) × Real (diskStep mesh boxes q b i)
   step-rises b i n =
       ⊎-elim (λ s. (inl (s .same), rw (s .same) n)) (λ r. (inr (rw (r .new) (r .above)), rw (r .new) (lt-number (b .height) _ (r .above)))) (step-is b i n)
 
-  fold-rises : (is : List ℕ) (b : Best) → Real b → Rises b (fold (diskStep mesh q) b is)
+  fold-rises : (is : List ℕ) (b : Best) → Real b → Rises b (fold (diskStep mesh boxes q) b is)
   unfolding fold
   fold-rises [] b n = inl refl
   fold-rises (i ∷ is) b n =
       let s = step-rises b i n in
-      rises-trans b (diskStep mesh q b i) _ (s .0) (fold-rises is (diskStep mesh q b i) (s .1))
+      rises-trans b (diskStep mesh boxes q b i) _ (s .0) (fold-rises is (diskStep mesh boxes q b i) (s .1))
 
   -- where it ends: at the floor, or above it at the contact of a triangle of the list, which it names
   pub record One (is : List ℕ) (b v : Best) : Type 0 where
@@ -99,27 +99,27 @@ module _ (mesh : List Float) (q : Capsule) where
     pub looked : 0 < times (v .triangle) is
     pub computed : heightOf mesh q (v .triangle) ≡ Height (v .height) (record { kind = v .kind; which = v .which })
 
-  one-of : (i : ℕ) (is : List ℕ) (b : Best) → Raised b i → (v : Best) → v ≡ diskStep mesh q b i → One (i ∷ is) b v
+  one-of : (i : ℕ) (is : List ℕ) (b : Best) → Raised b i → (v : Best) → v ≡ diskStep mesh boxes q b i → One (i ∷ is) b v
   unfolding times
   one-of i is b r v e =
       let f = e ∙ r .new in
       rw f (record { above = r .above; looked = rw (eq-eqb i i refl) (omega arith); computed = r .met })
 
-  pub fold-is : (is : List ℕ) (b : Best) → Real b → (fold (diskStep mesh q) b is ≡ b) ⊎ One is b (fold (diskStep mesh q) b is)
+  pub fold-is : (is : List ℕ) (b : Best) → Real b → (fold (diskStep mesh boxes q) b is ≡ b) ⊎ One is b (fold (diskStep mesh boxes q) b is)
   unfolding fold times
   fold-is [] b n = inl refl
   fold-is (i ∷ is) b n =
       let r = step-rises b i n in
       ⊎-elim
       (λ e. ⊎-elim (λ s. inl (e ∙ s .same)) (λ s. inr (one-of i is b s _ e)) (step-is b i n))
-      (λ o. inr (record { above = under b (diskStep mesh q b i) _ (r .0) (o .above); looked = omega (arith, o .looked); computed = o .computed }))
-      (fold-is is (diskStep mesh q b i) (r .1))
+      (λ o. inr (record { above = under b (diskStep mesh boxes q b i) _ (r .0) (o .above); looked = omega (arith, o .looked); computed = o .computed }))
+      (fold-is is (diskStep mesh boxes q b i) (r .1))
 
   -- the triangle that was just looked at: its top or its height is not above what the walk ends at
-  last-none : (is : List ℕ) (b : Best) → Real b → (i : ℕ) (z : Float) (t : Touch) → heightOf mesh q i ≡ Height z t → lt (fold (diskStep mesh q) (diskStep mesh q b i) is .height) (topOf (triangleOf mesh i)) ≡ true → lt (fold (diskStep mesh q) (diskStep mesh q b i) is .height) z ≡ true → ⊥
+  last-none : (is : List ℕ) (b : Best) → Real b → (i : ℕ) (z : Float) (t : Touch) → heightOf mesh q i ≡ Height z t → lt (fold (diskStep mesh boxes q) (diskStep mesh boxes q b i) is .height) (boxAt boxes i .top) ≡ true → lt (fold (diskStep mesh boxes q) (diskStep mesh boxes q b i) is .height) z ≡ true → ⊥
   last-none is b n i z touch g above higher =
       let r = step-rises b i n in
-      let f = fold-rises is (diskStep mesh q b i) (r .1) in
+      let f = fold-rises is (diskStep mesh boxes q b i) (r .1) in
       ⊎-elim
       (λ s.
       ⊎-elim (λ t. le-not-lt _ (b .height) t (under b _ _ (r .0) (under _ _ _ f above)))
@@ -128,7 +128,7 @@ module _ (mesh : List Float) (q : Capsule) where
       (λ s. lt-never-same z (rw (s .new, height-is _ z _ touch (sym (s .met) ∙ g)) at (under _ _ z f higher)))
       (step-is b i n)
 
-  pub fold-none : (is : List ℕ) (b : Best) → Real b → (i : ℕ) → 0 < times i is → (z : Float) (touch : Touch) → heightOf mesh q i ≡ Height z touch → lt (fold (diskStep mesh q) b is .height) (topOf (triangleOf mesh i)) ≡ true → lt (fold (diskStep mesh q) b is .height) z ≡ true → ⊥
+  pub fold-none : (is : List ℕ) (b : Best) → Real b → (i : ℕ) → 0 < times i is → (z : Float) (touch : Touch) → heightOf mesh q i ≡ Height z touch → lt (fold (diskStep mesh boxes q) b is .height) (boxAt boxes i .top) ≡ true → lt (fold (diskStep mesh boxes q) b is .height) z ≡ true → ⊥
   unfolding fold times
   fold-none [] b n i t z touch g above higher = absurd (omega arith)
   fold-none (j ∷ is) b n i t z touch g above higher =
@@ -136,4 +136,4 @@ module _ (mesh : List Float) (q : Capsule) where
       (λ e.
       let k : j ≡ i = sym (eqb-true i j e) in
       last-none is b n i z touch g (rw k at above) (rw k at higher))
-      (λ e. fold-none is (diskStep mesh q b j) (step-rises b j n .1) i (omega (arith, rw e at t)) z touch g above higher)
+      (λ e. fold-none is (diskStep mesh boxes q b j) (step-rises b j n .1) i (omega (arith, rw e at t)) z touch g above higher)

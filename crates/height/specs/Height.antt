@@ -17,7 +17,7 @@ arePoints px py qx qy = isPoint px && (isPoint py && (isPoint qx && isPoint qy))
 unfoldable pub isSweep : Sweep → Bool
 isSweep s = arePoints (s .px) (s .py) (s .qx) (s .qy) && isRadius (s .r)
 
--- max_height: 1, 2 and 7, since a disk has no corner and no section that 8 could refuse; reach is the radius.
+-- max_height: 1, 23, 2 and 7, since a disk has no corner and no section that 8 could refuse; reach is the radius.
 unfoldable pub maxHeightOf : Index → List ℕ → ℕ → Sweep → Outcome Answer
 maxHeightOf ix marks stamp s =
-    askedHeight (isSweep s) true (diskStep (ix .mesh) (capsuleFor (ix .header) s)) ix marks stamp (patchFor (ix .header) s)
+    askedHeight (isSweep s) true (diskStep (ix .mesh) (ix .boxes) (capsuleFor (ix .header) s)) ix marks stamp (patchFor (ix .header) s)

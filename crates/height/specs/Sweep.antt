@@ -4,7 +4,7 @@ use mathlib.Core.List.{List}
 use Prim.Native.Nat.{ℕ}
 use lib.Ieee.{Float, le}
 use Rattle.plane.specs.declared.Contact.{Contact}
-use Rattle.plane.specs.Mesh.{triangleOf, topOf}
+use Rattle.plane.specs.Mesh.{triangleOf}
 use Rattle.capsule.specs.declared.Capsule.{Capsule}
 use Rattle.capsule.specs.Region.{capsuleOf}
 use Rattle.capsule.specs.Candidates.{highestIn}
@@ -12,6 +12,7 @@ use Rattle.walk.specs.declared.Best.{Best}
 use Rattle.walk.specs.Walk.{Walk, walked, nextStamp}
 use Rattle.walk.specs.Inside.{Walkable}
 use Rattle.grid.specs.declared.Header.{Header}
+use Rattle.grid.specs.Boxes.{boxAt}
 use Rattle.grid.specs.Index.{Index}
 use Rattle.query.specs.declared.Patch.{Patch}
 use Rattle.query.specs.Patch.{patchOf}
@@ -42,14 +43,14 @@ capsuleFor h s = capsuleOf (s .px) (s .py) (s .qx) (s .qy) (s .r) (h .eps)
 unfoldable pub heightOf : List Float → Capsule → ℕ → Contact
 heightOf mesh q i = highestIn q (triangleOf mesh i)
 
--- One triangle of the walk: it counts only where its top is above the best so far.
-unfoldable pub diskStep : List Float → Capsule → Best → ℕ → Best
-diskStep mesh q best i = cond (le (topOf (triangleOf mesh i)) (best .height)) best (raisedBy (heightOf mesh q i) i best)
+-- One triangle of the walk: it counts only where its top, as the box table has it, is above the best so far.
+unfoldable pub diskStep : List Float → List Float → Capsule → Best → ℕ → Best
+diskStep mesh boxes q best i = cond (le (boxAt boxes i .top) (best .height)) best (raisedBy (heightOf mesh q i) i best)
 
 -- The walk with a capsule over the cells p: it begins at the header's floor, with the next stamp.
 unfoldable pub capsuleWalk : Index → List ℕ → ℕ → Capsule → Patch → Walk Best
 capsuleWalk ix marks stamp q p =
-    walked (nextStamp stamp) (diskStep (ix .mesh) q) (begun marks stamp (atFloor (ix .header .floor))) (within ix p)
+    walked (nextStamp stamp) (diskStep (ix .mesh) (ix .boxes) q) (begun marks stamp (atFloor (ix .header .floor))) (within ix p)
 
 -- The walk of a sweep.
 unfoldable pub sweepWalk : Index → List ℕ → ℕ → Sweep → Walk Best

@@ -29,6 +29,7 @@ pub fn max_height(
     h: Header,
     starts: &[u32],
     members: &[u32],
+    boxes: &[f64],
     marks: &mut [u32],
     stamp: u32,
     px: f64,
@@ -38,13 +39,13 @@ pub fn max_height(
     r: f64,
 ) -> Answer
     ensures { λ a. ⌜ ended a (now (marks .exit))
-        ≡ maxHeightOf (indexOf (now (mesh .entry)) h (now (starts .entry)) (now (members .entry))) (now (marks .entry)) stamp (sweep px py qx qy r) ⌝ }
-    ensures { λ a. ⌜ DiskPromise (indexOf (now (mesh .entry)) h (now (starts .entry)) (now (members .entry)))
+        ≡ maxHeightOf (indexOf (now (mesh .entry)) h (now (starts .entry)) (now (members .entry)) (now (boxes .entry))) (now (marks .entry)) stamp (sweep px py qx qy r) ⌝ }
+    ensures { λ a. ⌜ DiskPromise (indexOf (now (mesh .entry)) h (now (starts .entry)) (now (members .entry)) (now (boxes .entry)))
         (now (marks .entry)) stamp (sweep px py qx qy r) a ⌝ }
 {
     let p = query::patch_of(h, px, py, qx, qy, r);
     let asked = is_sweep(px, py, qx, qy, r);
-    let n = ask::refusal(mesh, h, starts, members, marks, stamp, p, asked, true);
+    let n = ask::refusal(mesh, h, starts, members, boxes, marks, stamp, p, asked, true);
     if n != 0 {
         return Answer {
             refusal: n,
@@ -61,6 +62,7 @@ pub fn max_height(
         h,
         starts,
         members,
+        boxes,
         marks,
         stamp,
         capsule::capsule_of(px, py, qx, qy, r, h.eps),
@@ -84,6 +86,7 @@ pub fn swept_height(
     h: Header,
     starts: &[u32],
     members: &[u32],
+    boxes: &[f64],
     marks: &mut [u32],
     stamp: u32,
     px: f64,
@@ -93,9 +96,10 @@ pub fn swept_height(
     r: f64,
 ) -> Swept
     requires { ⌜ (length (now mesh) ≡ length (now marks) * 9) × (length (now marks) ≤ 65536)
-        × Sweepable (indexOf (now mesh) h (now starts) (now members)) (length (now marks)) (patchFor h (sweep px py qx qy r)) ⌝ }
+        × Sweepable (indexOf (now mesh) h (now starts) (now members) (now boxes)) (length (now marks)) (patchFor h (sweep px py qx qy r))
+        × (length (now boxes) ≡ length (now marks) * 5) ⌝ }
     ensures { λ s. ⌜ (walkLeft s (now (marks .exit))
-        ≡ sweepWalk (indexOf (now (mesh .entry)) h (now (starts .entry)) (now (members .entry))) (now (marks .entry)) stamp (sweep px py qx qy r))
+        ≡ sweepWalk (indexOf (now (mesh .entry)) h (now (starts .entry)) (now (members .entry)) (now (boxes .entry))) (now (marks .entry)) stamp (sweep px py qx qy r))
         × (s .stamp ≡ nextStamp stamp) ⌝ }
 {
     let p = query::patch_of(h, px, py, qx, qy, r);
@@ -104,6 +108,7 @@ pub fn swept_height(
         h,
         starts,
         members,
+        boxes,
         marks,
         stamp,
         capsule::capsule_of(px, py, qx, qy, r, h.eps),
@@ -147,15 +152,17 @@ fn sweep_in(
     h: Header,
     starts: &[u32],
     members: &[u32],
+    boxes: &[f64],
     marks: &mut [u32],
     stamp: u32,
     q: Capsule,
     p: Patch,
 ) -> Swept
     requires { ⌜ (length (now mesh) ≡ length (now marks) * 9) × (length (now marks) ≤ 65536)
-        × Sweepable (indexOf (now mesh) h (now starts) (now members)) (length (now marks)) p ⌝ }
+        × Sweepable (indexOf (now mesh) h (now starts) (now members) (now boxes)) (length (now marks)) p
+        × (length (now boxes) ≡ length (now marks) * 5) ⌝ }
     ensures { λ s. ⌜ (walkLeft s (now (marks .exit))
-        ≡ capsuleWalk (indexOf (now (mesh .entry)) h (now (starts .entry)) (now (members .entry))) (now (marks .entry)) stamp q p)
+        ≡ capsuleWalk (indexOf (now (mesh .entry)) h (now (starts .entry)) (now (members .entry)) (now (boxes .entry))) (now (marks .entry)) stamp q p)
         × (s .stamp ≡ nextStamp stamp) ⌝ }
 {
     let columns = h.columns;
@@ -169,7 +176,7 @@ fn sweep_in(
         },
     };
     let next = walk::next_stamp(marks, stamp);
-    let found = visit(mesh, starts, members, marks, next, columns, p, q, first);
+    let found = visit(mesh, starts, members, boxes, marks, next, columns, p, q, first);
     let best = found.best;
     Swept {
         best,
@@ -179,21 +186,30 @@ fn sweep_in(
 }
 
 // The best so far with triangle i.
-fn raise(mesh: &[f64], q: Capsule, best: Best, i: u32) -> Best
-    requires { ⌜ 9 * i + 9 ≤ length (now mesh) ⌝ }
-    ensures { λ r. ⌜ r ≡ diskStep (now (mesh .entry)) q best i ⌝ }
+fn raise(mesh: &[f64], boxes: &[f64], q: Capsule, best: Best, i: u32) -> Best
+    requires { ⌜ (9 * i + 9 ≤ length (now mesh)) × (5 * i + 5 ≤ length (now boxes)) ⌝ }
+    ensures { λ r. ⌜ r ≡ diskStep (now (mesh .entry)) (now (boxes .entry)) q best i ⌝ }
 {
-    let t = plane::triangle_at(mesh, i as usize);
-    if plane::top(t) <= best.height {
+    let b = grid::box_at(boxes, i as usize);
+    if b.top <= best.height {
         return best;
     }
-    ask::raise_by(capsule::highest_in(q, t), i, best)
+    ask::raise_by(capsule::highest_in(q, plane::triangle_at(mesh, i as usize)), i, best)
 }
 
 // Looks at triangle i, unless its mark is the stamp.
-fn look_at(mesh: &[f64], marks: &mut [u32], stamp: u32, q: Capsule, s: Seen, i: u32) -> Seen
-    requires { ⌜ (length (now mesh) ≡ length (now marks) * 9) × (i < length (now marks)) × Room stamp (seen (now marks) s) ⌝ }
-    ensures { λ r. ⌜ seen (now (marks .exit)) r ≡ look stamp (diskStep (now (mesh .entry)) q) (seen (now (marks .entry)) s) i ⌝ }
+fn look_at(
+    mesh: &[f64],
+    boxes: &[f64],
+    marks: &mut [u32],
+    stamp: u32,
+    q: Capsule,
+    s: Seen,
+    i: u32,
+) -> Seen
+    requires { ⌜ (length (now mesh) ≡ length (now marks) * 9) × (i < length (now marks)) × Room stamp (seen (now marks) s)
+        × (length (now boxes) ≡ length (now marks) * 5) ⌝ }
+    ensures { λ r. ⌜ seen (now (marks .exit)) r ≡ look stamp (diskStep (now (mesh .entry)) (now (boxes .entry)) q) (seen (now (marks .entry)) s) i ⌝ }
 {
     let count = s.count;
     let best = s.best;
@@ -202,25 +218,27 @@ fn look_at(mesh: &[f64], marks: &mut [u32], stamp: u32, q: Capsule, s: Seen, i: 
     }
     Seen {
         count: count + 1,
-        best: raise(mesh, q, best, i),
+        best: raise(mesh, boxes, q, best, i),
     }
 }
 
 // The step over one cell: looks at each of its numbers.
 fn visit_cell(
     mesh: &[f64],
+    boxes: &[f64],
     part: &[u32],
     marks: &mut [u32],
     stamp: u32,
     q: Capsule,
     s: Seen,
 ) -> Seen
-    requires { ⌜ (length (now mesh) ≡ length (now marks) * 9) × Below (length (now marks)) (now part) × Room stamp (seen (now marks) s) ⌝ }
-    ensures { λ r. ⌜ seen (now (marks .exit)) r ≡ fold (look stamp (diskStep (now (mesh .entry)) q)) (seen (now (marks .entry)) s) (now (part .entry)) ⌝ }
+    requires { ⌜ (length (now mesh) ≡ length (now marks) * 9) × Below (length (now marks)) (now part) × Room stamp (seen (now marks) s)
+        × (length (now boxes) ≡ length (now marks) * 5) ⌝ }
+    ensures { λ r. ⌜ seen (now (marks .exit)) r ≡ fold (look stamp (diskStep (now (mesh .entry)) (now (boxes .entry)) q)) (seen (now (marks .entry)) s) (now (part .entry)) ⌝ }
 {
     let mut found = s;
     for j in 0..part.len() {
-        found = look_at(mesh, marks, stamp, q, found, part[j]);
+        found = look_at(mesh, boxes, marks, stamp, q, found, part[j]);
     }
     found
 }
@@ -230,6 +248,7 @@ fn visit(
     mesh: &[f64],
     starts: &[u32],
     members: &[u32],
+    boxes: &[f64],
     marks: &mut [u32],
     stamp: u32,
     columns: usize,
@@ -239,9 +258,9 @@ fn visit(
 ) -> Seen
     requires { ⌜ (length (now mesh) ≡ length (now marks) * 9)
         × Walkable (now starts) (now members) (length (now marks)) columns (p .x0) (p .x1) (p .y0) (p .y1)
-        × Room stamp (seen (now marks) s) ⌝ }
+        × Room stamp (seen (now marks) s) × (length (now boxes) ≡ length (now marks) * 5) ⌝ }
     ensures { λ r. ⌜ seen (now (marks .exit)) r
-        ≡ fold (look stamp (diskStep (now (mesh .entry)) q)) (seen (now (marks .entry)) s)
+        ≡ fold (look stamp (diskStep (now (mesh .entry)) (now (boxes .entry)) q)) (seen (now (marks .entry)) s)
         (block (now (starts .entry)) (now (members .entry)) columns (p .x0) (p .x1) (p .y0) (p .y1)) ⌝ }
 {
     let x0 = p.x0;
@@ -252,7 +271,7 @@ fn visit(
     for y in y0..y1 {
         for x in x0..x1 {
             let part = walk::stretch(starts, members, y * columns + x);
-            found = visit_cell(mesh, part, marks, stamp, q, found);
+            found = visit_cell(mesh, boxes, part, marks, stamp, q, found);
         }
     }
     found

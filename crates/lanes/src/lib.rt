@@ -28,6 +28,7 @@ pub fn search_levels(
     h: Header,
     starts: &[u32],
     members: &[u32],
+    boxes: &[f64],
     marks: &mut [u32],
     runs: &mut [f64],
     p: Parameters,
@@ -35,10 +36,10 @@ pub fn search_levels(
     levels: &[f64],
     count: usize,
 ) -> Tally
-    requires { ⌜ Askable (indexOf (now mesh) h (now starts) (now members)) × Marked (h .n) 0 (now marks) × (count * 5 ≤ length (now levels))
+    requires { ⌜ Askable (indexOf (now mesh) h (now starts) (now members) (now boxes)) × Marked (h .n) 0 (now marks) × (count * 5 ≤ length (now levels))
         × (count ≤ 65536) × (anyOf (tooFine p axis (h .r)) (levelsIn (now levels) 0 count) ≡ false) ⌝ }
     ensures { λ y. ⌜ Searched (now (runs .entry)) (levelsFound
-        (heightUnder (indexOf (now (mesh .entry)) h (now (starts .entry)) (now (members .entry)))) p axis (h .r) (record { rows = 0; pieces = [] })
+        (heightUnder (indexOf (now (mesh .entry)) h (now (starts .entry)) (now (members .entry)) (now (boxes .entry)))) p axis (h .r) (record { rows = 0; pieces = [] })
         (levelsIn (now (levels .entry)) 0 count)) (now (runs .exit)) y × (length (now (marks .exit)) ≡ h .n) ⌝ }
 {
     let mut stand = Stand {
@@ -51,6 +52,7 @@ pub fn search_levels(
             h,
             starts,
             members,
+            boxes,
             marks,
             runs,
             p,
@@ -69,6 +71,7 @@ fn search_level(
     h: Header,
     starts: &[u32],
     members: &[u32],
+    boxes: &[f64],
     marks: &mut [u32],
     runs: &mut [f64],
     p: Parameters,
@@ -76,10 +79,10 @@ fn search_level(
     level: Level,
     s: Stand,
 ) -> Stand
-    requires { ⌜ Askable (indexOf (now mesh) h (now starts) (now members)) × Marked (h .n) (s .stamp) (now marks) × Coarse p axis (h .r) level
+    requires { ⌜ Askable (indexOf (now mesh) h (now starts) (now members) (now boxes)) × Marked (h .n) (s .stamp) (now marks) × Coarse p axis (h .r) level
         × (s .tally .rows ≤ 4294967296) ⌝ }
     ensures { λ e. ⌜ (work (now (runs .exit)) (e .tally)
-        ≡ levelTaken (heightUnder (indexOf (now (mesh .entry)) h (now (starts .entry)) (now (members .entry)))) p axis (h .r)
+        ≡ levelTaken (heightUnder (indexOf (now (mesh .entry)) h (now (starts .entry)) (now (members .entry)) (now (boxes .entry)))) p axis (h .r)
         (work (now (runs .entry)) (s .tally)) level) × Marked (h .n) (e .stamp) (now (marks .exit)) ⌝ }
 {
     let r = h.r;
@@ -92,6 +95,7 @@ fn search_level(
             h,
             starts,
             members,
+            boxes,
             marks,
             runs,
             a,
@@ -108,16 +112,17 @@ fn search_row(
     h: Header,
     starts: &[u32],
     members: &[u32],
+    boxes: &[f64],
     marks: &mut [u32],
     runs: &mut [f64],
     a: Aim,
     l: Lane,
     s: Stand,
 ) -> Stand
-    requires { ⌜ Askable (indexOf (now mesh) h (now starts) (now members)) × Marked (h .n) (s .stamp) (now marks) × (l .samples ≤ 65535)
+    requires { ⌜ Askable (indexOf (now mesh) h (now starts) (now members) (now boxes)) × Marked (h .n) (s .stamp) (now marks) × (l .samples ≤ 65535)
         × (s .tally .rows < 8589934592) ⌝ }
     ensures { λ e. ⌜ (work (now (runs .exit)) (e .tally)
-        ≡ laneTaken (heightUnder (indexOf (now (mesh .entry)) h (now (starts .entry)) (now (members .entry)))) a l
+        ≡ laneTaken (heightUnder (indexOf (now (mesh .entry)) h (now (starts .entry)) (now (members .entry)) (now (boxes .entry)))) a l
         (work (now (runs .entry)) (s .tally))) × Marked (h .n) (e .stamp) (now (marks .exit)) ⌝ }
 {
     let t = s.tally;
@@ -127,6 +132,7 @@ fn search_row(
         h,
         starts,
         members,
+        boxes,
         marks,
         runs,
         a,

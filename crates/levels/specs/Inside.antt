@@ -7,6 +7,7 @@ use lib.ListN.{set}
 use Rattle.numbers.specs.Reals.{num}
 use Rattle.plane.specs.Mesh.{triangleOf}
 use Rattle.plane.specs.declared.Triangle.{Triangle}
+use Rattle.plane.specs.declared.Bounds.{Bounds}
 use Rattle.fives.specs.Tables.{putAt}
 use Rattle.levels.specs.Flats.{isFlat}
 use Rattle.levels.specs.Levels.{openedBy, joinsLevel, widenedBy, fiveOf}
@@ -34,10 +35,10 @@ abbrev pub grown : List Float → Group → Grown
 grown t g = record { table = t; group = g }
 
 -- One triangle more.
-unfoldable pub grownBy : Float → List Float → Group → Triangle → Grown
-grownBy levelTolerance t g i =
-    cond (joinsLevel levelTolerance (g .level) i) (grown t (record { level = widenedBy (g .level) i; count = g .count }))
-    (grown (putAt t (g .count) (fiveOf (g .level))) (record { level = openedBy i; count = g .count + 1 }))
+unfoldable pub grownBy : Float → List Float → Group → Triangle → Bounds → Grown
+grownBy levelTolerance t g i b =
+    cond (joinsLevel levelTolerance (g .level) i) (grown t (record { level = widenedBy (g .level) b; count = g .count }))
+    (grown (putAt t (g .count) (fiveOf (g .level))) (record { level = openedBy i b; count = g .count + 1 }))
 
 -- Level m of a table.
 abbrev pub levelIn : List Float → ℕ → Level

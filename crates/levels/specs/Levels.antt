@@ -5,25 +5,26 @@ use Prim.Native.Nat.{ℕ}
 use lib.Ieee.{Float, le}
 use lib.ListN.{length, drop}
 use Rattle.numbers.specs.Reals.{num, _⊕_, _⊖_, minOf, maxOf}
-use Rattle.plane.specs.Mesh.{triangleOf, boundsOf}
+use Rattle.plane.specs.Mesh.{triangleOf}
 use Rattle.plane.specs.declared.Triangle.{Triangle}
+use Rattle.plane.specs.declared.Bounds.{Bounds}
+use Rattle.grid.specs.Boxes.{boxAt}
 use Rattle.fives.specs.Groups.{grouped}
 use Rattle.sort.specs.Ranks.{before, sortedBy}
 use Rattle.levels.specs.Flats.{flatsOf}
 use Rattle.levels.specs.declared.Level.{Level}
 
--- The level that a triangle opens: its z, and its box.
-unfoldable pub openedBy : Triangle → Level
-openedBy t = let b = boundsOf t in record { z = t .az; «low_x» = b .«low_x»; «low_y» = b .«low_y»; «high_x» = b .«high_x»; «high_y» = b .«high_y» }
+-- The level that a triangle with the box b opens: its z, and its box.
+unfoldable pub openedBy : Triangle → Bounds → Level
+openedBy t b = record { z = t .az; «low_x» = b .«low_x»; «low_y» = b .«low_y»; «high_x» = b .«high_x»; «high_y» = b .«high_y» }
 
 -- A triangle joins the current level if level z - its z <= level tolerance.
 unfoldable pub joinsLevel : Float → Level → Triangle → Bool
 joinsLevel levelTolerance l t = le (l .z ⊖ t .az) levelTolerance
 
--- The level that a triangle has joined: level z is the group's first; the box grows.
-unfoldable pub widenedBy : Level → Triangle → Level
-widenedBy l t =
-    let b = boundsOf t in
+-- The level that a triangle with the box b has joined: level z is the group's first; the box grows.
+unfoldable pub widenedBy : Level → Bounds → Level
+widenedBy l b =
     record {
       z = l .z;
       «low_x» = minOf (l .«low_x») (b .«low_x»);
@@ -32,10 +33,10 @@ widenedBy l t =
       «high_y» = maxOf (l .«high_y») (b .«high_y»);
     }
 
--- The levels of triangles, in the order of their numbers in a list.
-unfoldable pub levelsFrom : List Float → Float → List ℕ → List Level
-levelsFrom mesh levelTolerance is =
-    grouped (λ l i. joinsLevel levelTolerance l (triangleOf mesh i)) (λ l i. widenedBy l (triangleOf mesh i)) (λ i. openedBy (triangleOf mesh i)) is
+-- The levels of triangles, in the order of their numbers in a list, with their boxes as the box table has them.
+unfoldable pub levelsFrom : List Float → List Float → Float → List ℕ → List Level
+levelsFrom mesh boxes levelTolerance is =
+    grouped (λ l i. joinsLevel levelTolerance l (triangleOf mesh i)) (λ l i. widenedBy l (boxAt boxes i)) (λ i. openedBy (triangleOf mesh i) (boxAt boxes i)) is
 
 -- The flat triangles of a mesh of n, sorted by z falling, equal ones in mesh order.
 unfoldable pub sortedFlats : List Float → ℕ → Float → Float → Float → List ℕ
@@ -47,8 +48,8 @@ listLeft mesh n tolerance levelTolerance floor list =
     sortedFlats mesh n tolerance levelTolerance floor ++ drop (length (flatsOf mesh tolerance (floor ⊕ levelTolerance) n)) list
 
 -- The levels of a mesh of n triangles.
-unfoldable pub levelsOf : List Float → ℕ → Float → Float → Float → List Level
-levelsOf mesh n tolerance levelTolerance floor = levelsFrom mesh levelTolerance (sortedFlats mesh n tolerance levelTolerance floor)
+unfoldable pub levelsOf : List Float → List Float → ℕ → Float → Float → Float → List Level
+levelsOf mesh boxes n tolerance levelTolerance floor = levelsFrom mesh boxes levelTolerance (sortedFlats mesh n tolerance levelTolerance floor)
 
 -- A level's five numbers.
 abbrev pub fiveOf : Level → List Float

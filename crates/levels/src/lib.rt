@@ -11,6 +11,7 @@ ghost use Rattle.sort.specs.Inside.{Within};
 ghost use Rattle.levels.specs.Flats.{nearTo, evenOf, answers, isFlat, flatsOf};
 ghost use Rattle.levels.specs.Levels.{openedBy, widenedBy, levelsFrom, sortedFlats, listLeft, levelsOf, fiveOf};
 ghost use Rattle.levels.specs.Inside.{listed, gatheredOne, grown, grownBy, levelIn};
+use plane::Bounds;
 use plane::Spot;
 use plane::Triangle;
 
@@ -33,21 +34,24 @@ pub struct Group {
 // left in front of the list.
 pub fn find_levels(
     mesh: &[f64],
+    boxes: &[f64],
     list: &mut [u32],
     tolerance: f64,
     level_tolerance: f64,
     floor: f64,
     levels: &mut [f64],
 ) -> usize
-    requires { ⌜ (length (now mesh) ≡ length (now list) * 9) × (length (now list) ≤ 65536) ⌝ }
-    ensures { λ r. ⌜ (now (levels .exit) ≡ written (map fiveOf (levelsOf (now (mesh .entry)) (length (now (list .entry))) tolerance «level_tolerance» floor)) (now (levels .entry)))
-        × (r ≡ length (levelsOf (now (mesh .entry)) (length (now (list .entry))) tolerance «level_tolerance» floor))
+    requires { ⌜ (length (now mesh) ≡ length (now list) * 9) × (length (now list) ≤ 65536) × (length (now boxes) ≡ length (now list) * 5) ⌝ }
+    ensures { λ r. ⌜ (now (levels .exit)
+        ≡ written (map fiveOf (levelsOf (now (mesh .entry)) (now (boxes .entry)) (length (now (list .entry))) tolerance «level_tolerance» floor))
+        (now (levels .entry)))
+        × (r ≡ length (levelsOf (now (mesh .entry)) (now (boxes .entry)) (length (now (list .entry))) tolerance «level_tolerance» floor))
         × (now (list .exit) ≡ listLeft (now (mesh .entry)) (length (now (list .entry))) tolerance «level_tolerance» floor (now (list .entry))) ⌝ }
 {
     let n = list.len();
     let k = gather(mesh, n, list, tolerance, floor + level_tolerance);
     sort::sort(mesh, n, list, k);
-    collect(mesh, n, list, k, level_tolerance, levels)
+    collect(mesh, boxes, n, list, k, level_tolerance, levels)
 }
 
 // Level m of a table.
@@ -142,49 +146,55 @@ fn bary_answers(t: Triangle) -> bool
 // The levels of the first k numbers of the list written to a table, and how many there are.
 fn collect(
     mesh: &[f64],
+    boxes: &[f64],
     n: usize,
     list: &[u32],
     k: usize,
     level_tolerance: f64,
     levels: &mut [f64],
 ) -> usize
-    requires { ⌜ (n * 9 ≤ length (now mesh)) × Within n k (now list) × (k ≤ 65536) ⌝ }
-    ensures { λ r. ⌜ (now (levels .exit) ≡ written (map fiveOf (levelsFrom (now (mesh .entry)) «level_tolerance» (take k (now (list .entry))))) (now (levels .entry))) × (r ≡ length (levelsFrom (now (mesh .entry)) «level_tolerance» (take k (now (list .entry))))) ⌝ }
+    requires { ⌜ (n * 9 ≤ length (now mesh)) × Within n k (now list) × (k ≤ 65536) × (n * 5 ≤ length (now boxes)) ⌝ }
+    ensures { λ r. ⌜ (now (levels .exit)
+        ≡ written (map fiveOf (levelsFrom (now (mesh .entry)) (now (boxes .entry)) «level_tolerance» (take k (now (list .entry))))) (now (levels .entry)))
+        × (r ≡ length (levelsFrom (now (mesh .entry)) (now (boxes .entry)) «level_tolerance» (take k (now (list .entry))))) ⌝ }
 {
     if k == 0 {
         return 0;
     }
+    let first = list[0] as usize;
     let mut g = Group {
-        level: opened_by(plane::triangle_at(mesh, list[0] as usize)),
+        level: opened_by(plane::triangle_at(mesh, first), grid::box_at(boxes, first)),
         count: 0,
     };
     for j in 1..k {
+        let i = list[j] as usize;
         g = grow(
             level_tolerance,
             levels,
             g,
-            plane::triangle_at(mesh, list[j] as usize),
+            plane::triangle_at(mesh, i),
+            grid::box_at(boxes, i),
         );
     }
     close(levels, g)
 }
 
 // One triangle more: it joins the open level, or that one is written and it opens the next.
-fn grow(level_tolerance: f64, levels: &mut [f64], g: Group, t: Triangle) -> Group
+fn grow(level_tolerance: f64, levels: &mut [f64], g: Group, t: Triangle, b: Bounds) -> Group
     requires { ⌜ g .count < 65536 ⌝ }
-    ensures { λ r. ⌜ grown (now (levels .exit)) r ≡ grownBy «level_tolerance» (now (levels .entry)) g t ⌝ }
+    ensures { λ r. ⌜ grown (now (levels .exit)) r ≡ grownBy «level_tolerance» (now (levels .entry)) g t b ⌝ }
 {
     let level = g.level;
     let count = g.count;
     if level.z - t.az <= level_tolerance {
         return Group {
-            level: widened_by(level, t),
+            level: widened_by(level, b),
             count,
         };
     }
     close(levels, g);
     Group {
-        level: opened_by(t),
+        level: opened_by(t, b),
         count: count + 1,
     }
 }
@@ -200,11 +210,10 @@ fn close(levels: &mut [f64], g: Group) -> usize
     count + 1
 }
 
-// The level that a triangle opens.
-fn opened_by(t: Triangle) -> Level
-    ensures { λ r. ⌜ r ≡ openedBy t ⌝ }
+// The level that a triangle with the box b opens.
+fn opened_by(t: Triangle, b: Bounds) -> Level
+    ensures { λ r. ⌜ r ≡ openedBy t b ⌝ }
 {
-    let b = plane::bounds_of(t);
     Level {
         z: t.az,
         low_x: b.low_x,
@@ -214,11 +223,10 @@ fn opened_by(t: Triangle) -> Level
     }
 }
 
-// The level that a triangle has joined.
-fn widened_by(l: Level, t: Triangle) -> Level
-    ensures { λ r. ⌜ r ≡ widenedBy l t ⌝ }
+// The level that a triangle with the box b has joined.
+fn widened_by(l: Level, b: Bounds) -> Level
+    ensures { λ r. ⌜ r ≡ widenedBy l b ⌝ }
 {
-    let b = plane::bounds_of(t);
     Level {
         z: l.z,
         low_x: numbers::min(l.low_x, b.low_x),

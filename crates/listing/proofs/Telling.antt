@@ -49,23 +49,23 @@ module _ (ix : Index) (qs : List Float) (marks : List ℕ) (stamp m i : ℕ) whe
   unfolding answersOf
   answers-end l = let s : m - i ≡ 0 = omega arith in rw s
 
-pub take-replicate : (n k : ℕ) → n ≤ k → take {A = ℕ} n (replicate k 0) ≡ replicate n 0
-take-replicate zero k h = refl
-take-replicate (suc n) zero h = absurd (omega arith)
-take-replicate (suc n) (suc k) h = ap (λ (l : List ℕ). 0 ∷ l) (take-replicate n k (omega arith))
+pub take-replicate : {A : Type 0} (v : A) (n k : ℕ) → n ≤ k → take n (replicate k v) ≡ replicate n v
+take-replicate v zero k h = refl
+take-replicate v (suc n) zero h = absurd (omega arith)
+take-replicate v (suc n) (suc k) h = ap (λ (l : List _). v ∷ l) (take-replicate v n k (omega arith))
 
 -- ---- the listing of a job that was read, refused by the builder and not
-module _ (mesh qs : List Float) (floor radius : Float) (n m : ℕ) (b : Built) (starts members : List ℕ) (e : outcome b starts members ≡ buildOf mesh floor radius (replicate startRoom 0) (replicate memberRoom 0)) where
-  pub built-not : (b .refusal ≡ 0 → ⊥) → refusedLine (b .refusal) ≡ listedOf mesh qs floor radius n m
+module _ (mesh qs boxes₀ : List Float) (floor radius : Float) (n m : ℕ) (b : Built) (starts members : List ℕ) (boxes : List Float) (e : outcome b starts members boxes ≡ buildOf mesh floor radius (replicate startRoom 0) (replicate memberRoom 0) boxes₀) where
+  pub built-not : (b .refusal ≡ 0 → ⊥) → refusedLine (b .refusal) ≡ listedOf mesh qs boxes₀ floor radius n m
   unfolding listedOf
   built-not h = rw (← e) (left _ _ _ _ (ne-eqb (b .refusal) 0 h) refl)
 
-  built-is : b .refusal ≡ 0 → headLine n m (b .header .columns) (b .header .rows) ++ answersOf (indexOf mesh (b .header) starts members) qs (replicate n 0) 0 0 m ≡ listedOf mesh qs floor radius n m
+  built-is : b .refusal ≡ 0 → headLine n m (b .header .columns) (b .header .rows) ++ answersOf (indexOf mesh (b .header) starts members boxes) qs (replicate n 0) 0 0 m ≡ listedOf mesh qs boxes₀ floor radius n m
   unfolding listedOf
   built-is z = rw (← e) (taken _ _ _ _ (eq-eqb (b .refusal) 0 z) refl)
 
-  pub built-told : (k : ℕ) (o p q : List ℕ) (at r : ℕ) → n ≤ k → b .refusal ≡ 0 → Wrote o p 0 at (headLine n m (b .header .columns) (b .header .rows)) → Wrote p q at r (answersOf (indexOf mesh (b .header) starts members) qs (take n (replicate k 0)) 0 0 m) → Wrote o q 0 r (listedOf mesh qs floor radius n m)
-  built-told k o p q at r h z w v = as-well (built-is z) (w then (rw (take-replicate n k h) at v))
+  pub built-told : (k : ℕ) (o p q : List ℕ) (at r : ℕ) → n ≤ k → b .refusal ≡ 0 → Wrote o p 0 at (headLine n m (b .header .columns) (b .header .rows)) → Wrote p q at r (answersOf (indexOf mesh (b .header) starts members boxes) qs (take n (replicate k 0)) 0 0 m) → Wrote o q 0 r (listedOf mesh qs boxes₀ floor radius n m)
+  built-told k o p q at r h z w v = as-well (built-is z) (w then (rw (take-replicate {A = ℕ} 0 n k h) at v))
 
 -- ---- the listing of a job, refused by the reader and not
 module _ (bytes : List ℕ) (a : Read) (mesh qs : List Float) (e : job.ended a mesh qs ≡ job.readOf bytes (replicate meshRoom f0) (replicate questionRoom f0)) where
@@ -73,9 +73,9 @@ module _ (bytes : List ℕ) (a : Read) (mesh qs : List Float) (e : job.ended a m
   unfolding listingOf
   read-not h = rw (← e) (left _ _ _ _ (ne-eqb (a .refusal) 0 h) refl)
 
-  pub read-is : a .refusal ≡ 0 → listedOf (take (9 * a .n) mesh) (take (5 * a .m) qs) (a .floor) (a .radius) (a .n) (a .m) ≡ listingOf bytes
+  pub read-is : (k : ℕ) → 5 * a .n ≤ k → a .refusal ≡ 0 → listedOf (take (9 * a .n) mesh) (take (5 * a .m) qs) (take (5 * a .n) (replicate k f0)) (a .floor) (a .radius) (a .n) (a .m) ≡ listingOf bytes
   unfolding listingOf
-  read-is z = rw (← e) (taken _ _ _ _ (eq-eqb (a .refusal) 0 z) refl)
+  read-is k h z = rw (take-replicate f0 (5 * a .n) k h, ← e) (taken _ _ _ _ (eq-eqb (a .refusal) 0 z) refl)
 
 pub enough : (bytes : List ℕ) → Enough bytes
 unfolding listingOf

@@ -53,12 +53,12 @@ answersOf ix qs marks stamp i (suc c) =
 -- ---- the listing
 
 -- a job that was read: n triangles, m questions; marks and stamp begin at 0
-unfoldable pub listedOf : List Float → List Float → Float → Float → ℕ → ℕ → List ℕ
-listedOf mesh qs floor radius n m =
-    let b = buildOf mesh floor radius (replicate startRoom 0) (replicate memberRoom 0) in
+unfoldable pub listedOf : List Float → List Float → List Float → Float → Float → ℕ → ℕ → List ℕ
+listedOf mesh qs boxes floor radius n m =
+    let b = buildOf mesh floor radius (replicate startRoom 0) (replicate memberRoom 0) boxes in
     cond (eqb (b .built .refusal) 0)
     (headLine n m (b .built .header .columns) (b .built .header .rows)
-    ++ answersOf (indexOf mesh (b .built .header) (b .starts) (b .members)) qs (replicate n 0) 0 0 m)
+    ++ answersOf (indexOf mesh (b .built .header) (b .starts) (b .members) (b .boxes)) qs (replicate n 0) 0 0 m)
     (refusedLine (b .built .refusal))
 
 -- a job refused by reader or builder prints its refusal only
@@ -66,7 +66,7 @@ unfoldable pub listingOf : List ℕ → List ℕ
 listingOf bytes =
     let o = readOf bytes (replicate meshRoom f0) (replicate questionRoom f0) in
     cond (eqb (o .answer .refusal) 0)
-    (listedOf (take (9 * o .answer .n) (o .mesh)) (take (5 * o .answer .m) (o .questions)) (o .answer .floor) (o .answer .radius) (o .answer .n) (o .answer .m))
+    (listedOf (take (9 * o .answer .n) (o .mesh)) (take (5 * o .answer .m) (o .questions)) (replicate (5 * o .answer .n) f0) (o .answer .floor) (o .answer .radius) (o .answer .n) (o .answer .m))
     (refusedLine (o .answer .refusal))
 
 -- an input that begins with these bytes, of which there are no more than enough, has their listing

@@ -23,6 +23,7 @@ pub fn listing(bytes: &[u8], out: &mut [u8; TEXT]) -> usize
 {
     let mut mesh = [0.0; 2304];
     let mut questions = [0.0; 1280];
+    let mut boxes = [0.0; 1280];
     let a = job::read_job(bytes, &mut mesh, &mut questions);
     if a.refusal != 0 {
         return lines::refused_line(out, 0, a.refusal);
@@ -32,6 +33,7 @@ pub fn listing(bytes: &[u8], out: &mut [u8; TEXT]) -> usize
     listed(
         &mesh[..9 * n],
         &questions[..5 * m],
+        &mut boxes[..5 * n],
         a.floor,
         a.radius,
         n,
@@ -44,6 +46,7 @@ pub fn listing(bytes: &[u8], out: &mut [u8; TEXT]) -> usize
 fn listed(
     mesh: &[f64],
     questions: &[f64],
+    boxes: &mut [f64],
     floor: f64,
     radius: f64,
     n: usize,
@@ -51,11 +54,11 @@ fn listed(
     out: &mut [u8],
 ) -> usize
     requires { ⌜ (n ≤ 256) × (m ≤ 256) × (length (now questions) ≡ 5 * m) × (20570 ≤ length (now out)) ⌝ }
-    ensures { λ r. ⌜ Wrote (now (out .entry)) (now (out .exit)) 0 r (listedOf (now (mesh .entry)) (now (questions .entry)) floor radius n m) × (r ≤ 20570) ⌝ }
+    ensures { λ r. ⌜ Wrote (now (out .entry)) (now (out .exit)) 0 r (listedOf (now (mesh .entry)) (now (questions .entry)) (now (boxes .entry)) floor radius n m) × (r ≤ 20570) ⌝ }
 {
     let mut starts = [0; 513];
     let mut members = [0; 16384];
-    let b = grid::build(mesh, floor, radius, &mut starts, &mut members);
+    let b = grid::build(mesh, floor, radius, &mut starts, &mut members, boxes);
     if b.refusal != 0 {
         return lines::refused_line(out, 0, b.refusal);
     }
@@ -67,6 +70,7 @@ fn listed(
         h,
         &starts,
         &members,
+        boxes,
         questions,
         &mut marks[..n],
         m,
@@ -81,6 +85,7 @@ fn answers(
     h: Header,
     starts: &[u32],
     members: &[u32],
+    boxes: &[f64],
     questions: &[f64],
     marks: &mut [u32],
     m: usize,
@@ -89,13 +94,13 @@ fn answers(
 ) -> usize
     requires { ⌜ (length (now questions) ≡ 5 * m) × (at + 80 * m ≤ length (now out)) ⌝ }
     ensures { λ r. ⌜ Wrote (now (out .entry)) (now (out .exit)) at r
-        (answersOf (indexOf (now (mesh .entry)) h (now (starts .entry)) (now (members .entry))) (now (questions .entry)) (now (marks .entry)) 0 0 m)
+        (answersOf (indexOf (now (mesh .entry)) h (now (starts .entry)) (now (members .entry)) (now (boxes .entry))) (now (questions .entry)) (now (marks .entry)) 0 0 m)
         × (r ≤ at + 80 * m) ⌝ }
 {
     let mut stamp: u32 = 0;
     let mut end = at;
     for i in 0..m {
-        let a = asked(mesh, h, starts, members, marks, stamp, questions, i);
+        let a = asked(mesh, h, starts, members, boxes, marks, stamp, questions, i);
         stamp = a.stamp;
         end = lines::answer_line(out, end, i, a.refusal, a.height, a.count);
     }
@@ -108,13 +113,14 @@ fn asked(
     h: Header,
     starts: &[u32],
     members: &[u32],
+    boxes: &[f64],
     marks: &mut [u32],
     stamp: u32,
     questions: &[f64],
     i: usize,
 ) -> Answer
     requires { ⌜ 5 * i + 5 ≤ length (now questions) ⌝ }
-    ensures { λ a. ⌜ ended a (now (marks .exit)) ≡ askedOf (indexOf (now (mesh .entry)) h (now (starts .entry)) (now (members .entry)))
+    ensures { λ a. ⌜ ended a (now (marks .exit)) ≡ askedOf (indexOf (now (mesh .entry)) h (now (starts .entry)) (now (members .entry)) (now (boxes .entry)))
         (now (marks .entry)) stamp (now (questions .entry)) i ⌝ }
 {
     let k = 5 * i;
@@ -123,5 +129,5 @@ fn asked(
     let qx = questions[k + 2];
     let qy = questions[k + 3];
     let r = questions[k + 4];
-    height::max_height(mesh, h, starts, members, marks, stamp, px, py, qx, qy, r)
+    height::max_height(mesh, h, starts, members, boxes, marks, stamp, px, py, qx, qy, r)
 }

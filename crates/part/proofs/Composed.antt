@@ -45,52 +45,52 @@ module _ (bytes : List ℕ) (mesh : List Float) (o : reader.Outcome) (e : o ≡ 
   unfolding acceptedOf
   mesh-is = rw accepted (take-at (meshOf bytes) _ _ (row-length (numberOf bytes) 0 _))
 
-module _ (floor r : Float) (starts members marks : List ℕ) (stamp : ℕ) (s : Sweep) where
+module _ (floor r : Float) (starts members : List ℕ) (boxes : List Float) (marks : List ℕ) (stamp : ℕ) (s : Sweep) where
   -- ---- a mesh
-  module _ (mesh : List Float) (b : Built) (ss es : List ℕ) (e : outcome b ss es ≡ buildOf mesh floor r starts members) where
-    after : (x : Asked) → x ≡ askedAfter (outcome b ss es) mesh marks stamp s → x ≡ meshHeightOf mesh floor r starts members marks stamp s
+  module _ (mesh : List Float) (b : Built) (ss es : List ℕ) (xs : List Float) (e : outcome b ss es xs ≡ buildOf mesh floor r starts members boxes) where
+    after : (x : Asked) → x ≡ askedAfter (outcome b ss es xs) mesh marks stamp s → x ≡ meshHeightOf mesh floor r starts members boxes marks stamp s
     unfolding meshHeightOf
     after x p = p ∙ ap (λ (o : build.Outcome). askedAfter o mesh marks stamp s) e
 
     pub mesh-refused : (a : Answer) → (b .refusal ≡ 0 → ⊥) → a ≡ refusedBy (b .refusal) stamp
-        → (asked a ss es marks ≡ meshHeightOf mesh floor r starts members marks stamp s) × (a .refusal ≡ 0 → MeetsDemand3 mesh ss es marks stamp s a)
+        → (asked a ss es xs marks ≡ meshHeightOf mesh floor r starts members boxes marks stamp s) × (a .refusal ≡ 0 → MeetsDemand3 mesh ss es xs marks stamp s a)
     unfolding askedAfter
     mesh-refused a h p = (
-      after _ (passed-by _ _ _ _ (ne-eqb (b .refusal) 0 h) (ap (λ (x : Answer). asked x ss es marks) p)),
+      after _ (passed-by _ _ _ _ (ne-eqb (b .refusal) 0 h) (ap (λ (x : Answer). asked x ss es xs marks) p)),
       λ z. absurd (h (sym (ap (λ (x : Answer). x .refusal) p) ∙ z)),
     )
 
-    pub mesh-asked : (a : Answer) (ks : List ℕ) → b .refusal ≡ 0 → BuildPromise (indexOf mesh (b .header) ss es) (b .refusal)
-        → ask.ended a ks ≡ maxHeightOf (indexOf mesh (b .header) ss es) marks stamp s → DiskPromise (indexOf mesh (b .header) ss es) marks stamp s a
-        → (asked a ss es ks ≡ meshHeightOf mesh floor r starts members marks stamp s) × (a .refusal ≡ 0 → MeetsDemand3 mesh ss es marks stamp s a)
+    pub mesh-asked : (a : Answer) (ks : List ℕ) → b .refusal ≡ 0 → BuildPromise (indexOf mesh (b .header) ss es xs) (b .refusal)
+        → ask.ended a ks ≡ maxHeightOf (indexOf mesh (b .header) ss es xs) marks stamp s → DiskPromise (indexOf mesh (b .header) ss es xs) marks stamp s a
+        → (asked a ss es xs ks ≡ meshHeightOf mesh floor r starts members boxes marks stamp s) × (a .refusal ≡ 0 → MeetsDemand3 mesh ss es xs marks stamp s a)
     unfolding askedAfter
     mesh-asked a ks z p q d = (
-      after _ (taken _ _ _ _ (eq-eqb (b .refusal) 0 z) (ap (λ (o : ask.Outcome Answer). asked (o .answer) ss es (o .marks)) q)),
+      after _ (taken _ _ _ _ (eq-eqb (b .refusal) 0 z) (ap (λ (o : ask.Outcome Answer). asked (o .answer) ss es xs (o .marks)) q)),
       λ k. record { header = b .header; built = p .built z; demand3 = d .demand3 (p .built z) k },
     )
 
   -- ---- a file
   module _ (bytes : List ℕ) (mesh : List Float) (o : reader.Outcome) (e : o ≡ readOf bytes mesh) where
-    part-is : (x : Asked) → left (o .mesh) x ≡ leftAfter o floor r starts members marks stamp s → left (o .mesh) x ≡ partHeightOf bytes mesh floor r starts members marks stamp s
+    part-is : (x : Asked) → left (o .mesh) x ≡ leftAfter o floor r starts members boxes marks stamp s → left (o .mesh) x ≡ partHeightOf bytes mesh floor r starts members boxes marks stamp s
     unfolding partHeightOf
-    part-is x p = p ∙ ap (λ (u : reader.Outcome). leftAfter u floor r starts members marks stamp s) e
+    part-is x p = p ∙ ap (λ (u : reader.Outcome). leftAfter u floor r starts members boxes marks stamp s) e
 
-    pub part-refused : (ss es : List ℕ) (a : Answer) → (o .answer .refusal ≡ 0 → ⊥) → a ≡ refusedBy (o .answer .refusal) stamp
-        → (left (o .mesh) (asked a starts members marks) ≡ partHeightOf bytes mesh floor r starts members marks stamp s)
-        × (a .refusal ≡ 0 → MeetsDemand3 (meshOf bytes) ss es marks stamp s a)
+    pub part-refused : (ss es : List ℕ) (xs : List Float) (a : Answer) → (o .answer .refusal ≡ 0 → ⊥) → a ≡ refusedBy (o .answer .refusal) stamp
+        → (left (o .mesh) (asked a starts members boxes marks) ≡ partHeightOf bytes mesh floor r starts members boxes marks stamp s)
+        × (a .refusal ≡ 0 → MeetsDemand3 (meshOf bytes) ss es xs marks stamp s a)
     unfolding leftAfter
-    part-refused ss es a h p = (
-      part-is _ (ap (λ (x : Asked). left (o .mesh) x) (passed-by _ _ _ _ (ne-eqb (o .answer .refusal) 0 h) (ap (λ (x : Answer). asked x starts members marks) p))),
+    part-refused ss es xs a h p = (
+      part-is _ (ap (λ (x : Asked). left (o .mesh) x) (passed-by _ _ _ _ (ne-eqb (o .answer .refusal) 0 h) (ap (λ (x : Answer). asked x starts members boxes marks) p))),
       λ z. absurd (h (sym (ap (λ (x : Answer). x .refusal) p) ∙ z)),
     )
 
     module _ (z : o .answer .refusal ≡ 0) where
-      pub part-asked : (x : Asked) → x ≡ meshHeightOf (take (9 * o .answer .n) (o .mesh)) floor r starts members marks stamp s
-          → (x .answer .refusal ≡ 0 → MeetsDemand3 (take (9 * o .answer .n) (o .mesh)) (x .starts) (x .members) marks stamp s (x .answer))
-          → (left (o .mesh) x ≡ partHeightOf bytes mesh floor r starts members marks stamp s)
-          × (x .answer .refusal ≡ 0 → MeetsDemand3 (meshOf bytes) (x .starts) (x .members) marks stamp s (x .answer))
+      pub part-asked : (x : Asked) → x ≡ meshHeightOf (take (9 * o .answer .n) (o .mesh)) floor r starts members boxes marks stamp s
+          → (x .answer .refusal ≡ 0 → MeetsDemand3 (take (9 * o .answer .n) (o .mesh)) (x .starts) (x .members) (x .boxes) marks stamp s (x .answer))
+          → (left (o .mesh) x ≡ partHeightOf bytes mesh floor r starts members boxes marks stamp s)
+          × (x .answer .refusal ≡ 0 → MeetsDemand3 (meshOf bytes) (x .starts) (x .members) (x .boxes) marks stamp s (x .answer))
       unfolding leftAfter
       part-asked x p d = (
         part-is x (ap (λ (y : Asked). left (o .mesh) y) (taken _ _ _ _ (eq-eqb (o .answer .refusal) 0 z) p)),
-        λ k. subst (λ (m : List Float). MeetsDemand3 m (x .starts) (x .members) marks stamp s (x .answer)) (mesh-is bytes mesh o e z) (d k),
+        λ k. subst (λ (m : List Float). MeetsDemand3 m (x .starts) (x .members) (x .boxes) marks stamp s (x .answer)) (mesh-is bytes mesh o e z) (d k),
       )

@@ -1,5 +1,5 @@
 -- Document 02, request 3: "What comes out is a mesh that the builder takes like any other, and demand 3 is read over it." From the bytes of an STL file to the
--- answer: the file is read, the index of its mesh is built, and the swept-disk height is asked.
+-- answer: the file is read, the index of its mesh is built (23 unless the lent box table is five numbers for each of its triangles), and the swept-disk height is asked.
 use mathlib.Core.Bool.{cond}
 use mathlib.Core.List.{List}
 use Prim.Native.Nat.{ℕ, _*_}
@@ -33,21 +33,22 @@ pub record Asked : Type 0 where
   pub answer : Answer
   pub starts : List ℕ
   pub members : List ℕ
+  pub boxes : List Float
   pub marks : List ℕ
 
-abbrev pub asked : Answer → List ℕ → List ℕ → List ℕ → Asked
-asked a ss es ks = record { answer = a; starts = ss; members = es; marks = ks }
+abbrev pub asked : Answer → List ℕ → List ℕ → List Float → List ℕ → Asked
+asked a ss es xs ks = record { answer = a; starts = ss; members = es; boxes = xs; marks = ks }
 
 -- after the build b: its refusal, or what max_height answers over the index that was built
 unfoldable pub askedAfter : build.Outcome → List Float → List ℕ → ℕ → Sweep → Asked
 askedAfter b mesh marks stamp s =
-    let o = maxHeightOf (indexOf mesh (b .built .header) (b .starts) (b .members)) marks stamp s in
+    let o = maxHeightOf (indexOf mesh (b .built .header) (b .starts) (b .members) (b .boxes)) marks stamp s in
     cond (eqb (b .built .refusal) 0)
-    (asked (o .answer) (b .starts) (b .members) (o .marks))
-    (asked (refusedBy (b .built .refusal) stamp) (b .starts) (b .members) marks)
+    (asked (o .answer) (b .starts) (b .members) (b .boxes) (o .marks))
+    (asked (refusedBy (b .built .refusal) stamp) (b .starts) (b .members) (b .boxes) marks)
 
-unfoldable pub meshHeightOf : List Float → Float → Float → List ℕ → List ℕ → List ℕ → ℕ → Sweep → Asked
-meshHeightOf mesh floor r starts members marks stamp s = askedAfter (buildOf mesh floor r starts members) mesh marks stamp s
+unfoldable pub meshHeightOf : List Float → Float → Float → List ℕ → List ℕ → List Float → List ℕ → ℕ → Sweep → Asked
+meshHeightOf mesh floor r starts members boxes marks stamp s = askedAfter (buildOf mesh floor r starts members boxes) mesh marks stamp s
 
 -- ---- a file: its mesh, then as above
 
@@ -60,21 +61,21 @@ abbrev pub left : List Float → Asked → Left
 left ms a = record { mesh = ms; rest = a }
 
 -- after the reading o: its refusal, or what the mesh that was read gives
-unfoldable pub leftAfter : reader.Outcome → Float → Float → List ℕ → List ℕ → List ℕ → ℕ → Sweep → Left
-leftAfter o floor r starts members marks stamp s =
+unfoldable pub leftAfter : reader.Outcome → Float → Float → List ℕ → List ℕ → List Float → List ℕ → ℕ → Sweep → Left
+leftAfter o floor r starts members boxes marks stamp s =
     left (o .mesh)
     (cond (eqb (o .answer .refusal) 0)
-    (meshHeightOf (take (9 * o .answer .n) (o .mesh)) floor r starts members marks stamp s)
-    (asked (refusedBy (o .answer .refusal) stamp) starts members marks))
+    (meshHeightOf (take (9 * o .answer .n) (o .mesh)) floor r starts members boxes marks stamp s)
+    (asked (refusedBy (o .answer .refusal) stamp) starts members boxes marks))
 
-unfoldable pub partHeightOf : List ℕ → List Float → Float → Float → List ℕ → List ℕ → List ℕ → ℕ → Sweep → Left
-partHeightOf bytes mesh floor r starts members marks stamp s = leftAfter (readOf bytes mesh) floor r starts members marks stamp s
+unfoldable pub partHeightOf : List ℕ → List Float → Float → Float → List ℕ → List ℕ → List Float → List ℕ → ℕ → Sweep → Left
+partHeightOf bytes mesh floor r starts members boxes marks stamp s = leftAfter (readOf bytes mesh) floor r starts members boxes marks stamp s
 
 -- ---- demand 3, over the mesh itself
 
 -- With some header the tables left are the index built from this mesh, and over that index the answer meets demand 3.
-pub record MeetsDemand3 (mesh : List Float) (starts members marks : List ℕ) (stamp : ℕ) (s : Sweep) (a : Answer) : Type 0 where
+pub record MeetsDemand3 (mesh : List Float) (starts members : List ℕ) (boxes : List Float) (marks : List ℕ) (stamp : ℕ) (s : Sweep) (a : Answer) : Type 0 where
   pub header : Header
-  pub built : BuiltFrom (indexOf mesh header starts members)
-  pub demand3 : Demand3 (indexOf mesh header starts members) (patchFor header s) (capsuleFor header s)
-      (lookedIn (indexOf mesh header starts members) marks stamp (patchFor header s)) a
+  pub built : BuiltFrom (indexOf mesh header starts members boxes)
+  pub demand3 : Demand3 (indexOf mesh header starts members boxes) (patchFor header s) (capsuleFor header s)
+      (lookedIn (indexOf mesh header starts members boxes) marks stamp (patchFor header s)) a

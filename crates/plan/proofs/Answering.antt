@@ -18,6 +18,7 @@ use Rattle.grid.specs.Index.{Index, BuiltFrom}
 use Rattle.grid.specs.Ladder.{refuse, demand}
 use Rattle.grid.proofs.Indexing.{index-sound}
 use Rattle.grid.proofs.Ladder.{demanded, refuse-here, refuse-next}
+use Rattle.grid.specs.Boxes.{isBoxed}
 use Rattle.query.specs.Asked.{isMarked}
 use Rattle.query.specs.Usable.{usableWhole}
 use Rattle.whole.proofs.Wholly.{whole-head, whole-walkable, sound-whole}
@@ -42,20 +43,21 @@ use Rattle.plan.specs.Inside.{Ready, Surveys, Settled, settled, givenUp,
 use Rattle.plan.proofs.Counting.{levels-few}
 use Rattle.plan.proofs.Surveying.{Taken, survey-taken}
 
--- ---- 1, 9 and 7
+-- ---- 1, 23, 9 and 7
 
 module _ (ix : Index) (marks : List ℕ) (p : Parameters) where
   pub passed : refusalOfInput ix marks p ≡ 0 → Ready ix marks
-  unfolding refusalOfInput isMarked
+  unfolding refusalOfInput isMarked isBoxed
   passed z =
       let a = demanded (isMarked (ix .mesh) marks) 1 _ (lit< tt) z in
-      let b = demanded (areTerms p (ix .header .r) (ix .header .floor)) 9 _ (lit< tt) (a .1) in
+      let x = demanded (isBoxed (ix .mesh) (ix .boxes)) 23 _ (lit< tt) (a .1) in
+      let b = demanded (areTerms p (ix .header .r) (ix .header .floor)) 9 _ (lit< tt) (x .1) in
       let u = demanded (usableWhole ix) 7 0 (lit< tt) (b .1) .0 in
       let m = both-true (leb (length marks) 65536) (eqb (length (ix .mesh)) (length marks * 9)) (a .0) in
       let w = whole-head ix u in
       let e : length (ix .mesh) ≡ length marks * 9 = eqb-true _ _ (m .1) in
       record {
-        askable = record { nine = w .nine; few = w .ranged .few; walkable = whole-walkable ix u };
+        askable = record { nine = w .nine; five = omega (arith, w .nine, eqb-true (length (ix .boxes)) (length (ix .mesh) / 9 * 5) (x .0)); few = w .ranged .few; walkable = whole-walkable ix u };
         size = omega (arith, w .nine);
       }
 
@@ -99,7 +101,7 @@ module _ (ix : Index) (marks : List ℕ) (levels runs : List Float) (p : Paramet
   input-seven : BuiltFrom ix → refusalOfInput ix marks p ≡ 7 → ⊥
   unfolding refusalOfInput
   input-seven b e =
-      let f = rung _ 9 _ (λ z. omega arith) (rung _ 1 _ (λ z. omega arith) e) in
+      let f = rung _ 9 _ (λ z. omega arith) (rung _ 23 _ (λ z. omega arith) (rung _ 1 _ (λ z. omega arith) e)) in
       last-rung (usableWhole ix) (sound-whole ix (index-sound ix b)) f
 
   tables-seven : (lr rr : ℕ) (r : Float) (ls : List Level) (rs : List Run) → refusalOfTables lr rr p axis r ls rs ≡ 7 → ⊥
@@ -196,10 +198,10 @@ module _ (ix : Index) (marks : List ℕ) (levels runs : List Float) (p : Paramet
       ∙ (rw (a, b, w)))
 
   -- where the tables are zero and the levels are written
-  module _ (t₀ u₀ t : List Float) (m : List ℕ) (s : Surveyed) (size : length marks ≡ ix .header .n) (zt : t₀ ≡ zeroed levels) (zu : u₀ ≡ zeroed runs) (v₀ : Surveys (levelsOf (ix .mesh) (length marks) (p .tolerance) (p .«level_tolerance») (ix .header .floor)) p axis (ix .header .r) t₀ marks t m s) where
+  module _ (t₀ u₀ t : List Float) (m : List ℕ) (s : Surveyed) (size : length marks ≡ ix .header .n) (zt : t₀ ≡ zeroed levels) (zu : u₀ ≡ zeroed runs) (v₀ : Surveys (levelsOf (ix .mesh) (ix .boxes) (length marks) (p .tolerance) (p .«level_tolerance») (ix .header .floor)) p axis (ix .header .r) t₀ marks t m s) where
     v : Surveys ls p axis (ix .header .r) t₀ marks t m s
     unfolding levelsUnder
-    v = subst (λ (n : ℕ). Surveys (levelsOf (ix .mesh) n (p .tolerance) (p .«level_tolerance») (ix .header .floor)) p axis (ix .header .r) t₀ marks t m s) size v₀
+    v = subst (λ (n : ℕ). Surveys (levelsOf (ix .mesh) (ix .boxes) n (p .tolerance) (p .«level_tolerance») (ix .header .floor)) p axis (ix .header .r) t₀ marks t m s) size v₀
 
     levels-room : length t₀ ≡ length levels
     levels-room = ap length zt ∙ zeroed-length levels
@@ -232,7 +234,7 @@ module _ (ix : Index) (marks : List ℕ) (levels runs : List Float) (p : Paramet
         q,
         wiped-marked (ix .header .n) marks m size (v .clean),
         omega (arith, taken-levels .room, v .count, table-room, levels-room),
-        omega (arith, v .count, q .few, levels-few (ix .mesh) (ix .header .n) (p .tolerance) (p .«level_tolerance») (ix .header .floor)),
+        omega (arith, v .count, q .few, levels-few (ix .mesh) (ix .boxes) (ix .header .n) (p .tolerance) (p .«level_tolerance») (ix .header .floor)),
         rw read (taken-levels .coarse),
       )
 

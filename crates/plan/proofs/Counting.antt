@@ -12,6 +12,7 @@ use Rattle.sort.specs.Ranks.{before}
 use Rattle.sort.proofs.Orders.{sorted-length}
 use Rattle.plane.specs.Mesh.{triangleOf}
 use Rattle.levels.specs.Flats.{flatsOf}
+use Rattle.grid.specs.Boxes.{boxAt}
 use Rattle.levels.specs.Levels.{openedBy, joinsLevel, widenedBy, levelsFrom, sortedFlats, levelsOf}
 use Rattle.levels.proofs.Gathering.{flats-few}
 
@@ -29,11 +30,11 @@ module _ {A B : Type 0} (joins : A → B → Bool) (add : A → B → A) (first 
   grouped-few [] = omega arith
   grouped-few (b ∷ bs) = let r = grouping-few (first b) bs in omega arith
 
-pub levels-few : (mesh : List Float) (n : ℕ) (tolerance levelTolerance floor : Float) → length (levelsOf mesh n tolerance levelTolerance floor) ≤ n
+pub levels-few : (mesh boxes : List Float) (n : ℕ) (tolerance levelTolerance floor : Float) → length (levelsOf mesh boxes n tolerance levelTolerance floor) ≤ n
 unfolding levelsOf levelsFrom sortedFlats
-levels-few mesh n tolerance levelTolerance floor =
+levels-few mesh boxes n tolerance levelTolerance floor =
     let fs = flatsOf mesh tolerance (floor ⊕ levelTolerance) n in
-    let a = grouped-few (λ l i. joinsLevel levelTolerance l (triangleOf mesh i)) (λ l i. widenedBy l (triangleOf mesh i)) (λ i. openedBy (triangleOf mesh i)) (sortedFlats mesh n tolerance levelTolerance floor) in
+    let a = grouped-few (λ l i. joinsLevel levelTolerance l (triangleOf mesh i)) (λ l i. widenedBy l (boxAt boxes i)) (λ i. openedBy (triangleOf mesh i) (boxAt boxes i)) (sortedFlats mesh n tolerance levelTolerance floor) in
     let s = sorted-length (before mesh) fs in
     let b = flats-few mesh tolerance (floor ⊕ levelTolerance) n in
     omega arith

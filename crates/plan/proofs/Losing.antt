@@ -20,6 +20,7 @@ use Rattle.walk.specs.Walk.{cell}
 use Rattle.header.specs.Head.{headUsable}
 use Rattle.header.proofs.Ranges.{Headed, headed-is}
 use Rattle.query.specs.declared.Patch.{Patch}
+use Rattle.grid.specs.Boxes.{isBoxed}
 use Rattle.query.specs.Asked.{isMarked}
 use Rattle.query.specs.Usable.{every, each, triangleUsable, memberUsable, cellUsable, rowUsable, cellsUsable, usable, usableWhole}
 use Rattle.query.proofs.Testing.{in-rows}
@@ -66,26 +67,26 @@ skip : (a b : Bool) → (a && b) ≡ true → b ≡ true
 skip true b e = e
 skip false b e = absurd (no e)
 
-module _ (ix : Index) (e : usableWhole ix ≡ true) where
+module _ (ix : Index) (e : usableWhole ix ≡ true) (boxed : isBoxed (ix .mesh) (ix .boxes) ≡ true) where
   abbrev low : ℕ → Bool
   low i = ltb i (ix .header .n)
 
   abbrev passes : ℕ → Bool
-  passes = memberUsable (ix .mesh) (ix .header .n) (replicate (ix .header .n) 0) 0
+  passes = memberUsable (ix .mesh) (ix .boxes) (ix .header .n) (replicate (ix .header .n) 0) 0
 
-  parts : (headUsable (ix .mesh) (ix .header) (ix .starts) ≡ true) × ((every (triangleUsable (ix .mesh)) 0 (ix .header .n) && every (cellUsable low (ix .starts) (ix .members)) 0 (ix .header .rows * ix .header .columns)) ≡ true)
+  parts : (headUsable (ix .mesh) (ix .header) (ix .starts) ≡ true) × ((every (triangleUsable (ix .mesh) (ix .boxes)) 0 (ix .header .n) && every (cellUsable low (ix .starts) (ix .members)) 0 (ix .header .rows * ix .header .columns)) ≡ true)
   unfolding usableWhole
-  parts = both-true (headUsable (ix .mesh) (ix .header) (ix .starts)) (every (triangleUsable (ix .mesh)) 0 (ix .header .n) && every (cellUsable low (ix .starts) (ix .members)) 0 (ix .header .rows * ix .header .columns)) e
+  parts = both-true (headUsable (ix .mesh) (ix .header) (ix .starts)) (every (triangleUsable (ix .mesh) (ix .boxes)) 0 (ix .header .n) && every (cellUsable low (ix .starts) (ix .members)) 0 (ix .header .rows * ix .header .columns)) e
 
-  tables : (every (triangleUsable (ix .mesh)) 0 (ix .header .n) ≡ true) × (every (cellUsable low (ix .starts) (ix .members)) 0 (ix .header .rows * ix .header .columns) ≡ true)
-  tables = both-true (every (triangleUsable (ix .mesh)) 0 (ix .header .n)) (every (cellUsable low (ix .starts) (ix .members)) 0 (ix .header .rows * ix .header .columns)) (parts .1)
+  tables : (every (triangleUsable (ix .mesh) (ix .boxes)) 0 (ix .header .n) ≡ true) × (every (cellUsable low (ix .starts) (ix .members)) 0 (ix .header .rows * ix .header .columns) ≡ true)
+  tables = both-true (every (triangleUsable (ix .mesh) (ix .boxes)) 0 (ix .header .n)) (every (cellUsable low (ix .starts) (ix .members)) 0 (ix .header .rows * ix .header .columns)) (parts .1)
 
   head : Headed (ix .mesh) (ix .header) (ix .starts)
   head = headed-is (ix .mesh) (ix .header) (ix .starts) (parts .0)
 
   member-passes : (i : ℕ) → low i ≡ true → passes i ≡ true
   unfolding memberUsable
-  member-passes i l = rw (l, every-at (triangleUsable (ix .mesh)) 0 (ix .header .n) i (tables .0) (omega arith) (omega (arith, ltb-true i (ix .header .n) l)), zero-marks (ix .header .n) i)
+  member-passes i l = rw (l, every-at (triangleUsable (ix .mesh) (ix .boxes)) 0 (ix .header .n) i (tables .0) (omega arith) (omega (arith, ltb-true i (ix .header .n) l)), zero-marks (ix .header .n) i)
 
   cell-passes : (c : ℕ) → c < ix .header .rows * ix .header .columns → cellUsable passes (ix .starts) (ix .members) c ≡ true
   unfolding cellUsable
@@ -135,9 +136,10 @@ module _ (ix : Index) (e : usableWhole ix ≡ true) where
         let i = patch-inside (ix .header) (q .ax) (q .ay) (q .bx) (q .by) (ix .header .r) in
         sym
         (demand-next _ 1 _ 0 marked
+        (demand-next _ 23 _ 0 boxed
         (demand-next _ 2 _ 0 (rw (f, radius-fits))
         (demand-next true 8 _ 0 refl
-        (demand-next _ 7 0 0 (patch-passes (patchFor (ix .header) s) (i .0) (i .1)) refl))))
+        (demand-next _ 7 0 0 (patch-passes (patchFor (ix .header) s) (i .0) (i .1)) refl)))))
 
     again-is : Pointed q → (askedAgain ix q .refusal ≡ 0) × (askedAgain ix q .height ≡ heightUnder ix q)
     unfolding askedAgain maxHeightOf askedHeight answerOf heightUnder sweepWalk capsuleWalk
@@ -201,12 +203,13 @@ module _ (ix : Index) (marks : List ℕ) (levels runs : List Float) (p : Paramet
   abbrev planned : Outcome
   planned = planOf ix marks levels runs p axis
 
-  input-passed-all : refusalOfInput ix marks p ≡ 0 → usableWhole ix ≡ true
+  input-passed-all : refusalOfInput ix marks p ≡ 0 → (usableWhole ix ≡ true) × (isBoxed (ix .mesh) (ix .boxes) ≡ true)
   unfolding refusalOfInput
   input-passed-all z =
       let a = demanded (isMarked (ix .mesh) marks) 1 _ (lit< tt) z in
-      let b = demanded (areTerms p (ix .header .r) (ix .header .floor)) 9 _ (lit< tt) (a .1) in
-      demanded (usableWhole ix) 7 0 (lit< tt) (b .1) .0
+      let x = demanded (isBoxed (ix .mesh) (ix .boxes)) 23 _ (lit< tt) (a .1) in
+      let b = demanded (areTerms p (ix .header .r) (ix .header .floor)) 9 _ (lit< tt) (x .1) in
+      (demanded (usableWhole ix) 7 0 (lit< tt) (b .1) .0, x .0)
 
   abbrev late : ℕ
   late = refusalOfTables (roomOf levels) (roomOf runs) p axis (ix .header .r) (levelsUnder ix p) (joinedOf (keptOf (piecesOn ix p axis)))
@@ -230,7 +233,7 @@ module _ (ix : Index) (marks : List ℕ) (levels runs : List Float) (p : Paramet
       (λ (t : eqb late 0 ≡ true). rw t (λ _. (late-coarse (eqb-true late 0 t), refl)))
       (λ (t : eqb late 0 ≡ false). rw t (λ (z : late ≡ 0). absurd (eqb-false late 0 t z)))
 
-  accepted : planned .answer .refusal ≡ 0 → (usableWhole ix ≡ true) × Worked planned
+  accepted : planned .answer .refusal ≡ 0 → ((usableWhole ix ≡ true) × (isBoxed (ix .mesh) (ix .boxes) ≡ true)) × Worked planned
   unfolding planOf
   accepted =
       let k = refusalOfInput ix marks p in
@@ -243,4 +246,4 @@ module _ (ix : Index) (marks : List ℕ) (levels runs : List Float) (p : Paramet
   lost-none a l r m e z =
       let n : planned .answer ≡ a = ap (λ (o : Outcome). o .answer) (sym e) in
       let c = accepted (ap (λ (x : Planned). x .refusal) n ∙ z) in
-      nothing-lost ix (c .0) p axis a (c .1 .0) (ap (λ (x : Planned). x .dropped) (sym n) ∙ c .1 .1)
+      nothing-lost ix (c .0 .0) (c .0 .1) p axis a (c .1 .0) (ap (λ (x : Planned). x .dropped) (sym n) ∙ c .1 .1)

@@ -7,6 +7,7 @@ use lib.Dec.{eqb, ltb}
 use lib.Ieee.{Float}
 use lib.ListN.{length, replicate}
 use Rattle.numbers.specs.Reals.{f0}
+use Rattle.grid.specs.Boxes.{isBoxed}
 use Rattle.grid.specs.Index.{Index, BuiltFrom}
 use Rattle.grid.specs.Ladder.{refuse, demand}
 use Rattle.query.specs.Asked.{isMarked}
@@ -26,14 +27,15 @@ use Rattle.plan.specs.declared.Planned.{Planned}
 
 -- ---- what is refused
 
--- 1, 9 and 7 in this order: marks, parameters with the header's radius and floor, then the index, every cell and every triangle and no mark.
+-- 1, 23, 9 and 7 in this order: marks, box table, parameters with the header's radius and floor, then the index, every cell and every triangle and no mark.
 -- 0 where none is given.
 unfoldable pub refusalOfInput : Index → List ℕ → Parameters → ℕ
 refusalOfInput ix marks p =
     demand (isMarked (ix .mesh) marks) 1
+    (demand (isBoxed (ix .mesh) (ix .boxes)) 23
     (demand (areTerms p (ix .header .r) (ix .header .floor)) 9
     (demand (usableWhole ix) 7
-    0))
+    0)))
 
 -- 11, 10 and 12 of the levels, and then 13: more joined runs than room. 0 where none is given.
 unfoldable pub refusalOfTables : ℕ → ℕ → Parameters → Axis → Float → List Level → List Run → ℕ
@@ -45,7 +47,7 @@ refusalOfTables levelRoom runRoom p axis r ls rs =
 
 -- The levels of the mesh over the header's floor.
 unfoldable pub levelsUnder : Index → Parameters → List Level
-levelsUnder ix p = levelsOf (ix .mesh) (ix .header .n) (p .tolerance) (p .«level_tolerance») (ix .header .floor)
+levelsUnder ix p = levelsOf (ix .mesh) (ix .boxes) (ix .header .n) (p .tolerance) (p .«level_tolerance») (ix .header .floor)
 
 -- What the search finds on them: how many rows have a stretch, and all pieces in the order made.
 unfoldable pub foundOn : Index → Parameters → Axis → List Level → Found
@@ -87,7 +89,7 @@ workedOf ix marks levels runs p axis =
     (outcome (acceptedWith ls f rs) (written (map levelFive ls) (zeroed levels)) (written (map runFive rs) (zeroed runs)) (wiped marks))
     (outcome (refusedBy k) (zeroed levels) (zeroed runs) (wiped marks))
 
--- The plan. Refusals 1, 9 and 7 touch nothing.
+-- The plan. Refusals 1, 23, 9 and 7 touch nothing.
 unfoldable pub planOf : Index → List ℕ → List Float → List Float → Parameters → Axis → Outcome
 planOf ix marks levels runs p axis =
     let k = refusalOfInput ix marks p in

@@ -33,12 +33,13 @@ pub struct Surveyed {
     pub refusal: u32,
 }
 
-// The levels of a mesh and the runs on them, or why there is no plan. Refusals 1, 9 and 7 touch nothing; 11, 10, 12 and 13 leave all three tables zero.
+// The levels of a mesh and the runs on them, or why there is no plan. Refusals 1, 23, 9 and 7 touch nothing; 11, 10, 12 and 13 leave all three tables zero.
 pub fn plan(
     mesh: &[f64],
     h: Header,
     starts: &[u32],
     members: &[u32],
+    boxes: &[f64],
     marks: &mut [u32],
     levels: &mut [f64],
     runs: &mut [f64],
@@ -46,36 +47,40 @@ pub fn plan(
     axis: Axis,
 ) -> Planned
     ensures { λ a. ⌜ outcome a (now (levels .exit)) (now (runs .exit)) (now (marks .exit))
-        ≡ planOf (indexOf (now (mesh .entry)) h (now (starts .entry)) (now (members .entry))) (now (marks .entry)) (now (levels .entry))
+        ≡ planOf (indexOf (now (mesh .entry)) h (now (starts .entry)) (now (members .entry)) (now (boxes .entry))) (now (marks .entry)) (now (levels .entry))
         (now (runs .entry)) p axis ⌝ }
-    ensures { λ a. ⌜ NeverSeven (indexOf (now (mesh .entry)) h (now (starts .entry)) (now (members .entry))) (a .refusal) ⌝ }
-    ensures { λ a. ⌜ (a .refusal ≡ 0 → NothingLost (indexOf (now (mesh .entry)) h (now (starts .entry)) (now (members .entry))) p axis a) ⌝ }
+    ensures { λ a. ⌜ NeverSeven (indexOf (now (mesh .entry)) h (now (starts .entry)) (now (members .entry)) (now (boxes .entry))) (a .refusal) ⌝ }
+    ensures { λ a. ⌜ (a .refusal ≡ 0 → NothingLost (indexOf (now (mesh .entry)) h (now (starts .entry)) (now (members .entry)) (now (boxes .entry))) p axis a) ⌝ }
 {
-    let k = refusal(mesh, h, starts, members, marks, p);
+    let k = refusal(mesh, h, starts, members, boxes, marks, p);
     if k != 0 {
         return refused(k);
     }
-    work(mesh, h, starts, members, marks, levels, runs, p, axis)
+    work(mesh, h, starts, members, boxes, marks, levels, runs, p, axis)
 }
 
-// Refusals 1, 9 and 7, or 0.
+// Refusals 1, 23, 9 and 7, or 0.
 fn refusal(
     mesh: &[f64],
     h: Header,
     starts: &[u32],
     members: &[u32],
+    boxes: &[f64],
     marks: &[u32],
     p: Parameters,
 ) -> u32
-    ensures { λ k. ⌜ k ≡ refusalOfInput (indexOf (now (mesh .entry)) h (now (starts .entry)) (now (members .entry))) (now (marks .entry)) p ⌝ }
+    ensures { λ k. ⌜ k ≡ refusalOfInput (indexOf (now (mesh .entry)) h (now (starts .entry)) (now (members .entry)) (now (boxes .entry))) (now (marks .entry)) p ⌝ }
 {
     if !query::is_marked(mesh, marks) {
         return 1;
     }
+    if !grid::is_boxed(mesh, boxes) {
+        return 23;
+    }
     if !terms::are_terms(p, h.r, h.floor) {
         return 9;
     }
-    if !whole::usable_whole(mesh, h, starts, members) {
+    if !whole::usable_whole(mesh, h, starts, members, boxes) {
         return 7;
     }
     0
@@ -95,25 +100,26 @@ fn refused(k: u32) -> Planned
     }
 }
 
-// The plan where 1, 9 and 7 let it pass.
+// The plan where 1, 23, 9 and 7 let it pass.
 fn work(
     mesh: &[f64],
     h: Header,
     starts: &[u32],
     members: &[u32],
+    boxes: &[f64],
     marks: &mut [u32],
     levels: &mut [f64],
     runs: &mut [f64],
     p: Parameters,
     axis: Axis,
 ) -> Planned
-    requires { ⌜ Ready (indexOf (now mesh) h (now starts) (now members)) (now marks) ⌝ }
+    requires { ⌜ Ready (indexOf (now mesh) h (now starts) (now members) (now boxes)) (now marks) ⌝ }
     ensures { λ a. ⌜ outcome a (now (levels .exit)) (now (runs .exit)) (now (marks .exit))
-        ≡ workedOf (indexOf (now (mesh .entry)) h (now (starts .entry)) (now (members .entry))) (now (marks .entry)) (now (levels .entry))
+        ≡ workedOf (indexOf (now (mesh .entry)) h (now (starts .entry)) (now (members .entry)) (now (boxes .entry))) (now (marks .entry)) (now (levels .entry))
         (now (runs .entry)) p axis ⌝ }
 {
     zero(levels, runs);
-    let s = survey(mesh, marks, levels, p, axis, h.r, h.floor);
+    let s = survey(mesh, boxes, marks, levels, p, axis, h.r, h.floor);
     let count = s.count;
     let k = s.refusal;
     if k != 0 {
@@ -124,6 +130,7 @@ fn work(
         h,
         starts,
         members,
+        boxes,
         marks,
         levels,
         runs,
@@ -139,6 +146,7 @@ fn finish(
     h: Header,
     starts: &[u32],
     members: &[u32],
+    boxes: &[f64],
     marks: &mut [u32],
     levels: &mut [f64],
     runs: &mut [f64],
@@ -146,11 +154,11 @@ fn finish(
     axis: Axis,
     count: usize,
 ) -> Planned
-    requires { ⌜ Askable (indexOf (now mesh) h (now starts) (now members)) × Marked (h .n) 0 (now marks) × (count * 5 ≤ length (now levels))
+    requires { ⌜ Askable (indexOf (now mesh) h (now starts) (now members) (now boxes)) × Marked (h .n) 0 (now marks) × (count * 5 ≤ length (now levels))
         × (count ≤ 65536) × (anyOf (tooFine p axis (h .r)) (levelsIn (now levels) 0 count) ≡ false) ⌝ }
     ensures { λ a. ⌜ (settled a (now (levels .exit)) (now (runs .exit))
         ≡ finishedOf (now (levels .entry)) (now (runs .entry)) count
-        (foundOn (indexOf (now (mesh .entry)) h (now (starts .entry)) (now (members .entry))) p axis (levelsIn (now (levels .entry)) 0 count)))
+        (foundOn (indexOf (now (mesh .entry)) h (now (starts .entry)) (now (members .entry)) (now (boxes .entry))) p axis (levelsIn (now (levels .entry)) 0 count)))
         × (now (marks .exit) ≡ replicate (h .n) 0) ⌝ }
 {
     let y = lanes::search_levels(
@@ -158,6 +166,7 @@ fn finish(
         h,
         starts,
         members,
+        boxes,
         marks,
         runs,
         p,
@@ -180,6 +189,7 @@ fn zero(levels: &mut [f64], runs: &mut [f64])
 // The levels written to their table, and the marks, which the sort works in, wiped.
 fn survey(
     mesh: &[f64],
+    boxes: &[f64],
     marks: &mut [u32],
     levels: &mut [f64],
     p: Parameters,
@@ -187,11 +197,12 @@ fn survey(
     r: f64,
     floor: f64,
 ) -> Surveyed
-    requires { ⌜ (length (now mesh) ≡ length (now marks) * 9) × (length (now marks) ≤ 65536) ⌝ }
-    ensures { λ s. ⌜ Surveys (levelsOf (now (mesh .entry)) (length (now (marks .entry))) (p .tolerance) (p .«level_tolerance») floor) p axis r
+    requires { ⌜ (length (now mesh) ≡ length (now marks) * 9) × (length (now marks) ≤ 65536) × (length (now boxes) ≡ length (now marks) * 5) ⌝ }
+    ensures { λ s. ⌜ Surveys
+        (levelsOf (now (mesh .entry)) (now (boxes .entry)) (length (now (marks .entry))) (p .tolerance) (p .«level_tolerance») floor) p axis r
         (now (levels .entry)) (now (marks .entry)) (now (levels .exit)) (now (marks .exit)) s ⌝ }
 {
-    let count = levels::find_levels(mesh, marks, p.tolerance, p.level_tolerance, floor, levels);
+    let count = levels::find_levels(mesh, boxes, marks, p.tolerance, p.level_tolerance, floor, levels);
     walk::wipe(marks);
     let refusal = terms::refusal_of_levels(levels, count, p, axis, r);
     Surveyed { count, refusal }

@@ -114,7 +114,7 @@ module _ (ix : Index) (stamp : ℕ) (marks : List ℕ) (m : Marked (ix .header .
   pub swept-value : sweepWalk ix marks stamp under .value .height ≡ heightUnder ix r
   unfolding heightUnder sweepWalk capsuleWalk walked
   swept-value =
-      ap (λ (is : List ℕ). fold (diskStep (ix .mesh) (capsuleFor (ix .header) under)) (record { height = ix .header .floor; triangle = 0; kind = 0; which = 0 }) is .height) (looked-same _ _ _ _ _ (ready-alike (ix .header .n) stamp marks m))
+      ap (λ (is : List ℕ). fold (diskStep (ix .mesh) (ix .boxes) (capsuleFor (ix .header) under)) (record { height = ix .header .floor; triangle = 0; kind = 0; which = 0 }) is .height) (looked-same _ _ _ _ _ (ready-alike (ix .header .n) stamp marks m))
 
   pub swept-marks : Marked (ix .header .n) (nextStamp stamp) (sweepWalk ix marks stamp under .marks)
   unfolding sweepWalk capsuleWalk walked

@@ -14,6 +14,7 @@ use Rattle.runs.specs.Runs.{lengthOf}
 -- Every question over the mesh can be walked.
 pub record Askable (ix : Index) : Type 0 where
   pub nine : length (ix .mesh) ≡ ix .header .n * 9
+  pub five : length (ix .boxes) ≡ ix .header .n * 5
   pub few : ix .header .n ≤ 65536
   pub walkable : (x0 x1 y0 y1 : ℕ) → x1 ≤ ix .header .columns → y1 ≤ ix .header .rows → Walkable (ix .starts) (ix .members) (ix .header .n) (ix .header .columns) x0 x1 y0 y1
 

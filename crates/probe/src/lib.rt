@@ -40,12 +40,13 @@ fn ask(
     h: Header,
     starts: &[u32],
     members: &[u32],
+    boxes: &[f64],
     marks: &mut [u32],
     stamp: u32,
     r: Run,
 ) -> Asked
-    requires { ⌜ Askable (indexOf (now mesh) h (now starts) (now members)) × Marked (h .n) stamp (now marks) ⌝ }
-    ensures { λ a. ⌜ (a .height ≡ heightUnder (indexOf (now (mesh .entry)) h (now (starts .entry)) (now (members .entry))) r)
+    requires { ⌜ Askable (indexOf (now mesh) h (now starts) (now members) (now boxes)) × Marked (h .n) stamp (now marks) ⌝ }
+    ensures { λ a. ⌜ (a .height ≡ heightUnder (indexOf (now (mesh .entry)) h (now (starts .entry)) (now (members .entry)) (now (boxes .entry))) r)
         × Marked (h .n) (a .stamp) (now (marks .exit)) ⌝ }
 {
     let s = height::swept_height(
@@ -53,6 +54,7 @@ fn ask(
         h,
         starts,
         members,
+        boxes,
         marks,
         stamp,
         r.ax,
@@ -74,14 +76,15 @@ pub fn sample(
     h: Header,
     starts: &[u32],
     members: &[u32],
+    boxes: &[f64],
     marks: &mut [u32],
     stamp: u32,
     a: Aim,
     l: Lane,
     k: usize,
 ) -> Reading
-    requires { ⌜ Askable (indexOf (now mesh) h (now starts) (now members)) × Marked (h .n) stamp (now marks) ⌝ }
-    ensures { λ o. ⌜ (o .on ≡ onLevel (heightUnder (indexOf (now (mesh .entry)) h (now (starts .entry)) (now (members .entry)))) a l k)
+    requires { ⌜ Askable (indexOf (now mesh) h (now starts) (now members) (now boxes)) × Marked (h .n) stamp (now marks) ⌝ }
+    ensures { λ o. ⌜ (o .on ≡ onLevel (heightUnder (indexOf (now (mesh .entry)) h (now (starts .entry)) (now (members .entry)) (now (boxes .entry)))) a l k)
         × Marked (h .n) (o .stamp) (now (marks .exit)) ⌝ }
 {
     let t = ask(
@@ -89,6 +92,7 @@ pub fn sample(
         h,
         starts,
         members,
+        boxes,
         marks,
         stamp,
         rows::run_between(l, k, k),
@@ -105,17 +109,18 @@ pub fn judge(
     h: Header,
     starts: &[u32],
     members: &[u32],
+    boxes: &[f64],
     marks: &mut [u32],
     stamp: u32,
     a: Aim,
     r: Run,
     left: u32,
 ) -> Judged
-    requires { ⌜ Askable (indexOf (now mesh) h (now starts) (now members)) × Marked (h .n) stamp (now marks) ⌝ }
-    ensures { λ j. ⌜ (j .kept ≡ clear (heightUnder (indexOf (now (mesh .entry)) h (now (starts .entry)) (now (members .entry)))) a r)
+    requires { ⌜ Askable (indexOf (now mesh) h (now starts) (now members) (now boxes)) × Marked (h .n) stamp (now marks) ⌝ }
+    ensures { λ j. ⌜ (j .kept ≡ clear (heightUnder (indexOf (now (mesh .entry)) h (now (starts .entry)) (now (members .entry)) (now (boxes .entry)))) a r)
         × (j .split ≡ splitsOf (j .kept) (a .least) left r) × Marked (h .n) (j .stamp) (now (marks .exit)) ⌝ }
 {
-    let t = ask(mesh, h, starts, members, marks, stamp, r);
+    let t = ask(mesh, h, starts, members, boxes, marks, stamp, r);
     let kept = t.height <= r.z + a.tolerance;
     Judged {
         split: splits(kept, a.least, left, r),

@@ -12,13 +12,14 @@ use lib.Ieee.Fits.{up-pos, down-pos, add-fits, mul-fits}
 use lib.Ieee.Order.{le-of-values, round-mono}
 use lib.Ieee.Scale.{finite}
 use Rattle.numbers.specs.Reals.{num, _⊕_, _⊗_, absOf, million}
+use Rattle.plane.specs.declared.Bounds.{Bounds}
 use Rattle.numbers.proofs.Counts.{round-self}
 use Rattle.cells.proofs.Sets.{by-lt}
 use Rattle.spans.specs.Mesh.{isCoordinate}
 use Rattle.spans.proofs.Signed.{upSigned, round-up}
 use Rattle.spans.proofs.Ranges.{million-is, finite-between, le-trans-finite}
 use Rattle.spans.proofs.Scales.{true-of}
-use Rattle.query.specs.Usable.{every, triangleUsable}
+use Rattle.query.specs.Usable.{every, cornersUsable, areCoordinates, boxUsable}
 use Rattle.query.specs.Inside.{squaresOf}
 
 -- 9e11 and 1e12
@@ -195,9 +196,20 @@ every-nine test k t0 t1 t2 t3 t4 t5 t6 t7 t8 =
 pub near-usable : (mesh : List Float) (i : ℕ) (e o : Float)
     → e ≡ squaresOf (num mesh (9 * i)) (num mesh (9 * i + 2)) (num mesh (9 * i + 4)) (num mesh (9 * i + 6))
     → o ≡ squaresOf (num mesh (9 * i + 1)) (num mesh (9 * i + 3)) (num mesh (9 * i + 5)) (num mesh (9 * i + 7))
-    → le (e ⊕ o ⊕ num mesh (9 * i + 8) ⊗ num mesh (9 * i + 8)) near ≡ true → true ≡ triangleUsable mesh i
-unfolding triangleUsable
+    → le (e ⊕ o ⊕ num mesh (9 * i + 8) ⊗ num mesh (9 * i + 8)) near ≡ true → true ≡ cornersUsable mesh i
+unfolding cornersUsable
 near-usable mesh i e o p q t =
     let k = 9 * i in
     let n = nine (num mesh k) (num mesh (k + 1)) (num mesh (k + 2)) (num mesh (k + 3)) (num mesh (k + 4)) (num mesh (k + 5)) (num mesh (k + 6)) (num mesh (k + 7)) (num mesh (k + 8)) (rw (p, q) at t) in
     every-nine (λ m. isCoordinate (num mesh m)) k (n .evens .first) (n .odds .first) (n .evens .second) (n .odds .second) (n .evens .third) (n .odds .third) (n .evens .fourth) (n .odds .fourth) (n .last)
+
+-- a box
+pub near-box : (b : Bounds) (s : Float) → s ≡ squaresOf (b .«low_x») (b .«low_y») (b .«high_x») (b .«high_y»)
+    → le (s ⊕ b .top ⊗ b .top) near ≡ true → true ≡ boxUsable b
+unfolding boxUsable areCoordinates
+near-box b s p t =
+    let S = squaresOf (b .«low_x») (b .«low_y») (b .«high_x») (b .«high_y») in
+    let h : T (le (S ⊕ b .top ⊗ b .top) most) = rw near-is at (subst T (sym (rw p at t)) tt) in
+    let q = sum-parts S (b .top ⊗ b .top) (four-up _ _ _ _) (square-up (b .top)) (four-fits _ _ _ _) (mul-fits binary64 (b .top) (b .top)) h in
+    let f = four (b .«low_x») (b .«low_y») (b .«high_x») (b .«high_y») (q .0) in
+    rw (f .first, f .second, f .third, f .fourth, square-coordinate (b .top) (q .1)) refl

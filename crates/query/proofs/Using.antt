@@ -14,13 +14,14 @@ use Rattle.numbers.specs.Reals.{num}
 use Rattle.numbers.proofs.Branches.{both-true}
 use Rattle.spans.specs.Mesh.{isCoordinate}
 use Rattle.grid.specs.declared.Header.{Header}
+use Rattle.grid.specs.Boxes.{boxAt}
 use Rattle.grid.specs.Index.{Index}
 use Rattle.header.specs.Head.{headUsable}
 use Rattle.header.proofs.Ranges.{Headed, headed-is}
 use Rattle.walk.specs.Walk.{cell}
 use Rattle.walk.specs.Inside.{Walkable}
 use Rattle.query.specs.declared.Patch.{Patch}
-use Rattle.query.specs.Usable.{every, each, triangleUsable, memberUsable, cellUsable, rowUsable, cellsUsable, usable}
+use Rattle.query.specs.Usable.{every, each, cornersUsable, boxUsable, triangleUsable, memberUsable, cellUsable, rowUsable, cellsUsable, usable}
 use Rattle.query.proofs.Testing.{in-rows}
 
 pub every-at : (test : ℕ → Bool) (a n k : ℕ) → every test a n ≡ true → a ≤ k → k < a + n → test k ≡ true
@@ -44,21 +45,22 @@ pub rows-room : (mesh : List Float) (h : Header) (starts : List ℕ) (y : ℕ) �
 rows-room mesh h starts y d l = omega (arith, mul-le-mul-right {m = y} {n = h .rows} (h .columns) l, d .room)
 
 -- a member that can be looked at
-pub record Member (mesh : List Float) (n : ℕ) (marks : List ℕ) (stamp i : ℕ) : Type 0 where
+pub record Member (mesh boxes : List Float) (n : ℕ) (marks : List ℕ) (stamp i : ℕ) : Type 0 where
   pub below : i < n
   pub numbers : (k : ℕ) → 9 * i ≤ k → k < 9 * i + 9 → isCoordinate (num mesh k) ≡ true
   pub mark : getD marks i 0 ≤ stamp
 
-member-is : (mesh : List Float) (n : ℕ) (marks : List ℕ) (stamp i : ℕ) → memberUsable mesh n marks stamp i ≡ true → Member mesh n marks stamp i
-unfolding memberUsable triangleUsable
-member-is mesh n marks stamp i e =
-    let a = both-true (ltb i n) (triangleUsable mesh i && leb (getD marks i 0) stamp) e in
-    let b = both-true (triangleUsable mesh i) (leb (getD marks i 0) stamp) (a .1) in
-    record { below = ltb-true i n (a .0); numbers = λ k. every-at (λ m. isCoordinate (num mesh m)) (9 * i) 9 k (b .0); mark = leb-true (getD marks i 0) stamp (b .1) }
+member-is : (mesh boxes : List Float) (n : ℕ) (marks : List ℕ) (stamp i : ℕ) → memberUsable mesh boxes n marks stamp i ≡ true → Member mesh boxes n marks stamp i
+unfolding memberUsable triangleUsable cornersUsable
+member-is mesh boxes n marks stamp i e =
+    let a = both-true (ltb i n) (triangleUsable mesh boxes i && leb (getD marks i 0) stamp) e in
+    let b = both-true (triangleUsable mesh boxes i) (leb (getD marks i 0) stamp) (a .1) in
+    let c = both-true (cornersUsable mesh i) (boxUsable (boxAt boxes i)) (b .0) in
+    record { below = ltb-true i n (a .0); numbers = λ k. every-at (λ m. isCoordinate (num mesh m)) (9 * i) 9 k (c .0); mark = leb-true (getD marks i 0) stamp (b .1) }
 
 module _ (ix : Index) (marks : List ℕ) (stamp : ℕ) (p : Patch) (e : usable ix marks stamp p ≡ true) where
   abbrev test : ℕ → Bool
-  test = memberUsable (ix .mesh) (ix .header .n) marks stamp
+  test = memberUsable (ix .mesh) (ix .boxes) (ix .header .n) marks stamp
 
   parts : (headUsable (ix .mesh) (ix .header) (ix .starts) ≡ true) × (cellsUsable test (ix .starts) (ix .members) (ix .header .columns) p ≡ true)
   unfolding usable
@@ -74,13 +76,13 @@ module _ (ix : Index) (marks : List ℕ) (stamp : ℕ) (p : Patch) (e : usable i
       (every-at (rowUsable test (ix .starts) (ix .members) (ix .header .columns) (p .x0) (p .x1)) (p .y0) (p .y1 - p .y0) y (parts .1) c (omega arith)) a (omega arith)
 
   -- each member of each of the question's cells
-  pub usable-member : (x y k : ℕ) → p .x0 ≤ x → x < p .x1 → p .y0 ≤ y → y < p .y1 → k < length (cell (ix .starts) (ix .members) (y * ix .header .columns + x)) → Member (ix .mesh) (ix .header .n) marks stamp (getD (cell (ix .starts) (ix .members) (y * ix .header .columns + x)) k 0)
+  pub usable-member : (x y k : ℕ) → p .x0 ≤ x → x < p .x1 → p .y0 ≤ y → y < p .y1 → k < length (cell (ix .starts) (ix .members) (y * ix .header .columns + x)) → Member (ix .mesh) (ix .boxes) (ix .header .n) marks stamp (getD (cell (ix .starts) (ix .members) (y * ix .header .columns + x)) k 0)
   unfolding cellUsable
   usable-member x y k a b c d l =
       let i : ℕ = y * ix .header .columns + x in
       let u = both-true (leb (getD (ix .starts) i 0) (getD (ix .starts) (i + 1) 0)) (leb (getD (ix .starts) (i + 1) 0) (length (ix .members)) && each test (cell (ix .starts) (ix .members) i)) (usable-cell x y a b c d) in
       let v = both-true (leb (getD (ix .starts) (i + 1) 0) (length (ix .members))) (each test (cell (ix .starts) (ix .members) i)) (u .1) in
-      member-is (ix .mesh) (ix .header .n) marks stamp _ (each-at test (cell (ix .starts) (ix .members) i) k (v .1) l)
+      member-is (ix .mesh) (ix .boxes) (ix .header .n) marks stamp _ (each-at test (cell (ix .starts) (ix .members) i) k (v .1) l)
 
   pub walkable : p .x1 ≤ ix .header .columns → p .y1 ≤ ix .header .rows → Walkable (ix .starts) (ix .members) (ix .header .n) (ix .header .columns) (p .x0) (p .x1) (p .y0) (p .y1)
   unfolding cellUsable

@@ -8,6 +8,8 @@ use lib.ListN.{length, getD}
 use Rattle.numbers.specs.Reals.{num}
 use Rattle.spans.specs.Mesh.{isCoordinate}
 use Rattle.walk.specs.Walk.{cell}
+use Rattle.plane.specs.declared.Bounds.{Bounds}
+use Rattle.grid.specs.Boxes.{boxAt}
 use Rattle.grid.specs.Index.{Index}
 use Rattle.header.specs.Head.{headUsable}
 use Rattle.query.specs.declared.Patch.{Patch}
@@ -23,12 +25,23 @@ each test [] = true
 each test (i ∷ is) = test i && each test is
 
 -- No coordinate of triangle i is one that 4 would refuse.
-unfoldable pub triangleUsable : List Float → ℕ → Bool
-triangleUsable mesh i = every (λ k. isCoordinate (num mesh k)) (9 * i) 9
+unfoldable pub cornersUsable : List Float → ℕ → Bool
+cornersUsable mesh i = every (λ k. isCoordinate (num mesh k)) (9 * i) 9
 
--- A member of a question's cells is below n, its coordinates pass, and its mark is not above the handed stamp.
-unfoldable pub memberUsable : List Float → ℕ → List ℕ → ℕ → ℕ → Bool
-memberUsable mesh n marks stamp i = ltb i n && (triangleUsable mesh i && leb (getD marks i 0) stamp)
+-- No number of a box is.
+unfoldable pub areCoordinates : Float → Float → Float → Float → Bool
+areCoordinates a b c d = isCoordinate a && (isCoordinate b && (isCoordinate c && isCoordinate d))
+
+unfoldable pub boxUsable : Bounds → Bool
+boxUsable b = areCoordinates (b .«low_x») (b .«low_y») (b .«high_x») (b .«high_y») && isCoordinate (b .top)
+
+-- Triangle i with its box, as the box table has it.
+unfoldable pub triangleUsable : List Float → List Float → ℕ → Bool
+triangleUsable mesh boxes i = cornersUsable mesh i && boxUsable (boxAt boxes i)
+
+-- A member of a question's cells is below n, its numbers pass, and its mark is not above the handed stamp.
+unfoldable pub memberUsable : List Float → List Float → ℕ → List ℕ → ℕ → ℕ → Bool
+memberUsable mesh boxes n marks stamp i = ltb i n && (triangleUsable mesh boxes i && leb (getD marks i 0) stamp)
 
 -- The stretch of cell c: its start is not above its end, its end not beyond members, and the test holds of each member.
 unfoldable pub cellUsable : (ℕ → Bool) → List ℕ → List ℕ → ℕ → Bool
@@ -47,11 +60,11 @@ cellsUsable test starts members columns p = every (rowUsable test starts members
 unfoldable pub usable : Index → List ℕ → ℕ → Patch → Bool
 usable ix marks stamp p =
     headUsable (ix .mesh) (ix .header) (ix .starts)
-    && cellsUsable (memberUsable (ix .mesh) (ix .header .n) marks stamp) (ix .starts) (ix .members) (ix .header .columns) p
+    && cellsUsable (memberUsable (ix .mesh) (ix .boxes) (ix .header .n) marks stamp) (ix .starts) (ix .members) (ix .header .columns) p
 
 -- What it tests of the plan: every cell and every triangle, and no mark.
 unfoldable pub usableWhole : Index → Bool
 usableWhole ix =
     headUsable (ix .mesh) (ix .header) (ix .starts)
-    && (every (triangleUsable (ix .mesh)) 0 (ix .header .n)
+    && (every (triangleUsable (ix .mesh) (ix .boxes)) 0 (ix .header .n)
     && every (cellUsable (λ i. ltb i (ix .header .n)) (ix .starts) (ix .members)) 0 (ix .header .rows * ix .header .columns))

@@ -7,8 +7,10 @@ ghost use Rattle.query.specs.Asked.{isMarked, isPoint};
 ghost use Rattle.query.specs.Patch.{heldTo, axisSpan, patchOf};
 ghost use Rattle.query.specs.Looked.{UsablePromise};
 ghost use Rattle.query.specs.Inside.{squaresOf};
-ghost use Rattle.query.specs.Usable.{each, triangleUsable, memberUsable, cellUsable, rowUsable, cellsUsable, usable};
+ghost use Rattle.query.specs.Usable.{each, cornersUsable, areCoordinates, boxUsable, triangleUsable};
+ghost use Rattle.query.specs.Usable.{memberUsable, cellUsable, rowUsable, cellsUsable, usable};
 use grid::Header;
+use plane::Bounds;
 
 // The cells on one axis, from the first up to the one past the last.
 pub struct Span {
@@ -96,28 +98,75 @@ pub fn usable(
     h: Header,
     starts: &[u32],
     members: &[u32],
+    boxes: &[f64],
     marks: &[u32],
     stamp: u32,
     p: Patch,
 ) -> bool
-    requires { ⌜ (length (now mesh) ≡ length (now marks) * 9) × (p .x1 ≤ h .columns) × (p .y1 ≤ h .rows) ⌝ }
+    requires { ⌜ (length (now mesh) ≡ length (now marks) * 9) × (p .x1 ≤ h .columns) × (p .y1 ≤ h .rows) × (length (now boxes) ≡ length (now marks) * 5) ⌝ }
     ensures { λ r. ⌜ r
-        ≡ usable (indexOf (now (mesh .entry)) h (now (starts .entry)) (now (members .entry))) (now (marks .entry)) stamp p ⌝ }
-    ensures { λ r. ⌜ UsablePromise (indexOf (now (mesh .entry)) h (now (starts .entry)) (now (members .entry))) (now (marks .entry)) stamp p r ⌝ }
+        ≡ usable (indexOf (now (mesh .entry)) h (now (starts .entry)) (now (members .entry)) (now (boxes .entry))) (now (marks .entry)) stamp p ⌝ }
+    ensures { λ r. ⌜ UsablePromise (indexOf (now (mesh .entry)) h (now (starts .entry)) (now (members .entry)) (now (boxes .entry))) (now (marks .entry)) stamp p r ⌝ }
 {
     let n = h.n;
     let columns = h.columns;
     if header::head_usable(mesh, h, starts) {
-        cells_usable(mesh, n, starts, members, marks, stamp, columns, p)
+        cells_usable(mesh, n, starts, members, boxes, marks, stamp, columns, p)
     } else {
         false
     }
 }
 
-// Whether no coordinate of triangle i is one that 4 would refuse: none is where their squares have a small sum, and else each is looked at.
-pub fn triangle_usable(mesh: &[f64], i: usize) -> bool
+// Whether no number of triangle i and of its box is one that 4 would refuse.
+pub fn triangle_usable(mesh: &[f64], boxes: &[f64], i: usize) -> bool
+    requires { ⌜ (9 * i + 9 ≤ length (now mesh)) × (5 * i + 5 ≤ length (now boxes)) ⌝ }
+    ensures { λ r. ⌜ r ≡ triangleUsable (now (mesh .entry)) (now (boxes .entry)) i ⌝ }
+{
+    if corners_usable(mesh, i) {
+        box_usable(grid::box_at(boxes, i))
+    } else {
+        false
+    }
+}
+
+// Whether no number of a box is: none is where their squares have a small sum, and else each is looked at.
+fn box_usable(b: Bounds) -> bool
+    ensures { λ r. ⌜ r ≡ boxUsable b ⌝ }
+{
+    let top = b.top;
+    if squares(b.low_x, b.low_y, b.high_x, b.high_y) + top * top <= 9e11 {
+        return true;
+    }
+    if are_coordinates(b.low_x, b.low_y, b.high_x, b.high_y) {
+        spans::is_coordinate(top)
+    } else {
+        false
+    }
+}
+
+// Whether four numbers are coordinates.
+fn are_coordinates(a: f64, b: f64, c: f64, d: f64) -> bool
+    ensures { λ r. ⌜ r ≡ areCoordinates a b c d ⌝ }
+{
+    if spans::is_coordinate(a) {
+        if spans::is_coordinate(b) {
+            if spans::is_coordinate(c) {
+                spans::is_coordinate(d)
+            } else {
+                false
+            }
+        } else {
+            false
+        }
+    } else {
+        false
+    }
+}
+
+// Whether no coordinate of triangle i is: none is where their squares have a small sum, and else each is looked at.
+fn corners_usable(mesh: &[f64], i: usize) -> bool
     requires { ⌜ 9 * i + 9 ≤ length (now mesh) ⌝ }
-    ensures { λ r. ⌜ r ≡ triangleUsable (now (mesh .entry)) i ⌝ }
+    ensures { λ r. ⌜ r ≡ cornersUsable (now (mesh .entry)) i ⌝ }
 {
     let k = 9 * i;
     let last = mesh[k + 8];
@@ -139,7 +188,7 @@ fn squares(a: f64, b: f64, c: f64, d: f64) -> f64
 // Whether no coordinate of triangle i is one that 4 would refuse, one after the other.
 fn each_usable(mesh: &[f64], i: usize) -> bool
     requires { ⌜ 9 * i + 9 ≤ length (now mesh) ⌝ }
-    ensures { λ r. ⌜ r ≡ triangleUsable (now (mesh .entry)) i ⌝ }
+    ensures { λ r. ⌜ r ≡ cornersUsable (now (mesh .entry)) i ⌝ }
 {
     for k in 9 * i..9 * i + 9 {
         if !spans::is_coordinate(mesh[k]) {
@@ -150,12 +199,19 @@ fn each_usable(mesh: &[f64], i: usize) -> bool
 }
 
 // Whether member i of a question's cells can be looked at.
-fn member_usable(mesh: &[f64], n: usize, marks: &[u32], stamp: u32, i: usize) -> bool
-    requires { ⌜ (length (now mesh) ≡ n * 9) × (length (now marks) ≡ n) ⌝ }
-    ensures { λ r. ⌜ r ≡ memberUsable (now (mesh .entry)) n (now (marks .entry)) stamp i ⌝ }
+fn member_usable(
+    mesh: &[f64],
+    boxes: &[f64],
+    n: usize,
+    marks: &[u32],
+    stamp: u32,
+    i: usize,
+) -> bool
+    requires { ⌜ (length (now mesh) ≡ n * 9) × (length (now marks) ≡ n) × (length (now boxes) ≡ n * 5) ⌝ }
+    ensures { λ r. ⌜ r ≡ memberUsable (now (mesh .entry)) (now (boxes .entry)) n (now (marks .entry)) stamp i ⌝ }
 {
     if i < n {
-        if triangle_usable(mesh, i) {
+        if triangle_usable(mesh, boxes, i) {
             marks[i] <= stamp
         } else {
             false
@@ -166,12 +222,19 @@ fn member_usable(mesh: &[f64], n: usize, marks: &[u32], stamp: u32, i: usize) ->
 }
 
 // Whether each number of one cell can be looked at.
-fn members_usable(mesh: &[f64], n: usize, marks: &[u32], stamp: u32, part: &[u32]) -> bool
-    requires { ⌜ (length (now mesh) ≡ n * 9) × (length (now marks) ≡ n) ⌝ }
-    ensures { λ r. ⌜ r ≡ each (memberUsable (now (mesh .entry)) n (now (marks .entry)) stamp) (now (part .entry)) ⌝ }
+fn members_usable(
+    mesh: &[f64],
+    boxes: &[f64],
+    n: usize,
+    marks: &[u32],
+    stamp: u32,
+    part: &[u32],
+) -> bool
+    requires { ⌜ (length (now mesh) ≡ n * 9) × (length (now marks) ≡ n) × (length (now boxes) ≡ n * 5) ⌝ }
+    ensures { λ r. ⌜ r ≡ each (memberUsable (now (mesh .entry)) (now (boxes .entry)) n (now (marks .entry)) stamp) (now (part .entry)) ⌝ }
 {
     for j in 0..part.len() {
-        if !member_usable(mesh, n, marks, stamp, part[j] as usize) {
+        if !member_usable(mesh, boxes, n, marks, stamp, part[j] as usize) {
             return false;
         }
     }
@@ -184,19 +247,20 @@ fn cell_usable(
     n: usize,
     starts: &[u32],
     members: &[u32],
+    boxes: &[f64],
     marks: &[u32],
     stamp: u32,
     c: usize,
 ) -> bool
-    requires { ⌜ (length (now mesh) ≡ n * 9) × (length (now marks) ≡ n) × (c + 1 < length (now starts)) ⌝ }
+    requires { ⌜ (length (now mesh) ≡ n * 9) × (length (now marks) ≡ n) × (c + 1 < length (now starts)) × (length (now boxes) ≡ n * 5) ⌝ }
     ensures { λ r. ⌜ r
-        ≡ cellUsable (memberUsable (now (mesh .entry)) n (now (marks .entry)) stamp) (now (starts .entry)) (now (members .entry)) c ⌝ }
+        ≡ cellUsable (memberUsable (now (mesh .entry)) (now (boxes .entry)) n (now (marks .entry)) stamp) (now (starts .entry)) (now (members .entry)) c ⌝ }
 {
     let a = starts[c] as usize;
     let e = starts[c + 1] as usize;
     if a <= e {
         if e <= members.len() {
-            members_usable(mesh, n, marks, stamp, &members[a..e])
+            members_usable(mesh, boxes, n, marks, stamp, &members[a..e])
         } else {
             false
         }
@@ -211,6 +275,7 @@ fn row_usable(
     n: usize,
     starts: &[u32],
     members: &[u32],
+    boxes: &[f64],
     marks: &[u32],
     stamp: u32,
     columns: usize,
@@ -218,12 +283,12 @@ fn row_usable(
     x1: usize,
     y: usize,
 ) -> bool
-    requires { ⌜ (length (now mesh) ≡ n * 9) × (length (now marks) ≡ n) × (y * columns + x1 < length (now starts)) ⌝ }
+    requires { ⌜ (length (now mesh) ≡ n * 9) × (length (now marks) ≡ n) × (y * columns + x1 < length (now starts)) × (length (now boxes) ≡ n * 5) ⌝ }
     ensures { λ r. ⌜ r
-        ≡ rowUsable (memberUsable (now (mesh .entry)) n (now (marks .entry)) stamp) (now (starts .entry)) (now (members .entry)) columns x0 x1 y ⌝ }
+        ≡ rowUsable (memberUsable (now (mesh .entry)) (now (boxes .entry)) n (now (marks .entry)) stamp) (now (starts .entry)) (now (members .entry)) columns x0 x1 y ⌝ }
 {
     for x in x0..x1 {
-        if !cell_usable(mesh, n, starts, members, marks, stamp, y * columns + x) {
+        if !cell_usable(mesh, n, starts, members, boxes, marks, stamp, y * columns + x) {
             return false;
         }
     }
@@ -236,21 +301,23 @@ fn cells_usable(
     n: usize,
     starts: &[u32],
     members: &[u32],
+    boxes: &[f64],
     marks: &[u32],
     stamp: u32,
     columns: usize,
     p: Patch,
 ) -> bool
-    requires { ⌜ (length (now mesh) ≡ n * 9) × (length (now marks) ≡ n) × (p .x1 ≤ columns) × (p .y1 * columns < length (now starts)) ⌝ }
+    requires { ⌜ (length (now mesh) ≡ n * 9) × (length (now marks) ≡ n) × (p .x1 ≤ columns) × (p .y1 * columns < length (now starts))
+        × (length (now boxes) ≡ n * 5) ⌝ }
     ensures { λ r. ⌜ r
-        ≡ cellsUsable (memberUsable (now (mesh .entry)) n (now (marks .entry)) stamp) (now (starts .entry)) (now (members .entry)) columns p ⌝ }
+        ≡ cellsUsable (memberUsable (now (mesh .entry)) (now (boxes .entry)) n (now (marks .entry)) stamp) (now (starts .entry)) (now (members .entry)) columns p ⌝ }
 {
     let x0 = p.x0;
     let x1 = p.x1;
     let y0 = p.y0;
     let y1 = p.y1;
     for y in y0..y1 {
-        if !row_usable(mesh, n, starts, members, marks, stamp, columns, x0, x1, y) {
+        if !row_usable(mesh, n, starts, members, boxes, marks, stamp, columns, x0, x1, y) {
             return false;
         }
     }

@@ -42,6 +42,7 @@ fn end_stretch(
     h: Header,
     starts: &[u32],
     members: &[u32],
+    boxes: &[f64],
     marks: &mut [u32],
     runs: &mut [f64],
     a: Aim,
@@ -52,9 +53,9 @@ fn end_stretch(
     k: usize,
     s: Stand,
 ) -> Stand
-    requires { ⌜ Askable (indexOf (now mesh) h (now starts) (now members)) × Marked (h .n) (s .stamp) (now marks) × (k ≤ j) × (j ≤ l .samples + 1) ⌝ }
+    requires { ⌜ Askable (indexOf (now mesh) h (now starts) (now members) (now boxes)) × Marked (h .n) (s .stamp) (now marks) × (k ≤ j) × (j ≤ l .samples + 1) ⌝ }
     ensures { λ e. ⌜ (work (now (runs .exit)) (e .tally)
-        ≡ rowTaken (heightUnder (indexOf (now (mesh .entry)) h (now (starts .entry)) (now (members .entry)))) a l n
+        ≡ rowTaken (heightUnder (indexOf (now (mesh .entry)) h (now (starts .entry)) (now (members .entry)) (now (boxes .entry)))) a l n
         (work (now (runs .entry)) (s .tally)) (map (numbered forward (l .samples)) (endedAt k j))) × Marked (h .n) (e .stamp) (now (marks .exit)) ⌝ }
 {
     if k <= 1 {
@@ -68,6 +69,7 @@ fn end_stretch(
         h,
         starts,
         members,
+        boxes,
         marks,
         runs,
         a,
@@ -112,6 +114,7 @@ fn advance(
     h: Header,
     starts: &[u32],
     members: &[u32],
+    boxes: &[f64],
     marks: &mut [u32],
     runs: &mut [f64],
     a: Aim,
@@ -121,9 +124,9 @@ fn advance(
     j: usize,
     w: Walked,
 ) -> Walked
-    requires { ⌜ Askable (indexOf (now mesh) h (now starts) (now members)) × Marked (h .n) (w .stand .stamp) (now marks) × (w .k ≤ j)
+    requires { ⌜ Askable (indexOf (now mesh) h (now starts) (now members) (now boxes)) × Marked (h .n) (w .stand .stamp) (now marks) × (w .k ≤ j)
         × (j ≤ l .samples) × (l .samples ≤ 65535) ⌝ }
-    ensures { λ e. ⌜ Advanced (heightUnder (indexOf (now (mesh .entry)) h (now (starts .entry)) (now (members .entry)))) a l forward n j w
+    ensures { λ e. ⌜ Advanced (heightUnder (indexOf (now (mesh .entry)) h (now (starts .entry)) (now (members .entry)) (now (boxes .entry)))) a l forward n j w
         (now (runs .entry)) e (now (runs .exit)) × Marked (h .n) (e .stand .stamp) (now (marks .exit)) ⌝ }
 {
     let s = w.stand;
@@ -135,6 +138,7 @@ fn advance(
         h,
         starts,
         members,
+        boxes,
         marks,
         s.stamp,
         a,
@@ -156,6 +160,7 @@ fn advance(
         h,
         starts,
         members,
+        boxes,
         marks,
         runs,
         a,
@@ -175,6 +180,7 @@ pub fn walk_row(
     h: Header,
     starts: &[u32],
     members: &[u32],
+    boxes: &[f64],
     marks: &mut [u32],
     runs: &mut [f64],
     a: Aim,
@@ -183,11 +189,11 @@ pub fn walk_row(
     n: usize,
     s: Stand,
 ) -> Stand
-    requires { ⌜ Askable (indexOf (now mesh) h (now starts) (now members)) × Marked (h .n) (s .stamp) (now marks) × (l .samples ≤ 65535) ⌝ }
+    requires { ⌜ Askable (indexOf (now mesh) h (now starts) (now members) (now boxes)) × Marked (h .n) (s .stamp) (now marks) × (l .samples ≤ 65535) ⌝ }
     ensures { λ e. ⌜ (work (now (runs .exit)) (e .tally)
-        ≡ rowTaken (heightUnder (indexOf (now (mesh .entry)) h (now (starts .entry)) (now (members .entry)))) a l n
+        ≡ rowTaken (heightUnder (indexOf (now (mesh .entry)) h (now (starts .entry)) (now (members .entry)) (now (boxes .entry)))) a l n
         (work (now (runs .entry)) (s .tally)) (map (numbered forward (l .samples))
-        (stretchesOf (λ j. onLevel (heightUnder (indexOf (now (mesh .entry)) h (now (starts .entry)) (now (members .entry)))) a l
+        (stretchesOf (λ j. onLevel (heightUnder (indexOf (now (mesh .entry)) h (now (starts .entry)) (now (members .entry)) (now (boxes .entry)))) a l
         (numberOf forward (l .samples) j)) (l .samples)))) × Marked (h .n) (e .stamp) (now (marks .exit)) ⌝ }
 {
     let samples = l.samples;
@@ -198,6 +204,7 @@ pub fn walk_row(
             h,
             starts,
             members,
+            boxes,
             marks,
             runs,
             a,
@@ -215,6 +222,7 @@ pub fn walk_row(
         h,
         starts,
         members,
+        boxes,
         marks,
         runs,
         a,

@@ -10,7 +10,6 @@ use Rattle.numbers.specs.Reals.{maxOf, minOf}
 use Rattle.plane.specs.declared.Triangle.{Triangle}
 use Rattle.plane.specs.declared.Bounds.{Bounds}
 use Rattle.plane.specs.declared.Contact.{Contact}
-use Rattle.plane.specs.Mesh.{boundsOf}
 use Rattle.reach.specs.declared.Chord.{Chord}
 use Rattle.section.specs.declared.Section.{Section}
 use Rattle.section.specs.Section.{validSection, sectionContact}
@@ -36,8 +35,8 @@ module _ (table : List Float) (i : ℕ) (s : Section) (here : s ≡ sectionOf ta
   pub valid-here : (b : Bool) → b ≡ validSection s → b ≡ validSection (sectionOf table i)
   valid-here b e = e ∙ ap validSection here
 
-  pub blocks-here : (t : Triangle) (m : Chord) (box : Bounds) (b : Bool) → box ≡ boundsOf t → b ≡ sectionBlocks t box m s → not b ≡ not (sectionBlocks t (boundsOf t) m (sectionOf table i))
-  blocks-here t m box b p e = rw (e, p, here)
+  pub blocks-here : (t : Triangle) (m : Chord) (box : Bounds) (b : Bool) → b ≡ sectionBlocks t box m s → not b ≡ not (sectionBlocks t box m (sectionOf table i))
+  blocks-here t m box b e = rw (e, here)
 
 -- before the first section, all are left
 pub all-left : (test : ℕ → Bool) (n : ℕ) → every test 0 (n - 0) ≡ every test 0 n

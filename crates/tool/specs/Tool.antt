@@ -9,7 +9,7 @@ use Rattle.numbers.specs.Reals.{num, f0, maxOf, minOf}
 use Rattle.cells.specs.Cover.{isFrom}
 use Rattle.golden.specs.Upper.{infinity}
 use Rattle.plane.specs.declared.Triangle.{Triangle}
-use Rattle.plane.specs.Mesh.{boundsOf}
+use Rattle.plane.specs.declared.Bounds.{Bounds}
 use Rattle.walk.specs.declared.Best.{Best}
 use Rattle.query.specs.Usable.{every}
 use Rattle.ask.specs.Ask.{raisedBy}
@@ -48,6 +48,6 @@ unfoldable pub raisedOver : Triangle → ℕ → Float → Float → List Float 
 raisedOver t k x y table best zero = best
 raisedOver t k x y table best (suc n) = raisedBy (sectionContact t x y (sectionOf table n)) k (raisedOver t k x y table best n)
 
--- Whether a triangle blocks none of the sections on a chord.
-unfoldable pub passesAll : Triangle → Chord → List Float → Bool
-passesAll t m table = every (λ i. not (sectionBlocks t (boundsOf t) m (sectionOf table i))) 0 (sectionsIn table)
+-- Whether a triangle with the box b blocks none of the sections on a chord.
+unfoldable pub passesAll : Triangle → Bounds → Chord → List Float → Bool
+passesAll t b m table = every (λ i. not (sectionBlocks t b m (sectionOf table i))) 0 (sectionsIn table)

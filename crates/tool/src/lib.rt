@@ -6,6 +6,7 @@ ghost use Rattle.cells.specs.Cover.{isFrom};
 ghost use Rattle.query.specs.Usable.{every};
 ghost use Rattle.section.specs.Section.{validSection};
 ghost use Rattle.tool.specs.Tool.{sectionOf, sectionsIn, isTool, widestOf, lowestOf, raisedOver, passesAll};
+use plane::Bounds;
 use plane::Triangle;
 use reach::Chord;
 use section::Section;
@@ -99,11 +100,10 @@ pub fn raise_over(t: Triangle, k: u32, x: f64, y: f64, table: &[f64], best: Best
     high
 }
 
-// Whether a triangle blocks none of the sections on a chord.
-pub fn passes_all(t: Triangle, m: Chord, table: &[f64]) -> bool
-    ensures { λ r. ⌜ r ≡ passesAll t m (now (table .entry)) ⌝ }
+// Whether a triangle with the box b blocks none of the sections on a chord.
+pub fn passes_all(t: Triangle, b: Bounds, m: Chord, table: &[f64]) -> bool
+    ensures { λ r. ⌜ r ≡ passesAll t b m (now (table .entry)) ⌝ }
 {
-    let b = plane::bounds_of(t);
     let n = table.len() / 4;
     for i in 0..n {
         if section_gap::section_blocks(t, b, m, section_at(table, i)) {

@@ -10,12 +10,13 @@ use lib.ListN.{length, getD}
 use Rattle.numbers.specs.Reals.{num}
 use Rattle.numbers.proofs.Branches.{both-true}
 use Rattle.spans.specs.Mesh.{isCoordinate}
+use Rattle.grid.specs.Boxes.{boxAt}
 use Rattle.grid.specs.Index.{Index, SoundIndex}
 use Rattle.header.specs.Head.{headUsable}
 use Rattle.header.proofs.Ranges.{Headed, headed-is}
 use Rattle.walk.specs.Walk.{cell}
 use Rattle.walk.specs.Inside.{Walkable}
-use Rattle.query.specs.Usable.{every, each, triangleUsable, cellUsable, usableWhole}
+use Rattle.query.specs.Usable.{every, each, cornersUsable, boxUsable, triangleUsable, cellUsable, usableWhole}
 use Rattle.query.proofs.Testing.{in-rows}
 use Rattle.query.proofs.Using.{every-at, each-at}
 use Rattle.query.proofs.Passing.{every-all, sound-head, sound-triangle, sound-cell}
@@ -27,22 +28,23 @@ module _ (ix : Index) (e : usableWhole ix ≡ true) where
   abbrev tables : Bool
   tables = every (cellUsable test (ix .starts) (ix .members)) 0 (ix .header .rows * ix .header .columns)
 
-  parts : (headUsable (ix .mesh) (ix .header) (ix .starts) ≡ true) × ((every (triangleUsable (ix .mesh)) 0 (ix .header .n) && tables) ≡ true)
+  parts : (headUsable (ix .mesh) (ix .header) (ix .starts) ≡ true) × ((every (triangleUsable (ix .mesh) (ix .boxes)) 0 (ix .header .n) && tables) ≡ true)
   unfolding usableWhole
-  parts = both-true (headUsable (ix .mesh) (ix .header) (ix .starts)) (every (triangleUsable (ix .mesh)) 0 (ix .header .n) && tables) e
+  parts = both-true (headUsable (ix .mesh) (ix .header) (ix .starts)) (every (triangleUsable (ix .mesh) (ix .boxes)) 0 (ix .header .n) && tables) e
 
   pub whole-head : Headed (ix .mesh) (ix .header) (ix .starts)
   whole-head = headed-is (ix .mesh) (ix .header) (ix .starts) (parts .0)
 
   -- no number of the (ix .mesh) is one that 4 would refuse
   pub whole-numbers : (k : ℕ) → k < length (ix .mesh) → isCoordinate (num (ix .mesh) k) ≡ true
-  unfolding triangleUsable
+  unfolding triangleUsable cornersUsable
   whole-numbers k l =
       let a = div-add-mod' k 9 in
       let b = mod-lt k {m = 9} (omega arith) in
+      let c = every-at (triangleUsable (ix .mesh) (ix .boxes)) 0 (ix .header .n) (k / 9)
+      (both-true (every (triangleUsable (ix .mesh) (ix .boxes)) 0 (ix .header .n)) tables (parts .1) .0) (omega arith) (omega (arith, whole-head .nine)) in
       every-at (λ m. isCoordinate (num (ix .mesh) m)) (9 * (k / 9)) 9 k
-      (every-at (triangleUsable (ix .mesh)) 0 (ix .header .n) (k / 9) (both-true (every (triangleUsable (ix .mesh)) 0 (ix .header .n)) tables (parts .1) .0) (omega arith) (omega (arith, whole-head .nine)))
-      (omega arith) (omega arith)
+      (both-true (cornersUsable (ix .mesh) (k / 9)) (boxUsable (boxAt (ix .boxes) (k / 9))) c .0) (omega arith) (omega arith)
 
   -- the cells of any patch of the grid can be walked
   pub whole-walkable : (x0 x1 y0 y1 : ℕ) → x1 ≤ ix .header .columns → y1 ≤ ix .header .rows → Walkable (ix .starts) (ix .members) (ix .header .n) (ix .header .columns) x0 x1 y0 y1
@@ -66,13 +68,13 @@ module _ (ix : Index) (e : usableWhole ix ≡ true) where
 
       at : (x y : ℕ) → x < x1 → y < y1 → cellUsable test (ix .starts) (ix .members) (y * ix .header .columns + x) ≡ true
       at x y b d =
-          every-at (cellUsable test (ix .starts) (ix .members)) 0 (ix .header .rows * ix .header .columns) (y * ix .header .columns + x) (both-true (every (triangleUsable (ix .mesh)) 0 (ix .header .n)) tables (parts .1) .1) (omega arith) (omega (arith, below x y b d))
+          every-at (cellUsable test (ix .starts) (ix .members)) 0 (ix .header .rows * ix .header .columns) (y * ix .header .columns + x) (both-true (every (triangleUsable (ix .mesh) (ix .boxes)) 0 (ix .header .n)) tables (parts .1) .1) (omega arith) (omega (arith, below x y b d))
 
 -- a sound index passes
 pub sound-whole : (ix : Index) → SoundIndex ix → usableWhole ix ≡ true
 unfolding usableWhole
 sound-whole ix d =
-    let triangles = every-all (triangleUsable (ix .mesh)) 0 (ix .header .n) (λ i a b. sound-triangle ix d i (omega arith)) in
+    let triangles = every-all (triangleUsable (ix .mesh) (ix .boxes)) 0 (ix .header .n) (λ i a b. sound-triangle ix d i (omega arith)) in
     let cells = every-all (cellUsable (λ i. ltb i (ix .header .n)) (ix .starts) (ix .members)) 0 (ix .header .rows * ix .header .columns)
     (λ c a b. sound-cell ix d (λ i. ltb i (ix .header .n)) (λ i l. lt-ltb i (ix .header .n) l) c (omega arith)) in
     rw (sound-head ix d, triangles, cells)

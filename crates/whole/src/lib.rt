@@ -1,6 +1,6 @@
 // What refusal 7 tests of the plan: every cell of the grid and every triangle of the mesh, and no mark.
 ghost use mathlib.Core.Path.{_≡_};
-ghost use Prim.Native.Nat.{_+_, _*_, _≤_, _<_};
+ghost use Prim.Native.Nat.{_+_, _*_, _/_, _≤_, _<_};
 ghost use lib.Dec.{ltb};
 ghost use lib.ListN.{length};
 ghost use Rattle.grid.specs.Index.{indexOf};
@@ -8,14 +8,21 @@ ghost use Rattle.query.specs.Usable.{every, each, triangleUsable, cellUsable, u
 use grid::Header;
 
 // Whether header and tables can be used for any question over the mesh.
-pub fn usable_whole(mesh: &[f64], h: Header, starts: &[u32], members: &[u32]) -> bool
-    ensures { λ r. ⌜ r ≡ usableWhole (indexOf (now (mesh .entry)) h (now (starts .entry)) (now (members .entry))) ⌝ }
+pub fn usable_whole(
+    mesh: &[f64],
+    h: Header,
+    starts: &[u32],
+    members: &[u32],
+    boxes: &[f64],
+) -> bool
+    requires { ⌜ length (now boxes) ≡ length (now mesh) / 9 * 5 ⌝ }
+    ensures { λ r. ⌜ r ≡ usableWhole (indexOf (now (mesh .entry)) h (now (starts .entry)) (now (members .entry)) (now (boxes .entry))) ⌝ }
 {
     let n = h.n;
     let columns = h.columns;
     let rows = h.rows;
     if header::head_usable(mesh, h, starts) {
-        if triangles_usable(mesh, n) {
+        if triangles_usable(mesh, boxes, n) {
             cells_below(starts, members, n, rows * columns)
         } else {
             false
@@ -25,13 +32,13 @@ pub fn usable_whole(mesh: &[f64], h: Header, starts: &[u32], members: &[u32]) ->
     }
 }
 
-// Whether no coordinate of the first n triangles is one that 4 would refuse.
-fn triangles_usable(mesh: &[f64], n: usize) -> bool
-    requires { ⌜ length (now mesh) ≡ n * 9 ⌝ }
-    ensures { λ r. ⌜ r ≡ every (triangleUsable (now (mesh .entry))) 0 n ⌝ }
+// Whether no number of the first n triangles and of their boxes is one that 4 would refuse.
+fn triangles_usable(mesh: &[f64], boxes: &[f64], n: usize) -> bool
+    requires { ⌜ (length (now mesh) ≡ n * 9) × (length (now boxes) ≡ n * 5) ⌝ }
+    ensures { λ r. ⌜ r ≡ every (triangleUsable (now (mesh .entry)) (now (boxes .entry))) 0 n ⌝ }
 {
     for i in 0..n {
-        if !query::triangle_usable(mesh, i) {
+        if !query::triangle_usable(mesh, boxes, i) {
             return false;
         }
     }

@@ -8,18 +8,18 @@ use Rattle.chords.proofs.strike_tool.Tie as tie
 returns : tie.Need-returns
 returns c =
     let f = c .before .before .before .fresh in
-    strike-is _ _ _ _ _ (c .before .before .before .before .before .before .before .before .pre .3) (fresh-again _ _ _ _ _ _ (f .ensures .0) (f .ensures .1) (c .if1 .taken))
+    strike-is _ _ _ _ _ (c .before .before .before .before .before .before .before .before .before .pre .3) (fresh-again _ _ _ _ _ _ (f .ensures .0) (f .ensures .1) (c .if1 .taken))
 
-add-count : tie.Need-add-t14
+add-count : tie.Need-add-t15
 add-count c =
     let f = c .before .before .before .fresh in
-    let s = c .before .before .before .before .before .before .before .before in
+    let s = c .before .before .before .before .before .before .before .before .before in
     record { fits = fresh-room _ _ _ _ _ (f .ensures .0) (c .if1 .left) (s .pre .1) (s .pre .2) }
 
 returns-2 : tie.Need-returns-2
 returns-2 c =
     let f = c .before .before .before .before .fresh in
-    strike-is _ _ _ _ _ (c .before .before .before .before .before .before .before .before .before .pre .3)
+    strike-is _ _ _ _ _ (c .before .before .before .before .before .before .before .before .before .before .pre .3)
     (fresh-first _ _ _ _ _ _ (f .ensures .0) (f .ensures .1) (c .before .if1 .left) _ (ap not (c .tool-blocks-at .ensures)))
 
 pub strike-tool-spec : {M : Type 1} → statement M

@@ -7,11 +7,11 @@ use Rattle.chords.proofs.tool_blocks.Tie as tie
 
 returns : tie.Need-returns
 unfolding toolBlocks
-returns c = taken _ _ _ _ (rw (c .before .top .ensures, c .before .before .min .ensures) at (c .if1 .taken)) refl
+returns c = taken _ _ _ _ (rw (c .before .before .min .ensures) at (c .if1 .taken)) refl
 
 returns-2 : tie.Need-returns-2
 unfolding toolBlocks
-returns-2 c = left _ _ _ _ (rw (c .before .before .top .ensures, c .before .before .before .min .ensures) at (c .before .if1 .left)) (ap not (c .passes-all .ensures))
+returns-2 c = left _ _ _ _ (rw (c .before .before .before .min .ensures) at (c .before .if1 .left)) (ap not (c .passes-all .ensures))
 
 pub tool-blocks-spec : {M : Type 1} → statement M
-tool-blocks-spec = tie.close (tie.spec (λ c κs. tt) (λ c κs. tt) returns (λ c κs. tt) returns-2)
+tool-blocks-spec = tie.close (tie.spec (λ c κs. tt) returns (λ c κs. tt) returns-2)

@@ -11,11 +11,11 @@ use Rattle.contact.proofs.cell_tool.Statement.{statement}
 use Rattle.contact.proofs.cell_tool.Tie as tie
 
 abbrev Inv-loop : tie.InvT-loop
-Inv-loop mesh part marks₀ stamp a table found₀ j₀ j-end marks found j =
-    Going stamp (look stamp (toolStep mesh a table)) (seen marks₀ found₀) part (seen marks found) (drop j part) × (j-end ≡ length part) × (j ≤ j-end)
+Inv-loop mesh boxes part marks₀ stamp a table found₀ j₀ j-end marks found j =
+    Going stamp (look stamp (toolStep mesh boxes a table)) (seen marks₀ found₀) part (seen marks found) (drop j part) × (j-end ≡ length part) × (j ≤ j-end)
 
 abbrev μ-loop : tie.MeasureT-loop
-μ-loop mesh part marks₀ stamp a table found₀ j₀ j-end marks found j = j-end - j
+μ-loop mesh boxes part marks₀ stamp a table found₀ j₀ j-end marks found j = j-end - j
 
 loop-holds : tie.Need-loop-holds Inv-loop μ-loop
 loop-holds c = (going-starts, search needs, search needs)
@@ -23,9 +23,9 @@ loop-holds c = (going-starts, search needs, search needs)
 look-tool-requires : tie.Need-look-tool-requires Inv-loop μ-loop
 look-tool-requires c κs =
     let l = c .before .before .before .loop in
-    let s = c .before .before .before .before .before .before .before .before in
+    let s = c .before .before .before .before .before .before .before .before .before in
     let k = l .inv .0 .kept in
-    (omega (arith, s .pre .0, k .size), omega (arith, s .pre .1 (l .j) (omega arith), k .size), kept-room k (s .pre .2))
+    (omega (arith, s .pre .0, k .size), omega (arith, s .pre .1 (l .j) (omega arith), k .size), kept-room k (s .pre .2), omega (arith, s .pre .3, k .size))
 
 loop-again : tie.Need-loop-again Inv-loop μ-loop
 loop-again c =

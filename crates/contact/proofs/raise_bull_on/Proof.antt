@@ -7,12 +7,12 @@ use Rattle.contact.proofs.raise_bull_on.Tie as tie
 
 returns : tie.Need-returns
 unfolding bullRaised
-returns c = taken _ _ _ _ (rw (c .before .before .top .ensures) at (c .if1 .taken)) refl
+returns c = taken _ _ _ _ (c .if1 .taken) refl
 
 returns-2 : tie.Need-returns-2
 unfolding bullRaised
-returns-2 c = left _ _ _ _ (rw (c .before .before .before .before .top .ensures) at (c .before .before .if1 .left))
-    (c .raise-by .ensures ∙ ap (λ k. raisedBy k (c .before .before .before .before .before .args .i) (c .before .before .before .before .before .args .best)) (c .before .bull-contact-above .ensures))
+returns-2 c = left _ _ _ _ (c .before .before .if1 .left)
+    (c .raise-by .ensures ∙ ap (λ k. raisedBy k (c .before .before .before .before .args .i) (c .before .before .before .before .args .best)) (c .before .bull-contact-above .ensures))
 
 pub raise-bull-on-spec : {M : Type 1} → statement M
-raise-bull-on-spec = tie.close (tie.spec (λ c κs. tt) returns (λ c κs. tt) (λ c κs. tt) returns-2)
+raise-bull-on-spec = tie.close (tie.spec returns (λ c κs. tt) (λ c κs. tt) returns-2)

@@ -6,11 +6,11 @@ use Rattle.contact.proofs.raise_tool_on.Tie as tie
 
 returns : tie.Need-returns
 unfolding toolRaised
-returns c = taken _ _ _ _ (rw (c .before .before .top .ensures) at (c .if1 .taken)) refl
+returns c = taken _ _ _ _ (c .if1 .taken) refl
 
 returns-2 : tie.Need-returns-2
 unfolding toolRaised
-returns-2 c = left _ _ _ _ (rw (c .before .before .before .top .ensures) at (c .before .if1 .left)) (c .raise-over .ensures)
+returns-2 c = left _ _ _ _ (c .before .if1 .left) (c .raise-over .ensures)
 
 pub raise-tool-on-spec : {M : Type 1} → statement M
-raise-tool-on-spec = tie.close (tie.spec (λ c κs. tt) returns (λ c κs. tt) returns-2)
+raise-tool-on-spec = tie.close (tie.spec returns (λ c κs. tt) returns-2)

@@ -10,7 +10,7 @@ returns : tie.Need-returns
 returns c =
     let b = c .before .before .before .before .before .before .before .before .build in
     let some = c .before .before .if1 .taken in
-    (refused-left (outcome (b .result) (b .last .1 .1 .1 .0) (b .last .1 .1 .1 .1 .0)) some ∙ ap builtLeftBy (b .ensures .0), record { sound = λ none. absurd (some none); built = λ none. absurd (some none) })
+    (refused-left (outcome (b .result) (b .last .1 .1 .1 .0) (b .last .1 .1 .1 .1 .0) (b .last .1 .1 .1 .1 .1 .0)) some ∙ ap builtLeftBy (b .ensures .0), record { sound = λ none. absurd (some none); built = λ none. absurd (some none) })
 
 cast-t19 : tie.Need-cast-t19
 cast-t19 c =
@@ -32,7 +32,7 @@ unfolding headerFrom
 returns-2 c =
     let b = c .before .before .before .before .before .before .before .before .before .before .before .before .build in
     let zero = c .before .before .before .before .before .before .if1 .left in
-    (accepted-left (outcome (b .result) (b .last .1 .1 .1 .0) (b .last .1 .1 .1 .1 .0)) zero ∙ ap builtLeftBy (b .ensures .0), b .ensures .1)
+    (accepted-left (outcome (b .result) (b .last .1 .1 .1 .0) (b .last .1 .1 .1 .1 .0) (b .last .1 .1 .1 .1 .1 .0)) zero ∙ ap builtLeftBy (b .ensures .0), b .ensures .1)
 
 pub mandrikelo-build-spec : {M : Type 1} → statement M
 mandrikelo-build-spec =
@@ -41,10 +41,12 @@ mandrikelo-build-spec =
     (λ c κs. tt)
     (λ c. search needs)
     (λ c. search needs)
+    (λ c. search needs)
     returns
     cast-t19
     cast-t20
     cast-t21
+    (λ c. search needs)
     (λ c. search needs)
     (λ c. search needs)
     returns-2)

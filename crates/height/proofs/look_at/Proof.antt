@@ -8,10 +8,10 @@ returns c =
     let f = c .before .before .before .fresh in
     fresh-again _ _ _ _ _ _ (f .ensures .0) (f .ensures .1) (c .if1 .taken)
 
-add-count : tie.Need-add-t14
+add-count : tie.Need-add-t15
 add-count c =
     let f = c .before .before .before .fresh in
-    let s = c .before .before .before .before .before .before .before .before in
+    let s = c .before .before .before .before .before .before .before .before .before in
     record { fits = fresh-room _ _ _ _ _ (f .ensures .0) (c .if1 .left) (s .pre .1) (s .pre .2) }
 
 returns-2 : tie.Need-returns-2

@@ -9,8 +9,8 @@ refusal-requires c κs = rw (c .before .before .patch-of .ensures) (patch-inside
 
 returns : tie.Need-returns
 returns c =
-    let d = c .before .before in
-    refused _ _ _ _ _ _ (c .before .refusal .ensures .0) _ (d .before .before .patch-of .ensures) (d .before .is-sweep .ensures) (c .if1 .taken)
+    let d = c .before .before .before in
+    refused _ _ _ _ _ _ (c .before .refusal .ensures .0) _ (d .before .patch-of .ensures) (d .is-sweep .ensures) (c .if1 .taken)
 
 sweep-in-requires : tie.Need-sweep-in-requires
 sweep-in-requires c κs =

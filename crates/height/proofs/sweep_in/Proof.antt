@@ -7,8 +7,8 @@ use Rattle.height.proofs.sweep_in.Tie as tie
 
 visit-requires : tie.Need-visit-requires
 visit-requires c κs =
-    let s = c .before .before .before .before .before .before .before .before .before in
-    sweep-ready (indexOf (now (s .args .mesh)) (s .args .h) (now (s .args .starts)) (now (s .args .members))) _ _ (s .args .p) _ _ (c .before .before .before .next-stamp .ensures .1) (s .pre .0) (s .pre .1) (s .pre .2)
+    let s = c .before .before .before .before .before .before .before .before .before .before in
+    sweep-ready (indexOf (now (s .args .mesh)) (s .args .h) (now (s .args .starts)) (now (s .args .members)) (now (s .args .boxes))) _ _ (s .args .p) _ _ (c .before .before .before .next-stamp .ensures .1) (s .pre .0) (s .pre .1) (s .pre .2) (s .pre .3)
 
 returns : tie.Need-returns
 returns c =

@@ -6,8 +6,8 @@ use Rattle.height.proofs.swept_height.Tie as tie
 
 sweep-in-requires : tie.Need-sweep-in-requires
 sweep-in-requires c κs =
-    let s = c .before .before .before .before .before .before .before in
-    (s .pre .0, s .pre .1, rw (c .before .before .patch-of .ensures) (s .pre .2))
+    let s = c .before .before .before .before .before .before .before .before in
+    (s .pre .0, s .pre .1, rw (c .before .before .patch-of .ensures) (s .pre .2), s .pre .3)
 
 returns : tie.Need-returns
 unfolding sweepWalk

@@ -14,26 +14,26 @@ use Rattle.lanes.proofs.search_level.Statement.{statement}
 use Rattle.lanes.proofs.search_level.Tie as tie
 
 abbrev Inv-loop : tie.InvT-loop
-Inv-loop mesh h starts members marks₀ runs₀ p axis level r a rows stand₀ row₀ marks runs stand row =
-    Laning (heightUnder (indexOf mesh h starts members)) a (laneOf p axis r level) (work runs₀ (stand₀ .tally)) (work runs (stand .tally)) row rows
+Inv-loop mesh h starts members boxes marks₀ runs₀ p axis level r a rows stand₀ row₀ marks runs stand row =
+    Laning (heightUnder (indexOf mesh h starts members boxes)) a (laneOf p axis r level) (work runs₀ (stand₀ .tally)) (work runs (stand .tally)) row rows
     × Marked (h .n) (stand .stamp) marks
     × (row ≤ rows)
     × (length marks ≡ length marks₀)
     × (length runs ≡ length runs₀)
 
 abbrev μ-loop : tie.MeasureT-loop
-μ-loop mesh h starts members marks₀ runs₀ p axis level r a rows stand₀ row₀ marks runs stand row = rows - row
+μ-loop mesh h starts members boxes marks₀ runs₀ p axis level r a rows stand₀ row₀ marks runs stand row = rows - row
 
 -- a level that is coarse has few rows
 few : (c : tie.After-intervals Inv-loop μ-loop) → c .intervals .result ≤ 65535
-few c = coarse-rows _ _ _ _ _ _ (c .before .spread-of .ensures) (c .intervals .ensures) (c .before .before .before .before .before .before .before .before .pre .2)
+few c = coarse-rows _ _ _ _ _ _ (c .before .spread-of .ensures) (c .intervals .ensures) (c .before .before .before .before .before .before .before .before .before .pre .2)
 
 loop-holds : tie.Need-loop-holds Inv-loop μ-loop
-loop-holds c = (laning-starts _ _ _ _ _, c .before .before .before .before .before .before .before .before .pre .1, omega arith, refl, refl)
+loop-holds c = (laning-starts _ _ _ _ _, c .before .before .before .before .before .before .before .before .before .pre .1, omega arith, refl, refl)
 
 search-row-requires : tie.Need-search-row-requires Inv-loop μ-loop
 search-row-requires c κs =
-    let s = c .before .before .before .before .before .before .before .before .before .before .before .before .before in
+    let s = c .before .before .before .before .before .before .before .before .before .before .before .before .before .before in
     let l = c .before .before .before .before .loop in
     (s .pre .0, l .inv .1, coarse-samples _ _ _ _ _ _ (c .lane-of .ensures) (s .pre .2), omega (arith, l .inv .0 .few, s .pre .3, few (c .before .before .before .before .before), c .before .before .before .loop-test .taken))
 

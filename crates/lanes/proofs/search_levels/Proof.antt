@@ -15,25 +15,25 @@ use Rattle.lanes.proofs.search_levels.Statement.{statement}
 use Rattle.lanes.proofs.search_levels.Tie as tie
 
 abbrev Inv-loop : tie.InvT-loop
-Inv-loop mesh h starts members marks₀ runs₀ p axis levels count stand₀ m₀ marks runs stand m =
-    Sweeping (heightUnder (indexOf mesh h starts members)) p axis (h .r) levels (work runs₀ (stand₀ .tally)) (work runs (stand .tally)) m count
+Inv-loop mesh h starts members boxes marks₀ runs₀ p axis levels count stand₀ m₀ marks runs stand m =
+    Sweeping (heightUnder (indexOf mesh h starts members boxes)) p axis (h .r) levels (work runs₀ (stand₀ .tally)) (work runs (stand .tally)) m count
     × Marked (h .n) (stand .stamp) marks
     × (m ≤ count)
     × (length marks ≡ length marks₀)
     × (length runs ≡ length runs₀)
 
 abbrev μ-loop : tie.MeasureT-loop
-μ-loop mesh h starts members marks₀ runs₀ p axis levels count stand₀ m₀ marks runs stand m = count - m
+μ-loop mesh h starts members boxes marks₀ runs₀ p axis levels count stand₀ m₀ marks runs stand m = count - m
 
 loop-holds : tie.Need-loop-holds Inv-loop μ-loop
-loop-holds c = (sweeping-starts _ _ _ _ _ _ _ (c .before .before .before .before .before .before .before .pre .4), c .before .before .before .before .before .before .before .pre .1, omega arith, refl, refl)
+loop-holds c = (sweeping-starts _ _ _ _ _ _ _ (c .before .before .before .before .before .before .before .before .pre .4), c .before .before .before .before .before .before .before .before .pre .1, omega arith, refl, refl)
 
 level-at-requires : tie.Need-level-at-requires Inv-loop μ-loop
-level-at-requires c κs = omega (arith, c .before .before .loop-test .taken, c .before .before .before .before .before .before .before .before .before .before .before .pre .2)
+level-at-requires c κs = omega (arith, c .before .before .loop-test .taken, c .before .before .before .before .before .before .before .before .before .before .before .before .pre .2)
 
 search-level-requires : tie.Need-search-level-requires Inv-loop μ-loop
 search-level-requires c κs =
-    let s = c .before .before .before .before .before .before .before .before .before .before .before .before in
+    let s = c .before .before .before .before .before .before .before .before .before .before .before .before .before in
     let l = c .before .before .before .before .loop in (
       s .pre .0,
       l .inv .1,
@@ -55,4 +55,4 @@ returns c =
 pub search-levels-spec : {M : Type 1} → statement M
 search-levels-spec =
     tie.close
-    (tie.spec Inv-loop μ-loop (λ c κs. tt) loop-holds level-at-requires search-level-requires (λ c. omega (arith, c .before .before .before .before .before .before .before .before .loop-test .taken, c .before .before .before .before .before .before .before .before .before .before .before .before .before .before .before .before .before .pre .3)) (λ c. omega (arith, c .before .before .before .before .before .before .before .before .loop-test .taken)) loop-again (λ c κs. tt) (λ c. search needs) (λ c. search needs) returns)
+    (tie.spec Inv-loop μ-loop (λ c κs. tt) loop-holds level-at-requires search-level-requires (λ c. omega (arith, c .before .before .before .before .before .before .before .before .loop-test .taken, c .before .before .before .before .before .before .before .before .before .before .before .before .before .before .before .before .before .before .pre .3)) (λ c. omega (arith, c .before .before .before .before .before .before .before .before .loop-test .taken)) loop-again (λ c κs. tt) (λ c. search needs) (λ c. search needs) returns)

@@ -5,7 +5,7 @@ use Rattle.lanes.proofs.search_row.Statement.{statement}
 use Rattle.lanes.proofs.search_row.Tie as tie
 
 walk-row-requires : tie.Need-walk-row-requires
-walk-row-requires c κs = let s = c .before .before .before .before .before .before .before .before .before in (s .pre .0, s .pre .1, s .pre .2)
+walk-row-requires c κs = let s = c .before .before .before .before .before .before .before .before .before .before in (s .pre .0, s .pre .1, s .pre .2)
 
 returns : tie.Need-returns
 returns c = (lane-is _ _ _ _ _ _ _ refl refl (c .before .before .before .before .walk-row .ensures .0), c .before .before .before .before .walk-row .ensures .1)

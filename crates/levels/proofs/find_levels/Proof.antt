@@ -28,20 +28,20 @@ sort-requires c κs =
 
 collect-requires : tie.Need-collect-requires
 collect-requires c κs =
-    let s = c .before .before .before .before .before .before .before .before .before .before .before .before .before in
+    let s = c .before .before .before .before .before .before .before .before .before .before .before .before .before .before in
     let g = c .before .before .before .before .before .before .before .before .gather .ensures in
     let f = flats-few (s .args .mesh .now) (s .args .tolerance) (s .args .floor ⊕ s .args .level-tolerance) (length (s .args .list .now)) in
-    (omega (arith, s .pre .0), c .before .before .before .before .sort .ensures .1, omega (arith, s .pre .1, g .0))
+    (omega (arith, s .pre .0), c .before .before .before .before .sort .ensures .1, omega (arith, s .pre .1, g .0), omega (arith, s .pre .2))
 
 returns : tie.Need-returns
 unfolding levelsOf
 returns c =
-    let s = c .before .before .before .before .before .before .before .before .before .before .before .before .before .before .before .before in
+    let s = c .before .before .before .before .before .before .before .before .before .before .before .before .before .before .before .before .before in
     let g = c .before .before .before .before .before .before .before .before .before .before .before .gather .ensures in
     let t = sorted-front (s .args .mesh .now) _ (s .args .tolerance) (s .args .level-tolerance) (s .args .floor) _ _ _ _ (g .0) (g .1) (c .before .before .before .before .before .before .before .sort .ensures .0) in
     let e = c .before .before .collect .ensures in (
-      e .0 ∙ ap (λ (is : List ℕ). written (map fiveOf (levelsFrom (s .args .mesh .now) (s .args .level-tolerance) is)) (s .args .levels .now)) t,
-      e .1 ∙ ap (λ (is : List ℕ). length (levelsFrom (s .args .mesh .now) (s .args .level-tolerance) is)) t,
+      e .0 ∙ ap (λ (is : List ℕ). written (map fiveOf (levelsFrom (s .args .mesh .now) (s .args .boxes .now) (s .args .level-tolerance) is)) (s .args .levels .now)) t,
+      e .1 ∙ ap (λ (is : List ℕ). length (levelsFrom (s .args .mesh .now) (s .args .boxes .now) (s .args .level-tolerance) is)) t,
       sorted-whole (s .args .mesh .now) _ (s .args .tolerance) (s .args .level-tolerance) (s .args .floor) _ _ _ _ (g .0) (g .1) (c .before .before .before .before .before .before .before .sort .ensures .0),
     )
 

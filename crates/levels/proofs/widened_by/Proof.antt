@@ -6,10 +6,6 @@ use Rattle.levels.proofs.widened_by.Reads as reads
 use Rattle.levels.proofs.widened_by.Lts as lts
 use Rattle.numbers.proofs.max.Reads as max-reads
 use Rattle.numbers.proofs.min.Reads as min-reads
-use Rattle.plane.proofs.bounds_of.Reads as bounds-of-reads
-
-bounds-of-requires : tie.Need-bounds-of-requires
-bounds-of-requires c κs = search needs
 
 min-requires : tie.Need-min-requires
 min-requires c κs = search needs
@@ -30,4 +26,4 @@ returns c = cc
 pub widened-by-spec : {M : Type 1} → statement M
 widened-by-spec =
     tie.close
-    (tie.spec bounds-of-requires min-requires min-requires-2 max-requires max-requires-2 returns)
+    (tie.spec min-requires min-requires-2 max-requires max-requires-2 returns)

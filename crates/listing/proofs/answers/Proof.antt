@@ -11,12 +11,12 @@ use Rattle.listing.proofs.answers.Statement.{statement}
 use Rattle.listing.proofs.answers.Tie as tie
 
 abbrev Inv-loop : tie.InvT-loop
-Inv-loop mesh h starts members questions marks₀ m out₀ at stamp₀ end₀ i₀ marks out stamp end i =
-    Told out₀ out at end (answersOf (indexOf mesh h starts members) questions marks₀ 0 0 m) (answersOf (indexOf mesh h starts members) questions marks stamp i (m - i))
+Inv-loop mesh h starts members boxes questions marks₀ m out₀ at stamp₀ end₀ i₀ marks out stamp end i =
+    Told out₀ out at end (answersOf (indexOf mesh h starts members boxes) questions marks₀ 0 0 m) (answersOf (indexOf mesh h starts members boxes) questions marks stamp i (m - i))
     × (i ≤ m) × (end ≤ at + 80 * i) × (length out ≡ length out₀) × (length marks ≡ length marks₀)
 
 abbrev μ-loop : tie.MeasureT-loop
-μ-loop mesh h starts members questions marks₀ m out₀ at stamp₀ end₀ i₀ marks out stamp end i = m - i
+μ-loop mesh h starts members boxes questions marks₀ m out₀ at stamp₀ end₀ i₀ marks out stamp end i = m - i
 
 loop-holds : tie.Need-loop-holds Inv-loop μ-loop
 loop-holds c = (rw sub-zero (told-start _ _ _), omega arith, omega arith, refl, refl)
@@ -27,7 +27,7 @@ asked-requires c κs = omega arith
 answer-line-requires : tie.Need-answer-line-requires Inv-loop μ-loop
 answer-line-requires c κs =
     let l = c .before .before .before .before .before .before .loop in
-    omega (arith, l .inv, c .before .before .before .before .before .loop-test .taken, c .before .before .before .before .before .before .before .before .before .before .before .before .before .pre)
+    omega (arith, l .inv, c .before .before .before .before .before .loop-test .taken, c .before .before .before .before .before .before .before .before .before .before .before .before .before .before .pre)
 
 loop-again : tie.Need-loop-again Inv-loop μ-loop
 loop-again c =
@@ -35,7 +35,7 @@ loop-again c =
     let a = c .before .before .before .before .before .before .asked in
     let w = c .before .before .answer-line in
     let t = c .before .before .before .before .before .before .before .before .loop-test .taken in
-    (told-more (l .inv .0) (answers-more _ _ _ _ _ (l .i) _ _ t (a .ensures)) (w .ensures .0), omega (arith, t), omega (arith, l .inv, w .ensures .1), w .kept .0 ∙ l .inv .3, a .kept .1 .1 .1 .1 .0 ∙ l .inv .4)
+    (told-more (l .inv .0) (answers-more _ _ _ _ _ (l .i) _ _ t (a .ensures)) (w .ensures .0), omega (arith, t), omega (arith, l .inv, w .ensures .1), w .kept .0 ∙ l .inv .3, a .kept .1 .1 .1 .1 .1 .0 ∙ l .inv .4)
 
 same-length : tie.Need-same-length Inv-loop μ-loop
 same-length c = c .before .loop .inv .4

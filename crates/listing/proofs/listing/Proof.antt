@@ -16,6 +16,9 @@ room c =
     let h = room-for _ _ _ _ (r .ensures .0) (c .if1 .left) in
     (omega (arith, h .0, r .kept .1 .0), omega (arith, h .1, r .kept .1 .1 .0))
 
+five : (c : tie.Else1) → 5 * c .before .before .before .before .read-job .result .n ≤ 1280
+five c = let r = c .before .before .before .before .read-job in omega (arith, room c .0, r .kept .1 .0)
+
 returns : tie.Need-returns
 returns c =
     let w = c .refused-line .ensures in
@@ -33,16 +36,22 @@ array-share-prefix-questions c = room (c .before .before .before) .1
 slice-aggregate-listed-2 : tie.Need-slice-aggregate-listed-2
 slice-aggregate-listed-2 c = sym (length-take-le _ _ (room (c .before .before .before .before) .1))
 
+array-borrow-prefix-boxes : tie.Need-array-borrow-prefix-boxes
+array-borrow-prefix-boxes c = five (c .before .before .before .before)
+
+slice-aggregate-listed-3 : tie.Need-slice-aggregate-listed-3
+slice-aggregate-listed-3 c = sym (length-take-le _ _ (five (c .before .before .before .before .before)))
+
 listed-requires : tie.Need-listed-requires
 listed-requires c κs =
-    let r = c .before .before .before .before .before .before .before .before .before .read-job in
-    let h = room (c .before .before .before .before .before) in
+    let r = c .before .before .before .before .before .before .before .before .before .before .read-job in
+    let h = room (c .before .before .before .before .before .before) in
     (omega (arith, h .0, r .kept .1 .0), omega (arith, h .1, r .kept .1 .1 .0), length-take-le _ _ (h .1), search needs)
 
 returns-2 : tie.Need-returns-2
 returns-2 c =
-    let w = c .listed .ensures in
-    (w .0 .text ∙ read-is _ _ _ _ (c .before .before .before .before .before .before .before .before .before .before .read-job .ensures .0) (c .before .before .before .before .before .before .if1 .left), omega (arith, w .1, c .listed .kept .1 .1 .1 .1 .1 .1 .0), enough _, w .0 .rest)
+    let w = c .before .listed .ensures in
+    (w .0 .text ∙ read-is _ _ _ _ (c .before .before .before .before .before .before .before .before .before .before .before .before .read-job .ensures .0) 1280 (five (c .before .before .before .before .before .before .before .before)) (c .before .before .before .before .before .before .before .before .if1 .left), omega (arith, w .1, c .before .listed .kept .1 .1 .1 .1 .1 .1 .1 .0), enough _, w .0 .rest)
 
 pub listing-spec : {M : Type 1} → statement M
-listing-spec = tie.close (tie.spec (λ c. search needs) (λ c. search needs) (λ c κs. tt) (λ c κs. search needs) returns (λ c. search needs) (λ c. search needs) (λ c. search needs) array-share-prefix-mesh slice-aggregate-listed (λ c. search needs) array-share-prefix-questions slice-aggregate-listed-2 listed-requires returns-2)
+listing-spec = tie.close (tie.spec (λ c. search needs) (λ c. search needs) (λ c κs. tt) (λ c κs. search needs) returns (λ c. search needs) (λ c. search needs) (λ c. search needs) array-share-prefix-mesh slice-aggregate-listed (λ c. search needs) array-share-prefix-questions slice-aggregate-listed-2 (λ c. search needs) array-borrow-prefix-boxes slice-aggregate-listed-3 listed-requires returns-2)

@@ -8,10 +8,10 @@ use Rattle.query.proofs.cell_usable.Statement.{statement}
 use Rattle.query.proofs.cell_usable.Tie as tie
 
 cast-a : tie.Need-cast-a
-cast-a c = omega (arith, c .shared-slice-known5 .given (c .before .before .before .before .before .args .c))
+cast-a c = omega (arith, c .shared-slice-known6 .given (c .before .before .before .before .before .before .args .c))
 
 cast-e : tie.Need-cast-e
-cast-e c = omega (arith, c .shared-slice-known6 .given (c .before .before .before .before .before .before .args .c + 1))
+cast-e c = omega (arith, c .shared-slice-known7 .given (c .before .before .before .before .before .before .before .args .c + 1))
 
 returns : tie.Need-returns
 unfolding cellUsable

@@ -8,11 +8,11 @@ use Rattle.query.proofs.cells_usable.Statement.{statement}
 use Rattle.query.proofs.cells_usable.Tie as tie
 
 abbrev Inv-loop : tie.InvT-loop
-Inv-loop mesh n starts members marks stamp columns x0 x1 y0 y1 y₀ y =
-    every (rowUsable (memberUsable mesh n marks stamp) starts members columns x0 x1) y (y1 - y) ≡ cellsUsable (memberUsable mesh n marks stamp) starts members columns (record { x0 = x0; x1 = x1; y0 = y0; y1 = y1 })
+Inv-loop mesh n starts members boxes marks stamp columns x0 x1 y0 y1 y₀ y =
+    every (rowUsable (memberUsable mesh boxes n marks stamp) starts members columns x0 x1) y (y1 - y) ≡ cellsUsable (memberUsable mesh boxes n marks stamp) starts members columns (record { x0 = x0; x1 = x1; y0 = y0; y1 = y1 })
 
 abbrev μ-loop : tie.MeasureT-loop
-μ-loop mesh n starts members marks stamp columns x0 x1 y0 y1 y₀ y = y1 - y
+μ-loop mesh n starts members boxes marks stamp columns x0 x1 y0 y1 y₀ y = y1 - y
 
 loop-holds : tie.Need-loop-holds Inv-loop μ-loop
 unfolding cellsUsable
@@ -35,5 +35,5 @@ pub cells-usable-spec : {M : Type 1} → statement M
 cells-usable-spec =
     tie.close
     (tie.spec Inv-loop μ-loop loop-holds
-    (λ c κs. let s = c .before .before .before .before .before .before in (s .pre .0, s .pre .1, omega (arith, in-rows (s .args .columns) (s .args .p .x1) (c .before .loop .y) (s .args .p .y1) (s .pre .2) (c .loop-test .taken), s .pre .3)))
+    (λ c κs. let s = c .before .before .before .before .before .before .before in (s .pre .0, s .pre .1, omega (arith, in-rows (s .args .columns) (s .args .p .x1) (c .before .loop .y) (s .args .p .y1) (s .pre .2) (c .loop-test .taken), s .pre .3), s .pre .4))
     returns (λ c. omega arith) (λ c. omega arith) loop-again returns-2)

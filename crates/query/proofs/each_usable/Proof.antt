@@ -5,20 +5,20 @@ use native.Mathlib.Omega.{arith}
 use borrow.Author.Needs.{needs}
 use Rattle.numbers.specs.Reals.{num}
 use Rattle.spans.specs.Mesh.{isCoordinate}
-use Rattle.query.specs.Usable.{every, triangleUsable}
+use Rattle.query.specs.Usable.{every, cornersUsable}
 use Rattle.query.proofs.Testing.{every-stops, every-goes, every-ends, failed, passed}
 use Rattle.query.proofs.each_usable.Statement.{statement}
 use Rattle.query.proofs.each_usable.Tie as tie
 
 abbrev Inv-loop : tie.InvT-loop
 Inv-loop mesh i k₀ k-end k =
-    (every (λ m. isCoordinate (num mesh m)) k (k-end - k) ≡ triangleUsable mesh i) × (k-end ≡ 9 * i + 9) × (k ≤ k-end)
+    (every (λ m. isCoordinate (num mesh m)) k (k-end - k) ≡ cornersUsable mesh i) × (k-end ≡ 9 * i + 9) × (k ≤ k-end)
 
 abbrev μ-loop : tie.MeasureT-loop
 μ-loop mesh i k₀ k-end k = k-end - k
 
 loop-holds : tie.Need-loop-holds Inv-loop μ-loop
-unfolding triangleUsable
+unfolding cornersUsable
 loop-holds c =
     let i = c .before .args .i in
     let e : 9 * i + 9 - 9 * i ≡ 9 = omega arith in

@@ -10,14 +10,14 @@ use Rattle.query.proofs.members_usable.Statement.{statement}
 use Rattle.query.proofs.members_usable.Tie as tie
 
 abbrev Inv-loop : tie.InvT-loop
-Inv-loop mesh n marks stamp part j₀ j-end j =
-    (each (memberUsable mesh n marks stamp) (drop j part) ≡ each (memberUsable mesh n marks stamp) part) × (j-end ≡ length part) × (j ≤ j-end)
+Inv-loop mesh boxes n marks stamp part j₀ j-end j =
+    (each (memberUsable mesh boxes n marks stamp) (drop j part) ≡ each (memberUsable mesh boxes n marks stamp) part) × (j-end ≡ length part) × (j ≤ j-end)
 
 abbrev μ-loop : tie.MeasureT-loop
-μ-loop mesh n marks stamp part j₀ j-end j = j-end - j
+μ-loop mesh boxes n marks stamp part j₀ j-end j = j-end - j
 
 cast-member-usable : tie.Need-cast-member-usable Inv-loop μ-loop
-cast-member-usable c = omega (arith, c .shared-slice-known4 .given (c .before .before .loop .j))
+cast-member-usable c = omega (arith, c .shared-slice-known5 .given (c .before .before .loop .j))
 
 returns : tie.Need-returns Inv-loop μ-loop
 returns c =

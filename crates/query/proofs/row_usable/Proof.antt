@@ -8,11 +8,11 @@ use Rattle.query.proofs.row_usable.Statement.{statement}
 use Rattle.query.proofs.row_usable.Tie as tie
 
 abbrev Inv-loop : tie.InvT-loop
-Inv-loop mesh n starts members marks stamp columns x0 x1 y x₀ x =
-    every (λ k. cellUsable (memberUsable mesh n marks stamp) starts members (y * columns + k)) x (x1 - x) ≡ rowUsable (memberUsable mesh n marks stamp) starts members columns x0 x1 y
+Inv-loop mesh n starts members boxes marks stamp columns x0 x1 y x₀ x =
+    every (λ k. cellUsable (memberUsable mesh boxes n marks stamp) starts members (y * columns + k)) x (x1 - x) ≡ rowUsable (memberUsable mesh boxes n marks stamp) starts members columns x0 x1 y
 
 abbrev μ-loop : tie.MeasureT-loop
-μ-loop mesh n starts members marks stamp columns x0 x1 y x₀ x = x1 - x
+μ-loop mesh n starts members boxes marks stamp columns x0 x1 y x₀ x = x1 - x
 
 loop-holds : tie.Need-loop-holds Inv-loop μ-loop
 unfolding rowUsable
@@ -35,5 +35,5 @@ pub row-usable-spec : {M : Type 1} → statement M
 row-usable-spec =
     tie.close
     (tie.spec Inv-loop μ-loop loop-holds (λ c. omega arith) (λ c. omega arith)
-    (λ c κs. let s = c .before .before .before .before .before .before in (s .pre .0, s .pre .1, omega arith)) returns (λ c. omega arith) (λ c. omega arith)
+    (λ c κs. let s = c .before .before .before .before .before .before .before in (s .pre .0, s .pre .1, omega arith, s .pre .3)) returns (λ c. omega arith) (λ c. omega arith)
     loop-again returns-2)

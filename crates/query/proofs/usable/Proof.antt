@@ -10,18 +10,18 @@ use Rattle.query.proofs.usable.Tie as tie
 
 cells-usable-requires : tie.Need-cells-usable-requires
 cells-usable-requires c κs =
-    let s = c .before .before .before .before .before .before in
+    let s = c .before .before .before .before .before .before .before in
     let d = headed-is _ _ _ (sym (c .before .head-usable .ensures) ∙ c .if1 .taken) in
-    (d .nine, omega (arith, d .nine, s .pre .0), s .pre .1, rows-room _ _ _ _ d (s .pre .2))
+    (d .nine, omega (arith, d .nine, s .pre .0), s .pre .1, rows-room _ _ _ _ d (s .pre .2), omega (arith, d .nine, s .pre .0, s .pre .3))
 
 returns : tie.Need-returns
 returns c =
-    let s = c .before .before .before .before .before .before .before in
+    let s = c .before .before .before .before .before .before .before .before in
     usable-told _ _ _ _ _ (unfold usable in search (branches, bool-called)) (s .pre .0) (s .pre .1) (s .pre .2)
 
 returns-2 : tie.Need-returns-2
 returns-2 c =
-    let s = c .before .before .before .before .before .before in
+    let s = c .before .before .before .before .before .before .before in
     usable-told _ _ _ _ _ (unfold usable in search (branches, bool-called)) (s .pre .0) (s .pre .1) (s .pre .2)
 
 pub usable-spec : {M : Type 1} → statement M

@@ -3,7 +3,6 @@ use mathlib.Core.Path.{_≡_, refl, ap, sym, _∙_}
 use borrow.Author.Needs.{needs}
 use native.Mathlib.Omega.{arith}
 use mathlib.Core.Bool.{not}
-use Rattle.plane.specs.Mesh.{boundsOf}
 use Rattle.section_gap.specs.Blocks.{sectionBlocks}
 use Rattle.tool.specs.Tool.{sectionOf, passesAll}
 use Rattle.query.specs.Usable.{every}
@@ -14,22 +13,22 @@ use Rattle.tool.proofs.passes_all.Statement.{statement}
 use Rattle.tool.proofs.passes_all.Tie as tie
 
 abbrev Inv-loop : tie.InvT-loop
-Inv-loop t m table b n i₀ i = (every (λ k. not (sectionBlocks t (boundsOf t) m (sectionOf table k))) i (n - i) ≡ passesAll t m table) × (b ≡ boundsOf t) × (i ≤ n)
+Inv-loop t b m table n i₀ i = (every (λ k. not (sectionBlocks t b m (sectionOf table k))) i (n - i) ≡ passesAll t b m table) × (i ≤ n)
 
 abbrev μ-loop : tie.MeasureT-loop
-μ-loop t m table b n i₀ i = n - i
+μ-loop t b m table n i₀ i = n - i
 
 loop-holds : tie.Need-loop-holds Inv-loop μ-loop
 unfolding passesAll
-loop-holds c = (all-left _ _, c .bounds-of .ensures, omega arith)
+loop-holds c = (all-left _ _, omega arith)
 
 returns : tie.Need-returns Inv-loop μ-loop
 returns c = let l = c .before .before .before .before .loop in
-    every-stops _ (l .i) _ _ (omega arith) (sym (blocks-here _ _ _ (c .before .before .section-at .ensures) _ _ _ _ (l .inv .1) (c .before .section-blocks .ensures)) ∙ ap not (c .if1 .taken)) (l .inv .0)
+    every-stops _ (l .i) _ _ (omega arith) (sym (blocks-here _ _ _ (c .before .before .section-at .ensures) _ _ _ _ (c .before .section-blocks .ensures)) ∙ ap not (c .if1 .taken)) (l .inv .0)
 
 loop-again : tie.Need-loop-again Inv-loop μ-loop
 loop-again c = let l = c .before .before .before .before .loop in
-    (every-goes _ (l .i) _ _ (omega arith) (sym (blocks-here _ _ _ (c .before .before .section-at .ensures) _ _ _ _ (l .inv .1) (c .before .section-blocks .ensures)) ∙ ap not (c .if1 .left)) (l .inv .0), l .inv .1, omega arith)
+    (every-goes _ (l .i) _ _ (omega arith) (sym (blocks-here _ _ _ (c .before .before .section-at .ensures) _ _ _ _ (c .before .section-blocks .ensures)) ∙ ap not (c .if1 .left)) (l .inv .0), omega arith)
 
 returns-2 : tie.Need-returns-2 Inv-loop μ-loop
 returns-2 c = every-ends _ (c .before .loop .i) _ _ (omega arith) (c .before .loop .inv .0)
@@ -37,4 +36,4 @@ returns-2 c = every-ends _ (c .before .loop .i) _ _ (omega arith) (c .before .lo
 pub passes-all-spec : {M : Type 1} → statement M
 passes-all-spec =
     tie.close
-    (tie.spec Inv-loop μ-loop (λ c κs. tt) loop-holds (λ c κs. omega arith) (λ c κs. tt) returns (λ c. omega arith) (λ c. omega arith) loop-again returns-2)
+    (tie.spec Inv-loop μ-loop loop-holds (λ c κs. omega arith) (λ c κs. tt) returns (λ c. omega arith) (λ c. omega arith) loop-again returns-2)

@@ -9,10 +9,10 @@ use Rattle.whole.proofs.triangles_usable.Statement.{statement}
 use Rattle.whole.proofs.triangles_usable.Tie as tie
 
 abbrev Inv-loop : tie.InvT-loop
-Inv-loop mesh n i₀ i = (every (triangleUsable mesh) i (n - i) ≡ every (triangleUsable mesh) 0 n) × (i ≤ n)
+Inv-loop mesh boxes n i₀ i = (every (triangleUsable mesh boxes) i (n - i) ≡ every (triangleUsable mesh boxes) 0 n) × (i ≤ n)
 
 abbrev μ-loop : tie.MeasureT-loop
-μ-loop mesh n i₀ i = n - i
+μ-loop mesh boxes n i₀ i = n - i
 
 loop-holds : tie.Need-loop-holds Inv-loop μ-loop
 loop-holds c = (ap (every _ 0) (sub-zero _), omega arith)
@@ -32,4 +32,4 @@ returns-2 c = every-ends _ (c .before .loop .i) _ _ (omega arith) (c .before .lo
 
 pub triangles-usable-spec : {M : Type 1} → statement M
 triangles-usable-spec =
-    tie.close (tie.spec Inv-loop μ-loop loop-holds (λ c κs. omega arith) returns (λ c. omega arith) (λ c. omega arith) loop-again returns-2)
+    tie.close (tie.spec Inv-loop μ-loop loop-holds (λ c κs. (omega arith, omega arith)) returns (λ c. omega arith) (λ c. omega arith) loop-again returns-2)
