@@ -25,9 +25,10 @@ fn clamp(t: f64) -> f64 {
     if t < 0.0 { 0.0 } else if t > 1.0 { 1.0 } else { t }
 }
 
-fn hypot(x: f64, y: f64) -> f64 {
-    if x.is_infinite() || y.is_infinite() { f64::INFINITY } else { (x * x + y * y).sqrt() }
-}
+// request 6's hypot, in its own whole numbers
+#[path = "../oracle-parts/hypot.rs"]
+mod exact;
+use exact::exact_hypot as hypot;
 
 fn main() {
     let mut state = 0x9e37_79b9_7f4a_7c15u64;
@@ -98,5 +99,41 @@ fn main() {
         let (p, q) = (x % 1e6, y % 1e6);
         line('h', p, q, bits(hypot(p, q)));
         line('t', x, y, (x.total_cmp(&y) == Ordering::Less) as u64);
+    }
+    distances(&mut random);
+}
+
+// hypot where squares vanish or overflow, at ties, at the threshold of the range, near middles, across a power of two, with exponents apart, and among subnormals
+fn distances(random: &mut dyn FnMut() -> f64) {
+    let two = |e: i32| 2f64.powi(e);
+    let mut pairs = vec![(3e-200, 4e-200), (1e200, 1e200), (1e-200, 0.0), (5404319552844597.0, 7205759403792796.0), (3.0, 4.0), (5e-324, 5e-324), (f64::MAX, f64::MAX)];
+    for x in [6081690782099581.0, 6081690782099583.0, 6081690782099585.0] {
+        pairs.push((x * two(970), 16956756496728720.0 * two(970)));
+    }
+    // ties: triples with an odd hypotenuse of 54 digits, and of three times one
+    for (a, b) in [(94906267.0f64, 2.0f64), (80000001.0, 60000000.0), (94906265.0, 3000002.0), (70710679.0, 70710678.0)] {
+        for times in [1.0, 3.0] {
+            let (x, y) = ((a * a - b * b) * times, 2.0 * a * b * times);
+            pairs.extend([(x, y), (x, f64::from_bits(y.to_bits() + 1)), (f64::from_bits(x.to_bits() - 1), y)]);
+        }
+    }
+    // near middles: n * n / 4^k lies next to (2 * j + 1) * m
+    for k in 13..27 {
+        for j in [0.0, 1.0, 2.0, 9.0, 100.0] {
+            let m = 4503599627370497.0 + (k as f64) * 7e13;
+            let n = (((2.0 * j + 1.0) * m).sqrt() * two(k)).round();
+            pairs.extend([(m * two(k), n), (m * two(k), n - 1.0), (m * two(k), n + 1.0)]);
+        }
+    }
+    for k in 0..61 {
+        let (x, y) = (f64::from_bits(random().to_bits() & 0xf_ffff_ffff_ffff | 0x3ff0_0000_0000_0000), f64::from_bits(random().to_bits() & 0xf_ffff_ffff_ffff | 0x3ff0_0000_0000_0000));
+        pairs.extend([(x, y * two(-k)), (2.0 - two(-52), y * two(-k)), (x * two(1023), y * two(1023 - k)), (x * two(-1022), y * two(-1022) * two(-k))]);
+    }
+    for _ in 0..20 {
+        pairs.push((f64::from_bits(random().to_bits() >> 12), f64::from_bits(random().to_bits() >> 13)));
+    }
+    for (x, y) in pairs {
+        line('h', x, y, bits(hypot(x, y)));
+        line('h', -y, x, bits(hypot(y, x)));
     }
 }

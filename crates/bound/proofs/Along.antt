@@ -8,13 +8,14 @@ use lib.IntN.{pos}
 use lib.Ieee.{Float, nan, inf, fin, binary64, unlike, sum, round, add, sub, mul, neg, lt, le, fits, ofBits}
 use lib.Ieee.Scale.{finite}
 use Rattle.numbers.specs.Reals.{_⊕_, _⊖_, _⊗_, f0, f1, million, minOf, maxOf}
+use Rattle.numbers.specs.Hypot.{countOf}
 use Rattle.numbers.proofs.Branches.{either}
 use Rattle.spans.proofs.Ranges.{finite-between, sub-mono}
 use Rattle.spans.proofs.Sizes.{by-test, either-of, le-self, not-below, max-least}
 use Rattle.spans.proofs.Extremes.{min-either, max-first}
 use Rattle.bound.specs.Inside.{nearerOf}
 use Rattle.bound.proofs.Order.{O, le-trans, sub-turns, add-left, add-right, mul-up, mul-down, no-lower, no-upper, square-up, square-down}
-use Rattle.bound.proofs.Roots.{lt-le, min-first, min-second, nearest-square}
+use Rattle.bound.proofs.Roots.{lt-le, min-first, min-second, nearest-count}
 use Rattle.bound.proofs.Unit.{I, Unit, unit-finite}
 
 -- ---- what a finite result tells of its parts
@@ -83,8 +84,8 @@ module _ (p q : Float) (P : T (finite p)) (Q : T (finite q)) where
       either (λ v. T (finite v)) (lt f0 (minOf p q)) (minOf p q) (cond (lt (maxOf p q) f0) (maxOf p q) f0) (λ e. low-fine)
       (λ e. either (λ v. T (finite v)) (lt (maxOf p q) f0) (maxOf p q) f0 (λ g. high-fine) (λ g. tt))
 
-  pub nearest-below : (s : Float) → Between p q s → T (le (nearerOf (minOf p q) (maxOf p q) ⊗ nearerOf (minOf p q) (maxOf p q)) (s ⊗ s))
-  nearest-below s b = nearest-square (minOf p q) (maxOf p q) s low-fine high-fine (b .fine) (b .low) (b .high)
+  pub nearest-below : (s : Float) → Between p q s → countOf (nearerOf (minOf p q) (maxOf p q)) ≤ countOf s
+  nearest-below s b = nearest-count (minOf p q) (maxOf p q) s low-fine high-fine (b .fine) (b .low) (b .high)
 
 module _ (a b t : Float) (u : Unit t) (P : T (finite (at a b O))) (Q : T (finite (at a b I))) where
   fa : T (finite a)

@@ -4,5 +4,6 @@ pub mod Unit
 pub mod Held
 pub mod Along
 pub mod Small
+pub mod Rounded
 pub mod Near
 pub mod Whole

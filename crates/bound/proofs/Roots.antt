@@ -1,25 +1,28 @@
--- Roots, minima and maxima keep the order; and what is between low and high has a square that is no less than that of the number nearest to 0.
+-- Roots, minima and maxima keep the order; and what is between low and high is no smaller in size than the number of them that is nearest to 0.
 use mathlib.Core.Bool.{Bool, true, false, cond}
 use mathlib.Core.Path.{_≡_, refl, ap, sym, _∙_, subst}
 use Prim.Native.Nat.{ℕ, zero, suc, _+_, _*_, _^_, _≤_, _<_}
-use native.Mathlib.Nat.{zero-mul, mul-pos}
+use native.Mathlib.Nat.{zero-mul, zero-div, mul-pos}
 use native.Mathlib.Omega.{arith}
 use lib.Dec.{T, lt→ltb}
 use lib.IntN.{pos}
-use lib.Ieee.{Float, nan, inf, fin, binary64, up, down, mul, lt, le, fits, isNan}
+use lib.Ieee.{Float, nan, inf, fin, binary64, up, down, size, odd, units, lt, le, fits, isNan}
 use lib.Ieee.Exact.{HasValue}
 use lib.Ieee.Fits.{up-pos, down-pos}
 use lib.Ieee.Scale.{finite}
 use lib.Ieee.Positive.{positive}
 use Rattle.numbers.specs.Reals.{f0, minOf, maxOf}
-use Rattle.numbers.specs.Root.{rootOf}
+use Rattle.numbers.specs.Root.{wholeRoot, rootOf}
+use Rattle.numbers.specs.Hypot.{countOf, evenRoot, hypotOfCount, hypotOf}
 use Rattle.numbers.proofs.Between.{root-nearest}
 use Rattle.numbers.proofs.Monotone.{root-mono}
+use Rattle.numbers.proofs.Distances.{count-le, counts-mono, hypot-finite}
+use Rattle.numbers.proofs.Signs.{le→under}
 use Rattle.spans.proofs.Signed.{le→parts, parts→le}
 use Rattle.spans.proofs.Sizes.{by-test, either-of, le-self, not-below, max-least, f0-is}
 use Rattle.spans.proofs.Extremes.{min-either, max-first}
 use Rattle.bound.specs.Inside.{nearerOf}
-use Rattle.bound.proofs.Order.{O, le-trans, no-lower, square-up, square-down}
+use Rattle.bound.proofs.Order.{O, le-trans, no-lower, no-upper}
 
 -- ---- roots
 of-value : (w : Float) (a c : ℕ) → HasValue w false a c → T (le O w) × T (finite w)
@@ -93,14 +96,44 @@ pub max-up : (x y z : Float) → T (finite y) → T (finite z) → T (le x y) �
 max-up x y z q r h =
     either-of (λ v. T (le v (maxOf y z))) x z (le-trans x y (maxOf y z) h (max-first y z q r)) (max-least y z q r)
 
--- ---- the number nearest to 0
-pub nearest-square : (low high x : Float) → T (finite low) → T (finite high) → T (finite x) → T (le low x) → T (le x high)
-    → T (le (mul binary64 (nearerOf low high) (nearerOf low high)) (mul binary64 x x))
+-- ---- the number nearest to 0, by counts of smallest f64s
+no-count : (s : Bool) (m : ℕ) (e : _) (n : ℕ) → m * up e ≡ 0 → countOf (fin s m e) ≤ n
+unfolding countOf
+no-count s m e n z = rw (z, zero-mul (2 ^ 1074), zero-div (down e)) (omega arith)
+
+-- from 0 upwards, and downwards
+pub count-rises : (x y : Float) → T (finite x) → T (finite y) → T (le O x) → T (le x y) → countOf x ≤ countOf y
+count-rises nan y p q h k = absurd p
+count-rises (inf s) y p q h k = absurd p
+count-rises (fin s m e) nan p q h k = absurd q
+count-rises (fin s m e) (inf t) p q h k = absurd q
+count-rises (fin true m e) (fin t n d) p q h k = no-count true m e _ (no-lower (fin true m e) tt h)
+count-rises (fin false m e) (fin false n d) p q h k = count-le false m e false n d (le→under false m e false n d k)
+count-rises (fin false m e) (fin true n d) p q h k = no-count false m e _ (le→under false m e true n d k .0)
+
+pub count-falls : (x y : Float) → T (finite x) → T (finite y) → T (le y O) → T (le x y) → countOf y ≤ countOf x
+count-falls nan y p q h k = absurd p
+count-falls (inf s) y p q h k = absurd p
+count-falls (fin s m e) nan p q h k = absurd q
+count-falls (fin s m e) (inf t) p q h k = absurd q
+count-falls (fin s m e) (fin false n d) p q h k = no-count false n d _ (no-upper (fin false n d) tt h)
+count-falls (fin true m e) (fin true n d) p q h k = count-le true n d true m e (le→under true m e true n d k)
+count-falls (fin false m e) (fin true n d) p q h k = no-count true n d _ (le→under false m e true n d k .1)
+
+pub nearest-count : (low high x : Float) → T (finite low) → T (finite high) → T (finite x) → T (le low x) → T (le x high) → countOf (nearerOf low high) ≤ countOf x
 unfolding nearerOf
-nearest-square low high x p q r h k =
+nearest-count low high x p q r h k =
     by-test (lt f0 low)
-    (λ e. rw e (square-up low x p r (rw f0-is at (lt-le f0 low e)) h))
+    (λ e. rw e (count-rises low x p r (rw f0-is at (lt-le f0 low e)) h))
     (λ e.
     by-test (lt high f0)
-    (λ g. rw (e, g) (square-down high x q r (rw f0-is at (lt-le high f0 g)) k))
-    (λ g. rw (e, g, f0-is) (by-test (lt x O) (λ l. square-down O x tt r (le-self O tt) (lt-le x O l)) (λ l. square-up O x tt r (le-self O tt) (not-below x O r tt l)))))
+    (λ g. rw (e, g) (count-falls x high r q (rw f0-is at (lt-le high f0 g)) k))
+    (λ g. rw (e, g, f0-is) (no-count false 0 (pos 0) _ refl)))
+
+-- ---- a distance is not below 0
+no-distance : hypotOfCount 0 ≡ O
+unfolding hypotOfCount evenRoot wholeRoot size units odd
+no-distance = refl
+
+pub distance-low : (x y : Float) → T (finite x) → T (finite y) → T (le O (hypotOf x y))
+distance-low x y p q = rw (hypot-finite x y p q) (rw no-distance at (counts-mono 0 (countOf x * countOf x + countOf y * countOf y) (omega arith)))

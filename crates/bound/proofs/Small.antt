@@ -1,18 +1,21 @@
 -- Numbers of at most 1e6 in size: their squares, and sums of two of these, are finite and not below 0.
 use mathlib.Core.Bool.{Bool, true, false, cond, _&&_}
 use mathlib.Core.Path.{_≡_, refl, ap, sym, _∙_}
+use Prim.Native.Nat.{ℕ, _≤_}
 use lib.Dec.{T}
 use lib.IntN.{pos}
-use lib.Ieee.{Float, nan, inf, fin, binary64, sum, round, add, sub, mul, neg, lt, le, ofBits}
+use lib.Ieee.{Float, nan, inf, fin, binary64, size, odd, units, sum, round, add, sub, mul, neg, lt, le, isNan, ofBits}
 use lib.Ieee.Scale.{finite}
 use Rattle.numbers.specs.Reals.{_⊕_, _⊖_, _⊗_, f0, million, minOf, maxOf}
 use Rattle.numbers.specs.Root.{rootOf, rootOfUnits, nearestRoot, wholeRoot}
+use Rattle.numbers.specs.Hypot.{infinite, countOf, evenRoot, hypotOfCount, hypotOf}
+use Rattle.numbers.proofs.Distances.{hypot-counts}
 use Rattle.spans.specs.Mesh.{isCoordinate, isRadius}
 use Rattle.spans.proofs.Ranges.{finite-between, Coordinate, coordinate, million-is, two, minus-two, extent-finite, extent-high, extent-low}
 use Rattle.spans.proofs.Sizes.{by-test, either-of, le-self, not-below, Radius, radius, f0-is}
 use Rattle.spans.proofs.Extremes.{min-either}
 use Rattle.bound.proofs.Order.{O, le-trans, add-left, add-right, square-up, square-down}
-use Rattle.bound.proofs.Roots.{lt-le}
+use Rattle.bound.proofs.Roots.{lt-le, count-rises, count-falls, distance-low}
 use Rattle.bound.proofs.Along.{Between}
 
 -- 1e6 and -1e6
@@ -113,3 +116,25 @@ sum-finite s t a b =
 pub root-limit : T (le (rootOf (M ⊗ M)) M)
 unfolding mul round rootOf rootOfUnits nearestRoot wholeRoot le
 root-limit = tt
+
+-- ---- distances
+small-count : (x : Float) → Small x → countOf x ≤ countOf M
+small-count x s =
+    let p = small-finite x s in
+    by-test (lt x O)
+    (λ l. rw same-count at (count-falls M′ x tt p (lt-le x O l) (s .low)))
+    (λ l. count-rises x M p tt (not-below x O p tt l) (s .high))
+  where
+    same-count : countOf M′ ≡ countOf M
+    same-count = unfold countOf in refl
+
+distance-limit : T (finite (hypotOf M M))
+unfolding hypotOf infinite isNan countOf hypotOfCount evenRoot wholeRoot size units odd
+distance-limit = tt
+
+pub small-distance : (x y : Float) → Small x → Small y → T (le O (hypotOf x y)) × T (finite (hypotOf x y))
+small-distance x y s t =
+    let p = small-finite x s in
+    let q = small-finite y t in
+    let l = distance-low x y p q in
+    (l, finite-between O (hypotOf x y) (hypotOf M M) tt distance-limit l (hypot-counts x y M M p q tt tt (small-count x s) (small-count y t)))

@@ -1,7 +1,16 @@
--- Of the numbers from low to high the one that is nearest to 0: 0 itself where it lies among them.
-use mathlib.Core.Bool.{cond}
-use lib.Ieee.{Float, lt}
-use Rattle.numbers.specs.Reals.{f0}
+-- What bounds a search; no answer is defined here.
+use mathlib.Core.Bool.{true, cond}
+use mathlib.Core.Path.{_≡_}
+use lib.Dec.{T}
+use lib.Ieee.{Float, lt, le}
+use Rattle.numbers.specs.Reals.{_⊕_, _⊗_, f0}
+use Rattle.numbers.specs.Hypot.{hypotOf}
 
+-- Of the numbers from low to high the one that is nearest to 0: 0 itself where it lies among them.
 unfoldable pub nearerOf : Float → Float → Float
 nearerOf low high = cond (lt f0 low) low (cond (lt high f0) high f0)
+
+-- A sum of two squares that is at most `flat` belongs to a distance from 0 to w.
+pub record Within (w flat : Float) : Type 0 where
+  pub low : (p q : Float) → le (p ⊗ p ⊕ q ⊗ q) flat ≡ true → T (le f0 (hypotOf p q))
+  pub near : (p q : Float) → le (p ⊗ p ⊕ q ⊗ q) flat ≡ true → T (le (hypotOf p q) w)

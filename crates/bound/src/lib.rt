@@ -1,6 +1,29 @@
 // What a search can at most find. The laws in proofs/ are on the order of f64s: sums, products, roots and the points of a golden-section search keep it.
 ghost use mathlib.Core.Path.{_≡_};
-ghost use Rattle.bound.specs.Inside.{nearerOf};
+ghost use Rattle.bound.specs.Inside.{nearerOf, Within};
+
+// 2^-300, below which a square is not trusted
+const LEAST: f64 = 4.909093465297727e-91;
+
+// 1 - 2^-50, more than what the rounding of two squares and their sum can take off
+const NEARLY_ONE: f64 = 0.9999999999999991;
+
+const MINUS_ONE: f64 = -1.0;
+
+// A number up to which the sum of two squares shows that the distance is within w, so that no distance is taken there: a little less than the square of w, or
+// a number below every
+// square.
+pub fn within(w: f64) -> f64
+    ensures { λ f. ⌜ Within w f ⌝ }
+{
+    if !spans::is_radius(w) {
+        return MINUS_ONE;
+    }
+    if w >= LEAST {
+        return w * w * NEARLY_ONE;
+    }
+    MINUS_ONE
+}
 
 // The number from low to high that is nearest to 0.
 pub fn nearer(low: f64, high: f64) -> f64

@@ -1,17 +1,16 @@
 -- No place of an edge gives a tip above the cap, so an edge whose cap is at most the best so far does not change it.
 use mathlib.Core.Bool.{Bool, true, false, cond, _&&_, _||_}
 use mathlib.Core.Path.{_≡_, refl, ap, sym, _∙_}
-use Prim.Native.Nat.{ℕ}
+use Prim.Native.Nat.{ℕ, _≤_}
 use native.Mathlib.Omega.{arith}
 use lib.Dec.{T}
 use lib.IntN.{pos}
 use lib.Ieee.{Float, nan, inf, fin, binary64, lt, le, fits, isNan, ofBits}
-use lib.Ieee.Fits.{add-fits}
 use lib.Ieee.Scale.{finite}
-use Rattle.numbers.specs.Reals.{_⊕_, _⊖_, _⊗_, f0, f1, minOf, maxOf}
-use Rattle.numbers.specs.Root.{rootOf}
-use Rattle.numbers.specs.Hypot.{hypotOf, infinite}
+use Rattle.numbers.specs.Reals.{_⊖_, f0, f1, minOf, maxOf}
+use Rattle.numbers.specs.Hypot.{countOf, hypotOf}
 use Rattle.numbers.proofs.Branches.{no, both-true}
+use Rattle.numbers.proofs.Distances.{hypot-counts}
 use Rattle.golden.specs.Search.{goldenMax}
 use Rattle.touch.specs.declared.Edge.{Edge}
 use Rattle.touch.specs.Touch.{along, distanceAt}
@@ -20,12 +19,12 @@ use Rattle.spans.proofs.Ranges.{finite-between, sub-mono}
 use Rattle.spans.proofs.Sizes.{either-of}
 use Rattle.spans.proofs.Extremes.{min-either}
 use Rattle.bound.specs.Inside.{nearerOf}
-use Rattle.bound.proofs.Order.{O, le-trans, sub-turns, add-left, add-right}
-use Rattle.bound.proofs.Roots.{root-finite, root-le, min-second, min-up}
+use Rattle.bound.proofs.Order.{O, le-trans, sub-turns}
+use Rattle.bound.proofs.Roots.{distance-low, min-second, min-up}
 use Rattle.bound.proofs.Unit.{I, Unit}
 use Rattle.bound.proofs.Held.{max-under, not-above, max-stays, le-not-nan}
 use Rattle.bound.proofs.Along.{Between, at, sub-parts, along-between, side-between, nearest-below, nearest-fine}
-use Rattle.bound.proofs.Small.{M, Small, small, small-finite, small-radius, small-between, square-nonneg, square-finite, sum-nonneg, sum-finite}
+use Rattle.bound.proofs.Small.{M, Small, small, small-finite, small-radius, small-between, small-distance}
 use Rattle.bull.specs.declared.Bull.{Bull}
 use Rattle.bull.specs.Bull.{bullProfile, bullAt}
 use Rattle.bull.specs.Inside.{sideOf, leastOf, capOf, underOf, sideTame, sidesTame, tameOf, beatenOf, isUnit}
@@ -38,14 +37,6 @@ picked false b e = (refl, e)
 chosen : (a b : Bool) → cond a b false ≡ true → (a ≡ true) × (b ≡ true)
 chosen true b e = (refl, e)
 chosen false b e = absurd (no e)
-
-hypot-fine : (x y : Float) → T (finite x) → T (finite y) → hypotOf x y ≡ rootOf (x ⊗ x ⊕ y ⊗ y)
-unfolding hypotOf infinite
-hypot-fine nan y p q = absurd p
-hypot-fine (inf s) y p q = absurd p
-hypot-fine (fin s m e) nan p q = absurd q
-hypot-fine (fin s m e) (inf t) p q = absurd q
-hypot-fine (fin s m e) (fin t n d) p q = refl
 
 -- ---- one coordinate
 module _ (a b x : Float) (e : sideTame a b x ≡ true) where
@@ -64,12 +55,9 @@ module _ (a b x : Float) (e : sideTame a b x ≡ true) where
     unfolding sideOf ofBits
     fine-side = nearest-fine _ _ (small-finite _ (ends .0)) (small-finite _ (ends .1))
 
-    nearer-side : T (le (sideOf a b x ⊗ sideOf a b x) ((at a b t ⊖ x) ⊗ (at a b t ⊖ x)))
+    nearer-side : countOf (sideOf a b x) ≤ countOf (at a b t ⊖ x)
     unfolding sideOf ofBits
     nearer-side = nearest-below _ _ (small-finite _ (ends .0)) (small-finite _ (ends .1)) _ place
-
-    side-square : T (finite (sideOf a b x ⊗ sideOf a b x))
-    side-square = finite-between O _ _ tt (square-finite _ there) (square-nonneg _ fine-side) nearer-side
 
 -- ---- the distance
 module _ (k : Bull) (e : Edge) (ex : sideTame (e .ax) (e .bx) (k .x) ≡ true) (ey : sideTame (e .ay) (e .by) (k .y) ≡ true) (t : Float) (u : Unit t) where
@@ -91,44 +79,23 @@ module _ (k : Bull) (e : Edge) (ex : sideTame (e .ax) (e .bx) (k .x) ≡ true) (
   ty : Small sy
   ty = there (e .ay) (e .by) (k .y) ey t u
 
-  fnx : T (finite (nx ⊗ nx))
-  fnx = side-square (e .ax) (e .bx) (k .x) ex t u
+  fx : T (finite nx)
+  fx = fine-side (e .ax) (e .bx) (k .x) ex t u
 
-  fny : T (finite (ny ⊗ ny))
-  fny = side-square (e .ay) (e .by) (k .y) ey t u
+  fy : T (finite ny)
+  fy = fine-side (e .ay) (e .by) (k .y) ey t u
 
-  squares-up : T (le (nx ⊗ nx ⊕ ny ⊗ ny) (sx ⊗ sx ⊕ sy ⊗ sy))
-  squares-up =
-      le-trans (nx ⊗ nx ⊕ ny ⊗ ny) (sx ⊗ sx ⊕ ny ⊗ ny) (sx ⊗ sx ⊕ sy ⊗ sy)
-      (add-left binary64 (nx ⊗ nx) (sx ⊗ sx) (ny ⊗ ny) fnx (square-finite sx tx) fny (nearer-side (e .ax) (e .bx) (k .x) ex t u))
-      (add-right binary64 (ny ⊗ ny) (sy ⊗ sy) (sx ⊗ sx) fny (square-finite sy ty) (square-finite sx tx) (nearer-side (e .ay) (e .by) (k .y) ey t u))
+  distance-fine : T (le O (distanceAt e (k .x) (k .y) t)) × T (finite (distanceAt e (k .x) (k .y) t))
+  unfolding distanceAt
+  distance-fine = small-distance sx sy tx ty
 
-  low-sum : T (le O (nx ⊗ nx ⊕ ny ⊗ ny))
-  low-sum =
-      sum-nonneg (nx ⊗ nx) (ny ⊗ ny) fnx fny (square-nonneg nx (fine-side (e .ax) (e .bx) (k .x) ex t u)) (square-nonneg ny (fine-side (e .ay) (e .by) (k .y) ey t u))
-
-  f-sum : T (finite (sx ⊗ sx ⊕ sy ⊗ sy))
-  f-sum = sum-finite sx sy tx ty
-
-  f-least : T (finite (nx ⊗ nx ⊕ ny ⊗ ny))
-  f-least = finite-between O _ _ tt f-sum low-sum squares-up
+  farther : T (le (leastOf k e) (distanceAt e (k .x) (k .y) t))
+  unfolding leastOf distanceAt
+  farther = hypot-counts nx ny sx sy fx fy (small-finite sx tx) (small-finite sy ty) (nearer-side (e .ax) (e .bx) (k .x) ex t u) (nearer-side (e .ay) (e .by) (k .y) ey t u)
 
   least-fine : T (le O (leastOf k e)) × T (finite (leastOf k e))
   unfolding leastOf
-  least-fine = root-finite _ (add-fits binary64 (nx ⊗ nx) (ny ⊗ ny)) f-least low-sum
-
-  distance-is : distanceAt e (k .x) (k .y) t ≡ rootOf (sx ⊗ sx ⊕ sy ⊗ sy)
-  unfolding distanceAt
-  distance-is = hypot-fine sx sy (small-finite sx tx) (small-finite sy ty)
-
-  farther : T (le (leastOf k e) (distanceAt e (k .x) (k .y) t))
-  unfolding leastOf
-  farther =
-      rw distance-is
-      (root-le _ _ (add-fits binary64 (nx ⊗ nx) (ny ⊗ ny)) (add-fits binary64 (sx ⊗ sx) (sy ⊗ sy)) f-least f-sum low-sum squares-up)
-
-  distance-finite : T (finite (distanceAt e (k .x) (k .y) t))
-  distance-finite = rw distance-is (root-finite _ (add-fits binary64 (sx ⊗ sx) (sy ⊗ sy)) f-sum (le-trans O _ _ low-sum squares-up) .1)
+  least-fine = let l = distance-low nx ny fx fy in (l, finite-between O _ _ tt (distance-fine .1) l (unfold leastOf in farther))
 
 -- ---- the height
 module _ (k : Bull) (e : Edge) (b : Float) (beaten : beatenOf k e b ≡ true) where
@@ -178,7 +145,7 @@ module _ (k : Bull) (e : Edge) (b : Float) (beaten : beatenOf k e b ≡ true) wh
     d-up = min-up (leastOf k e) far (k .r) (lf .1) fr (farther k e (tame .2) (tame .3) t u)
 
     d-high : T (le (minOf far (k .r)) M)
-    d-high = le-trans _ (k .r) M (min-second far (k .r) (distance-finite k e (tame .2) (tame .3) t u) fr) (r₀ .1)
+    d-high = le-trans _ (k .r) M (min-second far (k .r) (distance-fine k e (tame .2) (tame .3) t u .1) fr) (r₀ .1)
 
     d-most : T (le d M)
     d-most = le-trans d (minOf far (k .r)) M d-up d-high

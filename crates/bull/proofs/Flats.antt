@@ -6,20 +6,19 @@ use native.Mathlib.Nat.{mul-pos, mul-one, zero-mul}
 use native.Mathlib.Omega.{arith}
 use lib.Dec.{T}
 use lib.Ieee.{Float, binary64, lt, le, eq, ofBits}
-use lib.Ieee.Fits.{mul-fits, add-fits}
 use lib.Ieee.Scale.{finite}
 use lib.Ieee.Positive.{den, den-pos}
 use Rattle.numbers.specs.Reals.{_⊕_, _⊖_, _⊗_, f0, minus1, minOf}
-use Rattle.numbers.specs.Root.{rootOf}
 use Rattle.numbers.specs.Hypot.{hypotOf}
 use Rattle.spans.specs.Mesh.{isRadius}
 use Rattle.spans.proofs.Signed.{upper, lower, is-le, is-sub}
-use Rattle.spans.proofs.Ranges.{sub-mono, zero-is}
+use Rattle.spans.proofs.Ranges.{finite-between, sub-mono, zero-is}
+use Rattle.spans.proofs.Sizes.{f0-is}
 use Rattle.spans.proofs.Extremes.{min-either}
 use Rattle.bound.proofs.Order.{O, le-trans}
-use Rattle.bound.proofs.Roots.{root-finite}
-use Rattle.bound.proofs.Small.{small-up, small-finite, small-radius, square-finite}
-use Rattle.bound.proofs.Near.{sum-fine, near, min-under}
+use Rattle.bound.proofs.Small.{small-up, small-finite, small-radius}
+use Rattle.bound.specs.Inside.{Within}
+use Rattle.bound.proofs.Near.{near-none, min-under}
 use Rattle.bull.specs.declared.Bull.{Bull}
 use Rattle.bull.specs.declared.Way.{Way}
 use Rattle.bull.specs.Bull.{bullProfile}
@@ -38,40 +37,34 @@ self-high a p =
     is-le binary64 _ _ _ _ _ _ _ _ (mul-pos (den-pos a) (den-pos a)) (omega arith) (omega (arith, zero-mul (den a * den a), mul-one (upper a * den a + lower a * den a)))
     (is-sub binary64 a a p p) zero-is
 
-module _ (r w : Float) (a : isRadius r ≡ true) (b : isRadius w ≡ true) (l : T (le (rootOf (w ⊗ w)) w)) (x y : Float) (h : T (le (x ⊗ x ⊕ y ⊗ y) (w ⊗ w))) where
+module _ (r w flat : Float) (a : isRadius r ≡ true) (b : isRadius w ≡ true) (n : Within w flat) (x y : Float) (h : le (x ⊗ x ⊕ y ⊗ y) flat ≡ true) where
   fw : T (finite w)
   fw = let c = small-radius w b in small-finite w (small-up w (c .0) (c .1))
 
   fr : T (finite r)
   fr = let c = small-radius r a in small-finite r (small-up r (c .0) (c .1))
 
-  fww : T (finite (w ⊗ w))
-  fww = let c = small-radius w b in square-finite w (small-up w (c .0) (c .1))
-
-  fd : T (finite (hypotOf x y))
-  fd = let s = sum-fine x y (w ⊗ w) fww h in rw (s .distance) (root-finite (x ⊗ x ⊕ y ⊗ y) (add-fits binary64 (x ⊗ x) (y ⊗ y)) (s .fine) (s .low) .1)
+  near : T (le (minOf (hypotOf x y) r) w)
+  near = min-under (hypotOf x y) r w (n .near x y h)
 
   fm : T (finite (minOf (hypotOf x y) r))
-  fm = min-either (λ v. T (finite v)) (hypotOf x y) r fd fr
+  fm = min-either (λ v. T (finite v)) (hypotOf x y) r (finite-between O (hypotOf x y) w tt fw (rw f0-is at (n .low x y h)) (n .near x y h)) fr
 
   within : T (le (minOf (hypotOf x y) r ⊖ w) O)
-  within =
-      le-trans (minOf (hypotOf x y) r ⊖ w) (w ⊖ w) O
-      (sub-mono binary64 (minOf (hypotOf x y) r) w w fm fw fw (min-under (hypotOf x y) r w (near x y (w ⊗ w) w fww (mul-fits binary64 w w) l h)))
-      (self-high w fw)
+  within = le-trans (minOf (hypotOf x y) r ⊖ w) (w ⊖ w) O (sub-mono binary64 (minOf (hypotOf x y) r) w w fm fw fw near) (self-high w fw)
+
+none : (x y : Float) → le (x ⊗ x ⊕ y ⊗ y) minus1 ≡ true → ⊥
+unfolding ofBits le lt eq
+none x y h = let n = near-none minus1 in absurd (le-trans f0 (hypotOf x y) minus1 (n .low x y h) (n .near x y h))
 
 module _ (k : Bull) where
-  pub flat-square : (v : Float) → isRadius (k .r) ≡ true → isRadius (k .r ⊖ k .rc) ≡ true → v ≡ rootOf ((k .r ⊖ k .rc) ⊗ (k .r ⊖ k .rc)) → le v (k .r ⊖ k .rc) ≡ true
-      → FlatTo k ((k .r ⊖ k .rc) ⊗ (k .r ⊖ k .rc))
+  pub flat-part : (flat : Float) → isRadius (k .r) ≡ true → isRadius (k .r ⊖ k .rc) ≡ true → Within (k .r ⊖ k .rc) flat → FlatTo k flat
   unfolding ofBits
-  flat-square v a b q l = record { near = λ x y h. is-true _ (within (k .r) (k .r ⊖ k .rc) a b (holds _ (rw q at l)) x y (holds _ h)) }
+  flat-part flat a b n = record { near = λ x y h. is-true _ (within (k .r) (k .r ⊖ k .rc) flat a b n x y h) }
 
-  below : (x y : Float) → T (le (x ⊗ x ⊕ y ⊗ y) minus1) → ⊥
-  unfolding ofBits le lt eq
-  below x y h = absurd (le-trans O (x ⊗ x ⊕ y ⊗ y) minus1 (sum-fine x y minus1 tt h .low) h)
-
+  -- and where the cutter's radius is none, as no square is below 0
   pub flat-none : FlatTo k minus1
-  flat-none = record { near = λ x y h. absurd (below x y (holds _ h)) }
+  flat-none = record { near = λ x y h. absurd (none x y h) }
 
   pub flat-at : (w : Way) (flat t : Float) → FlatTo k flat
       → le ((w .ax ⊕ t ⊗ w .ex ⊖ k .x) ⊗ (w .ax ⊕ t ⊗ w .ex ⊖ k .x) ⊕ (w .ay ⊕ t ⊗ w .ey ⊖ k .y) ⊗ (w .ay ⊕ t ⊗ w .ey ⊖ k .y)) flat ≡ true

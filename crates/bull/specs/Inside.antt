@@ -2,7 +2,6 @@
 use mathlib.Core.Bool.{Bool, true, false, cond, _&&_}
 use lib.Ieee.{Float, le}
 use Rattle.numbers.specs.Reals.{_⊕_, _⊖_, _⊗_, f0, f1, maxOf, minOf}
-use Rattle.numbers.specs.Root.{rootOf}
 use Rattle.touch.specs.declared.Edge.{Edge}
 use Rattle.touch.specs.Touch.{along}
 use Rattle.spans.specs.Mesh.{isCoordinate, isRadius}
@@ -29,7 +28,7 @@ unfoldable pub leastOf : Bull → Edge → Float
 leastOf k e =
     let u = sideOf (e .ax) (e .bx) (k .x) in
     let v = sideOf (e .ay) (e .by) (k .y) in
-    rootOf (u ⊗ u ⊕ v ⊗ v)
+    hypotOf u v
 
 -- The higher end less the profile at the distance d.
 unfoldable pub capOf : Bull → Edge → Float → Float

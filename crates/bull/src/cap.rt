@@ -90,7 +90,7 @@ fn least(k: Bull, e: Edge) -> f64
 {
     let u = side(e.ax, e.bx, k.x);
     let v = side(e.ay, e.by, k.y);
-    numbers::root(u * u + v * v)
+    numbers::hypot(u, v)
 }
 
 // How near to x the coordinates from a to b come, with its sign.

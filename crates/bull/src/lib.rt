@@ -176,24 +176,19 @@ fn search(k: Bull, e: Edge, lo: f64, hi: f64) -> f64
     search_on(k, way_of(e), flat_of(k), lo, hi)
 }
 
-// A number up to which the square of a distance shows that the distance is within the flat part, so that no root is taken there: the square of that part's radius, or a
-// number below every square.
+// A number up to which the square of a distance shows that the distance is within the flat part, so that no distance is taken there.
 fn flat_of(k: Bull) -> f64
     ensures { λ f. ⌜ FlatTo k f ⌝ }
 {
     let r = k.r;
     let part = r - k.rc;
-    let square = part * part;
     if !spans::is_radius(r) {
         return MINUS_ONE;
     }
     if !spans::is_radius(part) {
         return MINUS_ONE;
     }
-    if numbers::root(square) <= part {
-        return square;
-    }
-    MINUS_ONE
+    bound::within(part)
 }
 
 // An edge as the search reads it: where it starts and how far its end lies from there, the numbers of the plan side by side.

@@ -1,6 +1,5 @@
 pub mod Branches
 pub mod Squares
-pub mod Digits
 pub mod Halves
 pub mod Patterns
 pub mod Significands
@@ -12,7 +11,7 @@ pub mod Monotone
 pub mod Rounding
 pub mod Magnitude
 pub mod SignBit
-pub mod Hypots
+pub mod Infinities
 pub mod Counts
 pub mod Places
 pub mod Computed
@@ -20,3 +19,11 @@ pub mod Signs
 pub mod Largest
 pub mod LeastNormal
 pub mod Strict
+pub mod Evens
+pub mod Rooting
+pub mod Lowering
+pub mod Settling
+pub mod Packing
+pub mod Scales
+pub mod Sized
+pub mod Distances

@@ -13,8 +13,10 @@ ghost use Rattle.numbers.specs.Hypot.{hypotOf, infinite};
 ghost use Rattle.numbers.specs.Root.{rootOf};
 ghost use Rattle.numbers.specs.Inside.{leastNormal};
 
+pub mod hypots;
 pub mod laws;
 pub mod roots;
+pub mod wide;
 
 // all of an f64's bits but the sign
 const MAGNITUDE: u64 = 0x7fff_ffff_ffff_ffff;
@@ -111,15 +113,19 @@ pub fn round_up(x: f64) -> f64
     -round_down(-x)
 }
 
-// How far (x, y) lies from (0, 0). Where the sum is no NaN its root is the answer, an infinite x or y included.
+// How far (x, y) lies from (0, 0), correctly rounded, by the bits of the two magnitudes.
 pub fn hypot(x: f64, y: f64) -> f64
     ensures { λ r. ⌜ r ≡ hypotOf x y ⌝ }
 {
-    let sum = x * x + y * y;
-    if sum != sum {
+    if x != x {
         return hypot_of_nan(x, y);
     }
-    root(sum)
+    if y != y {
+        return hypot_of_nan(x, y);
+    }
+    let a = f64::to_bits(x) & MAGNITUDE;
+    let b = f64::to_bits(y) & MAGNITUDE;
+    hypots::of_sizes(hypots::larger(a, b), hypots::smaller(a, b))
 }
 
 // The same where one of the two is a NaN: the other may still be infinite.

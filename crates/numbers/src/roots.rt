@@ -7,6 +7,7 @@ ghost use lib.IntN.{negsuc};
 ghost use lib.Ieee.{fin, minus};
 ghost use Rattle.numbers.specs.Root.{Nearest, rootOf};
 ghost use Rattle.numbers.specs.Inside.{Exponent, lifted};
+use crate::wide;
 
 // An f64's fraction has 52 digits; a normal number leaves out the one before them.
 pub const FRACTION: u64 = 0xf_ffff_ffff_ffff;
@@ -41,7 +42,7 @@ fn significand(m: u64, odd: u64) -> u64
     if nearest(n, s) {
         return s;
     }
-    nearest_root(n)
+    wide::nearest_root(n, 0)
 }
 
 // A candidate of 53 digits. They are those of a float near the root of m * 2^-odd / 2^52, which has the digits of the root asked for.
@@ -90,27 +91,6 @@ fn halved(e: i64) -> u64
     ensures { λ r. ⌜ r ≡ lifted e / 2 ⌝ }
 {
     ((e >> 1) + 1048) as u64
-}
-
-// The whole number nearest to the root of m * 2^52, digit by digit: q takes the digit r where its square is then still not above, and rest is what is left.
-pub fn nearest_root(m: u64) -> u64
-    requires { ⌜ (2 ^ 52 ≤ m) × (m < 2 ^ 54) ⌝ }
-    ensures { λ r. ⌜ Nearest (m * 2 ^ 52) r ⌝ }
-{
-    let mut rest = 2 * m;
-    let mut q = 0u64;
-    let mut r = 0x20_0000_0000_0000u64;
-    while r != 0 {
-        let t = 2 * q + r;
-        if t <= rest {
-            rest = rest - t;
-            q = q + r;
-        }
-        rest = 2 * rest;
-        r = r >> 1;
-    }
-    // q has 54 digits, the last for a half; a root never lies midway between two whole numbers
-    (q >> 1) + (q & 1)
 }
 
 // Whether s is the whole number nearest to the root of m * 2^52; a false may be wrong, a true is not. With s = a * 2^26 + b, m * 2^52 - s * s is

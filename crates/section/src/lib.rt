@@ -13,8 +13,6 @@ use touch::Gradient;
 use touch::Rest;
 use touch::Stretch;
 
-const MINUS_ONE: f64 = -1.0;
-
 // A part of a tool seen from below: level to r0 at z0 over the tip, then rising to r1.
 pub struct Section {
     pub z0: f64,
@@ -188,19 +186,11 @@ fn search(s: Section, x: f64, y: f64, e: Edge, lo: f64, hi: f64) -> f64
     search_on(s, x, y, e, flat_of(s), lo, hi)
 }
 
-// A number up to which the square of a distance shows that the distance is within r0, so that no root is taken there: the square of r0, or a number below every square.
+// A number up to which the square of a distance shows that the distance is within r0, so that no distance is taken there.
 fn flat_of(s: Section) -> f64
     ensures { λ r. ⌜ FlatTo s r ⌝ }
 {
-    let r0 = s.r0;
-    let square = r0 * r0;
-    if !spans::is_radius(r0) {
-        return MINUS_ONE;
-    }
-    if numbers::root(square) <= r0 {
-        return square;
-    }
-    MINUS_ONE
+    bound::within(s.r0)
 }
 
 // The same with the number `flat` of the section.

@@ -1,12 +1,18 @@
-// Where a root's search starts: 1 / sqrt(z) for z from 1/2 to 2, as 128 straight lines. `numbers` takes a candidate from them and checks it, so nothing is proved of
-// how near they are, which is to 16 binary digits. The first 64 lines share out 1/2 to 1 evenly, the others 1 to 2. Each meets the curve at two points of its stretch,
-// a seventh of it from either end. A `match` on constants becomes a table that is only read.
+// Where a root's search starts: 1 / sqrt(z) for z from 1/2 to 2, as 128 straight lines. `numbers` takes a candidate from them and checks it, so no answer
+// turns on how near they are; each comes within 2^-15 of the curve at the ends and the middle of its stretch, or a search would only take longer. The first
+// 64 lines share out 1/2 to 1 evenly, the others 1 to 2. Each meets the curve at two points of its stretch, a seventh of it from either end. A `match` on
+// constants becomes a table that is only read.
+ghost use mathlib.Core.Path.{_≡_};
+ghost use mathlib.Core.Bool.{true};
+ghost use Rattle.seeds.specs.Near.{isLine};
 
 // The line a - b * z, as a and b.
 pub struct Line(pub f64, pub f64);
 
 // The line of stretch i, and a level one past the last.
-pub fn chord(i: u64) -> Line {
+pub fn chord(i: u64) -> Line
+    ensures { λ l. ⌜ isLine i (l .0) (l .1) ≡ true ⌝ }
+{
     match i {
         0 => Line(2.1131113, 1.3978274),
         1 => Line(2.0969177, 1.3659378),

@@ -1,4 +1,4 @@
-use Rattle.numbers.proofs.Hypots.{infinite-called, one-infinite, other-infinite, none-infinite}
+use Rattle.numbers.proofs.Infinities.{infinite-called, one-infinite, other-infinite, none-infinite}
 use Rattle.numbers.proofs.hypot_of_nan.Statement.{statement}
 use Rattle.numbers.proofs.hypot_of_nan.Tie as tie
 
