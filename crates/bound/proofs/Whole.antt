@@ -1,6 +1,6 @@
 -- Numbers between whole numbers. A whole number of at most 2 ^ 53 is its own rounding, so a bound that is one holds of what an operation gives as it holds
 -- of the exact result.
-use mathlib.Core.Bool.{true, false}
+use mathlib.Core.Bool.{Bool, true, false}
 use mathlib.Core.Path.{_≡_, refl, sym}
 use Prim.Native.Nat.{ℕ, _+_, _-_, _*_, _/_, _^_, _≤_, _<_}
 use native.Mathlib.Nat.{zero-mul, mul-zero, mul-one, one-mul, mul-comm, mul-assoc, mul-left-comm, add-mul, mul-add, mul-pos}
@@ -8,7 +8,7 @@ use native.Mathlib.Nat.{mul-le-mul, mul-le-mul-right, le-of-mul-le-mul-right, di
 use native.Mathlib.Omega.{arith}
 use lib.Dec.{T}
 use lib.IntN.{pos}
-use lib.Ieee.{Float, nan, inf, fin, binary64, up, round, add, sub, mul, div, neg, lt, le, eq, ofInt, ofBits}
+use lib.Ieee.{Float, nan, inf, fin, binary64, up, down, unlike, round, add, sub, mul, div, neg, lt, le, eq, ofInt, ofBits}
 use lib.Ieee.Back.{round-whole}
 use lib.Ieee.Exact.{HasValue}
 use lib.Ieee.Positive.{num, den, den-pos, positive, positive-of-value, value→cross}
@@ -17,21 +17,20 @@ use Rattle.numbers.specs.Reals.{f0, million, absOf}
 use Rattle.numbers.proofs.Branches.{no, both-true}
 use Rattle.spans.specs.Mesh.{isCoordinate, isRadius}
 use Rattle.spans.proofs.Signed.{upper, lower, le→parts, parts→le, Is, is-le, is-sub, is-div}
-use Rattle.spans.proofs.Ranges.{finite-between, num-pos, zero-is}
+use Rattle.spans.proofs.Ranges.{finite-between, num-pos}
 use Rattle.spans.proofs.Scales.{true-of}
 use Rattle.bound.proofs.Small.{M, small-radius}
 use Rattle.bound.proofs.Order.{O, neg-finite, neg-upper, add-is, up-is, down-is, is-mul, no-lower}
 
--- -k <= x <= k
-pub record Bounded (k : ℕ) (x : Float) : Type 0 where
+-- -i <= x <= k
+pub record Within (i k : ℕ) (x : Float) : Type 0 where
   pub fine : T (finite x)
   pub above : upper x ≤ k * den x + lower x
-  pub below : lower x ≤ k * den x + upper x
+  pub below : lower x ≤ i * den x + upper x
 
--- 0 <= x <= k
-pub record UpTo (k : ℕ) (x : Float) : Type 0 where
-  pub bounded : Bounded k x
-  pub none : lower x ≡ 0
+-- -k <= x <= k
+abbrev pub Bounded : ℕ → Float → Type 0
+Bounded k x = Within k k x
 
 -- ---- a rounded fraction (p - n) / c
 plus-is : (x : Float) (k : ℕ) → HasValue x false k 1 → T (finite x) × (upper x ≡ k * den x) × (lower x ≡ 0)
@@ -52,44 +51,32 @@ unscaled v l d k w W h =
     le-of-mul-le-mul-right {m = v} {n = k * d + l} {k = w}
     (simp (add-mul, mul-assoc, mul-comm, mul-left-comm) (omega (arith, simp (mul-assoc, mul-comm, mul-left-comm) at h))) W
 
-module _ (v : Float) (p n c k : ℕ) (C : 0 < c) (K : k ≤ 2 ^ 53) (is : Is binary64 v p n c) where
+module _ (v : Float) (p n c i k : ℕ) (C : 0 < c) (I : i ≤ 2 ^ 53) (K : k ≤ 2 ^ 53) (is : Is binary64 v p n c) where
   under : p ≤ k * c + n → T (le v (round binary64 false k 1))
   under a = is-le binary64 _ _ _ _ _ _ _ _ C (omega arith) (omega (arith, mul-one p, mul-one n, zero-mul c)) is (up-is k 1)
 
-  over : n ≤ k * c + p → T (le (round binary64 true k 1) v)
-  over b = is-le binary64 _ _ _ _ _ _ _ _ (omega arith) C (omega (arith, mul-one p, mul-one n, zero-mul c)) (down-is k 1 (omega arith)) is
+  over : n ≤ i * c + p → T (le (round binary64 true i 1) v)
+  over b = is-le binary64 _ _ _ _ _ _ _ _ (omega arith) C (omega (arith, mul-one p, mul-one n, zero-mul c)) (down-is i 1 (omega arith)) is
 
-  pub bounded-of : p ≤ k * c + n → n ≤ k * c + p → Bounded k v
-  bounded-of a b =
+  pub within-of : p ≤ k * c + n → n ≤ i * c + p → Within i k v
+  within-of a b =
       let g = round binary64 false k 1 in
-      let h = round binary64 true k 1 in
+      let h = round binary64 true i 1 in
       let m = plus-is g k (round-whole binary64 false k K) in
-      let l = minus-is h k (round-whole binary64 true k K) in
+      let l = minus-is h i (round-whole binary64 true i I) in
       let f = finite-between h v g (l .0) (m .0) (over b) (under a) in
       record {
         fine = f;
         above = unscaled (upper v) (lower v) (den v) k (den g) (den-pos g)
             (omega (arith, zero-mul (den v), rw (m .1, m .2) at (le→parts v g f (m .0) (under a))));
-        below = unscaled (lower v) (upper v) (den v) k (den h) (den-pos h)
+        below = unscaled (lower v) (upper v) (den v) i (den h) (den-pos h)
             (omega (arith, zero-mul (den v), rw (l .1, l .2) at (le→parts h v (l .0) f (over b))));
       }
 
-  pub upTo-of : n ≤ p → p ≤ k * c + n → UpTo k v
-  upTo-of a b =
-      let d = bounded-of b (omega arith) in
-      let z = is-le binary64 _ _ _ _ _ _ _ _ (omega arith) C (omega (arith, mul-one p, mul-one n, zero-mul c)) zero-is is in
-      record { bounded = d; none = no-lower v (d .fine) z }
-
--- ---- a whole number, a larger bound, a negated number
-pub whole-upTo : (k : ℕ) → k ≤ 2 ^ 53 → UpTo k (ofInt binary64 (pos k))
-unfolding ofInt
-whole-upTo k K = upTo-of _ k 0 1 k (omega arith) K (up-is k 1) (omega arith) (omega (arith, mul-one k))
-
-pub bounded-more : (x : Float) (j k : ℕ) → j ≤ k → Bounded j x → Bounded k x
-bounded-more x j k h b = let m = mul-le-mul-right (den x) h in record { fine = b .fine; above = omega (arith, m, b .above); below = omega (arith, m, b .below) }
-
-pub upTo-more : (x : Float) (j k : ℕ) → j ≤ k → UpTo j x → UpTo k x
-upTo-more x j k h u = record { bounded = bounded-more x j k h (u .bounded); none = u .none }
+-- ---- larger bounds, a negated number
+pub within-more : (x : Float) (i j i′ j′ : ℕ) → i ≤ i′ → j ≤ j′ → Within i j x → Within i′ j′ x
+within-more x i j i′ j′ g h b =
+    record { fine = b .fine; above = omega (arith, mul-le-mul-right (den x) h, b .above); below = omega (arith, mul-le-mul-right (den x) g, b .below) }
 
 bounded-neg : (x : Float) (k : ℕ) → Bounded k x → Bounded k (neg x)
 bounded-neg x k b =
@@ -113,7 +100,7 @@ added ux lx dx uy ly dy j k a b =
 module _ (x y : Float) (j k : ℕ) (K : j + k ≤ 2 ^ 53) (a : Bounded j x) (b : Bounded k y) where
   pub bounded-add : Bounded (j + k) (add binary64 x y)
   bounded-add =
-      bounded-of _ _ _ _ _ (mul-pos (den-pos x) (den-pos y)) K (is-add x y (a .fine) (b .fine))
+      within-of _ _ _ _ _ _ (mul-pos (den-pos x) (den-pos y)) K K (is-add x y (a .fine) (b .fine))
       (added (upper x) (lower x) (den x) (upper y) (lower y) (den y) j k (a .above) (b .above))
       (omega (arith, added (lower x) (upper x) (den x) (lower y) (upper y) (den y) j k (a .below) (b .below)))
 
@@ -121,20 +108,29 @@ pub bounded-sub : (x y : Float) (j k : ℕ) → j + k ≤ 2 ^ 53 → Bounded j x
 unfolding sub
 bounded-sub x y j k K a b = bounded-add x (neg y) j k K a (bounded-neg y k b)
 
--- ---- products and quotients
-multiplied : (ux dx uy dy j k : ℕ) → ux ≤ j * dx + 0 → uy ≤ k * dy + 0 → ux * uy + 0 * 0 ≤ j * k * (dx * dy) + (ux * 0 + 0 * uy)
-multiplied ux dx uy dy j k a b =
-    let h : ux * uy ≤ j * dx * (k * dy) = mul-le-mul (omega arith) (omega arith) in
-    omega
-    (arith, mul-zero ux, zero-mul uy, simp (mul-assoc, mul-comm, mul-left-comm) at h, mul-assoc j k (dx * dy), mul-left-comm k dx dy, mul-assoc j dx (k * dy))
+-- ---- products with a whole number and quotients by one
+unlike-turns : (s t : Bool) → unlike s t ≡ unlike t s
+unlike-turns false false = refl
+unlike-turns false true = refl
+unlike-turns true false = refl
+unlike-turns true true = refl
 
-pub upTo-mul : (x y : Float) (j k : ℕ) → j * k ≤ 2 ^ 53 → UpTo j x → UpTo k y → UpTo (j * k) (mul binary64 x y)
-upTo-mul x y j k K a b =
-    upTo-of _ _ _ _ _ (mul-pos (den-pos x) (den-pos y)) K (is-mul x y (a .bounded .fine) (b .bounded .fine))
-    (rw (a .none, b .none) (omega (arith, mul-zero (upper x), zero-mul (upper y))))
-    (rw (a .none, b .none) (multiplied (upper x) (den x) (upper y) (den y) j k (rw (a .none) at (a .bounded .above)) (rw (b .none) at (b .bounded .above))))
+mul-turns : (x y : Float) → T (finite x) → T (finite y) → mul binary64 x y ≡ mul binary64 y x
+unfolding mul
+mul-turns nan y p q = absurd p
+mul-turns (inf s) y p q = absurd p
+mul-turns (fin s m e) nan p q = absurd q
+mul-turns (fin s m e) (inf t) p q = absurd q
+mul-turns (fin s m e) (fin t n d) p q = rw (unlike-turns s t, mul-comm (m * up e) (n * up d), mul-comm (down e) (down d))
 
--- by a whole number
+multiplied : (u l d j m w : ℕ) → u ≤ j * d + l → u * (m * w) + l * 0 ≤ j * m * (d * w) + (u * 0 + l * (m * w))
+multiplied u l d j m w a =
+    let h : u * (m * w) ≤ (j * d + l) * (m * w) = mul-le-mul-right (m * w) a in
+    omega (arith, mul-zero u, mul-zero l, h, add-mul (j * d) l (m * w), scaled)
+  where
+    scaled : j * d * (m * w) ≡ j * m * (d * w)
+    scaled = simp (mul-assoc, mul-comm, mul-left-comm)
+
 divided : (u l d j i n ny dy : ℕ) → ny * 1 ≡ n * dy → j ≤ i * n → u ≤ j * d + l → u * dy ≤ i * (ny * d) + l * dy
 divided u l d j i n ny dy e h a =
     let m : ny ≡ n * dy = omega (arith, mul-one ny) in
@@ -143,7 +139,7 @@ divided u l d j i n ny dy e h a =
     (simp (add-mul, mul-assoc, mul-comm, mul-left-comm)
     (omega (arith, simp (mul-assoc, mul-comm, mul-left-comm) at g, simp (add-mul, mul-assoc, mul-comm, mul-left-comm) at (mul-le-mul-right dy a))))
 
-module _ (x : Float) (j i n : ℕ) (h : 0 < n) (N : n ≤ 2 ^ 53) (I : i ≤ 2 ^ 53) (l : j ≤ i * n) where
+module _ (x : Float) (i j n : ℕ) (N : n ≤ 2 ^ 53) (b : Within i j x) where
   abbrev y : Float
   y = ofInt binary64 (pos n)
 
@@ -151,84 +147,122 @@ module _ (x : Float) (j i n : ℕ) (h : 0 < n) (N : n ≤ 2 ^ 53) (I : i ≤ 2 ^
   unfolding ofInt
   value = round-whole binary64 false n N
 
-  some : T (positive y)
-  some = positive-of-value y n 1 value h
+  module _ (I : i * n ≤ 2 ^ 53) (J : j * n ≤ 2 ^ 53) where
+    pub within-mul : Within (i * n) (j * n) (mul binary64 x y)
+    within-mul =
+        let w = plus-is y n value in
+        within-of _ _ _ _ _ _ (mul-pos (den-pos x) (den-pos y)) I J (is-mul x y (b .fine) (w .0))
+        (rw (w .1, w .2) (multiplied (upper x) (lower x) (den x) j n (den y) (b .above)))
+        (rw (w .1, w .2) (omega (arith, multiplied (lower x) (upper x) (den x) i n (den y) (b .below))))
 
-  pub bounded-div : Bounded j x → Bounded i (div binary64 x y)
-  bounded-div b =
-      bounded-of _ _ _ _ _ (mul-pos (num-pos y some) (den-pos x)) I (is-div binary64 x y (b .fine) some)
-      (divided (upper x) (lower x) (den x) j i n (num y) (den y) (value→cross y n 1 value) l (b .above))
-      (divided (lower x) (upper x) (den x) j i n (num y) (den y) (value→cross y n 1 value) l (b .below))
+    pub within-times : Within (i * n) (j * n) (mul binary64 y x)
+    within-times = rw (mul-turns y x (plus-is y n value .0) (b .fine)) within-mul
 
-  pub upTo-div : UpTo j x → UpTo i (div binary64 x y)
-  upTo-div u =
-      upTo-of _ _ _ _ _ (mul-pos (num-pos y some) (den-pos x)) I (is-div binary64 x y (u .bounded .fine) some) (rw (u .none) (omega (arith, zero-mul (den y))))
-      (divided (upper x) (lower x) (den x) j i n (num y) (den y) (value→cross y n 1 value) l (u .bounded .above))
+  pub within-div : (i′ j′ : ℕ) → 0 < n → i′ ≤ 2 ^ 53 → j′ ≤ 2 ^ 53 → i ≤ i′ * n → j ≤ j′ * n → Within i′ j′ (div binary64 x y)
+  within-div i′ j′ h I J l m =
+      let some = positive-of-value y n 1 value h in
+      within-of _ _ _ _ _ _ (mul-pos (num-pos y some) (den-pos x)) I J (is-div binary64 x y (b .fine) some)
+      (divided (upper x) (lower x) (den x) j j′ n (num y) (den y) (value→cross y n 1 value) m (b .above))
+      (divided (lower x) (upper x) (den x) i i′ n (num y) (den y) (value→cross y n 1 value) l (b .below))
 
--- ---- from a on towards b, both within k: the width b - a in whole numbers, and where what is at most so much further on lies
-module _ (a b : Float) (k : ℕ) (A : Bounded k a) (B : Bounded k b) (h : T (le a b)) where
+-- ---- from a to b, both within k: the way b - a lies between two whole numbers of which one is 1, and what goes no further lies within k but for that 1
+far : ℕ → ℕ → ℕ → ℕ
+far p n c = (p - n) / c + 1
+
+far-high : (p n c : ℕ) → 0 < c → p ≤ far p n c * c + n
+unfolding far
+far-high p n c C = let q = (p - n) / c in omega (arith, lt-div-mul-add {a = p - n} {b = c} C, add-mul q 1 c, one-mul c)
+
+far-few : (p n c k : ℕ) → 0 < c → p ≤ k * c + n → far p n c ≤ k + 1
+unfolding far
+far-few p n c k C h =
+    let q = (p - n) / c in omega (arith, le-of-mul-le-mul-right {m = q} {n = k} {k = c} (omega (arith, h, div-mul-le-self (p - n) c)) C)
+
+module _ (ua la da ub lb db k p n : ℕ) (D : 0 < db) (P : p ≡ ub * da + la * db) (N : n ≡ ua * db + lb * da) (a : ua ≤ k * da + la) (b : ub ≤ k * db + lb) where
+  landed : ua + far p n (db * da) * da ≤ (k + 1) * da + la
+  unfolding far
+  landed =
+      let c = db * da in
+      let q = (p - n) / c in
+      le-of-mul-le-mul-right {m = ua + (q + 1) * da} {n = (k + 1) * da + la} {k = db}
+      (omega (
+        arith,
+        P,
+        N,
+        div-mul-le-self (p - n) c,
+        left q,
+        right,
+        add-mul (k * da) la db,
+        mul-le-mul-right db a,
+        add-mul (k * db) lb da,
+        mul-le-mul-right da b,
+        swapped,
+        turned,
+      ))
+      D
+    where
+      left : (q : ℕ) → (ua + (q + 1) * da) * db ≡ ua * db + (q * (db * da) + db * da)
+      left q = simp (add-mul, one-mul, mul-assoc, mul-comm, mul-left-comm)
+
+      right : ((k + 1) * da + la) * db ≡ k * (db * da) + db * da + la * db
+      right = simp (add-mul, one-mul, mul-assoc, mul-comm, mul-left-comm)
+
+      swapped : k * da * db ≡ k * (db * da)
+      swapped = simp (mul-assoc, mul-comm, mul-left-comm)
+
+      turned : k * db * da ≡ k * (db * da)
+      turned = mul-assoc k db da
+
+  going : (ut lt dt j : ℕ) → ut ≤ (far p n (db * da) + j) * dt + lt → ua * dt + ut * da ≤ (k + j + 1) * (da * dt) + (lt * da + la * dt)
+  going ut lt dt j h =
+      let w = far p n (db * da) in
+      simp (add-mul, mul-add, mul-assoc, mul-comm, mul-left-comm, one-mul, mul-one)
+      (omega (
+        arith,
+        simp (add-mul, mul-assoc, mul-comm, mul-left-comm, one-mul) at (mul-le-mul-right da h),
+        simp (add-mul, mul-assoc, mul-comm, mul-left-comm, one-mul) at (mul-le-mul-right dt landed),
+      ))
+
+module _ (a b : Float) (k : ℕ) (A : Bounded k a) (B : Bounded k b) where
   abbrev more : ℕ
   more = upper b * den a + lower a * den b
 
   abbrev less : ℕ
   less = upper a * den b + lower b * den a
 
-  pub width : ℕ
-  width = (more - less) / (den b * den a) + 1
-
   C : 0 < den b * den a
   C = mul-pos (den-pos b) (den-pos a)
 
-  ordered : less ≤ more
-  ordered = le→parts a b (A .fine) (B .fine) h
+  pub ahead : ℕ
+  ahead = far more less (den b * den a)
 
-  width-high : more ≤ width * (den b * den a) + less
-  unfolding width
-  width-high =
-      let q = (more - less) / (den b * den a) in
-      omega (arith, ordered, lt-div-mul-add {a = more - less} {b = den b * den a} C, add-mul q 1 (den b * den a), one-mul (den b * den a))
+  pub back : ℕ
+  back = far less more (den b * den a)
 
-  width-low : width * (den b * den a) + less ≤ more + den b * den a
-  unfolding width
-  width-low =
-      let q = (more - less) / (den b * den a) in
-      omega (arith, ordered, div-mul-le-self (more - less) (den b * den a), add-mul q 1 (den b * den a), one-mul (den b * den a))
+  pub ahead-few : ahead ≤ k + k + 1
+  unfolding ahead
+  ahead-few = far-few _ _ _ (k + k) C (added (upper b) (lower b) (den b) (lower a) (upper a) (den a) k k (B .above) (A .below))
 
-  pub width-few : width ≤ k + k + 1
-  unfolding width
-  width-few =
-      let q = (more - less) / (den b * den a) in
-      let m = added (upper b) (lower b) (den b) (lower a) (upper a) (den a) k k (B .above) (A .below) in
-      omega (arith, le-of-mul-le-mul-right {m = q} {n = k + k} {k = den b * den a} (omega (arith, m, div-mul-le-self (more - less) (den b * den a))) C)
+  pub back-few : back ≤ k + k + 1
+  unfolding back
+  back-few = far-few _ _ _ (k + k) C (omega (arith, added (lower b) (upper b) (den b) (upper a) (lower a) (den a) k k (B .below) (A .above)))
 
-  pub width-upTo : k + k + 1 ≤ 2 ^ 53 → UpTo width (sub binary64 b a)
-  width-upTo K = upTo-of _ _ _ _ _ C (omega (arith, width-few)) (is-sub binary64 b a (B .fine) (A .fine)) ordered width-high
+  pub width-within : k + k + 1 ≤ 2 ^ 53 → Within back ahead (sub binary64 b a)
+  width-within K =
+      within-of _ _ _ _ _ _ C (omega (arith, back-few)) (omega (arith, ahead-few)) (is-sub binary64 b a (B .fine) (A .fine))
+      (unfold ahead in far-high more less _ C) (unfold back in far-high less more _ C)
 
-  pub further : (t : Float) (j : ℕ) → k + j + 1 ≤ 2 ^ 53 → UpTo (width + j) t → Bounded (k + j + 1) (add binary64 a t)
+  pub further : (t : Float) (j : ℕ) → k + j + 1 ≤ 2 ^ 53 → Within (back + j) (ahead + j) t → Bounded (k + j + 1) (add binary64 a t)
+  unfolding ahead back
   further t j K u =
-      bounded-of _ _ _ _ _ (mul-pos (den-pos a) (den-pos t)) K (is-add a t (A .fine) (u .bounded .fine))
-      (rw (u .none)
-      (up-to (upper a) (lower a) (den a) (upper b) (lower b) (den b) (upper t) (den t) width (den-pos b) (B .above) width-low (rw (u .none) at (u .bounded .above))))
-      (rw (u .none) (from (upper a) (lower a) (den a) (upper t) (den t) (A .below)))
-    where
-      up-to : (ua la da ub lb db ut dt w : ℕ) → 0 < db → ub ≤ k * db + lb
-          → w * (db * da) + (ua * db + lb * da) ≤ ub * da + la * db + db * da → ut ≤ (w + j) * dt + 0
-          → ua * dt + ut * da ≤ (k + j + 1) * (da * dt) + (0 * da + la * dt)
-      up-to ua la da ub lb db ut dt w D e f g =
-          let g′ : ut ≤ (w + j) * dt = omega arith in
-          le-of-mul-le-mul-right {m = ua * dt + ut * da} {n = (k + j + 1) * (da * dt) + (0 * da + la * dt)} {k = db}
-          (simp (add-mul, mul-add, mul-assoc, mul-comm, mul-left-comm, zero-mul, mul-zero, mul-one, one-mul)
-          (omega (
-            arith,
-            simp (add-mul, mul-assoc, mul-comm, mul-left-comm) at (mul-le-mul-right (da * db) g′),
-            simp (add-mul, mul-assoc, mul-comm, mul-left-comm) at (mul-le-mul-right dt f),
-            simp (add-mul, mul-assoc, mul-comm, mul-left-comm) at (mul-le-mul-right (da * dt) e),
-          )))
-          D
-
-      from : (ua la da ut dt : ℕ) → la ≤ k * da + ua → 0 * da + la * dt ≤ (k + j + 1) * (da * dt) + (ua * dt + ut * da)
-      from ua la da ut dt e =
-          omega (arith, zero-mul da, simp (add-mul, mul-assoc) at (mul-le-mul-right dt e), add-mul (k + j) 1 (da * dt), add-mul k j (da * dt))
+      within-of _ _ _ _ _ _ (mul-pos (den-pos a) (den-pos t)) K K (is-add a t (A .fine) (u .fine))
+      (going (upper a) (lower a) (den a) (upper b) (lower b) (den b) k more less (den-pos b) (omega arith) (omega arith) (A .above) (B .above)
+      (upper t) (lower t) (den t) j (u .above))
+      (omega (
+        arith,
+        going (lower a) (upper a) (den a) (lower b) (upper b) (den b) k less more (den-pos b) (omega arith) (omega arith) (A .below) (B .below)
+        (lower t) (upper t) (den t) j (u .below),
+      ))
 
 -- ---- what the tests of a magnitude and of a radius say
 not-inf : (b : Float) (k : ℕ) → HasValue b false k 1 → le (inf false) b ≡ true → ⊥
@@ -280,11 +314,11 @@ pub coordinate-bounded : (x : Float) → isCoordinate x ≡ true → Bounded 100
 unfolding isCoordinate
 coordinate-bounded x e = size-bounded x million 1000000 million-value e
 
-pub radius-upTo : (r : Float) → isRadius r ≡ true → UpTo 1000000 r
+pub radius-bounded : (r : Float) → isRadius r ≡ true → Bounded 1000000 r
 unfolding isRadius
-radius-upTo r e =
+radius-bounded r e =
     let c = small-radius r e in
     let f = finite-between O r M tt tt (c .0) (c .1) in
     let z = no-lower r f (c .0) in
     let h = sized r million 1000000 f z million-value (rw (both-true (le f0 r) (le r million) e .1) tt) in
-    record { bounded = record { fine = f; above = omega (arith, h); below = omega (arith, z) }; none = z }
+    record { fine = f; above = omega (arith, h); below = omega (arith, z) }
