@@ -27,8 +27,8 @@ use Rattle.ask.specs.declared.Ruling.{Ruling}
 unfoldable pub isCorner : Float → Float → Bool
 isCorner r rc = le f0 rc && le rc r
 
--- 1, 23, 2, 8 and 7 in this order, each where its test does not hold; 0 where the question with the cells p is accepted. `numbers` and `tool` say whether its numbers
--- and its tool are in their ranges.
+-- 1, 23, 2, 8 and 7 in this order, each where its test does not hold; 0 where the question with the cells p is accepted. `numbers` and `tool` say whether its
+-- numbers and its tool are in their ranges.
 unfoldable pub refusalOf : Bool → Bool → Index → List ℕ → ℕ → Patch → ℕ
 refusalOf numbers tool ix marks stamp p =
     demand (isMarked (ix .mesh) marks) 1

@@ -52,7 +52,8 @@ pub fn refusal(
 ) -> u32
     requires { ⌜ (p .x1 ≤ h .columns) × (p .y1 ≤ h .rows) ⌝ }
     ensures { λ k. ⌜ k
-        ≡ refusalOf numbers tool (indexOf (now (mesh .entry)) h (now (starts .entry)) (now (members .entry)) (now (boxes .entry))) (now (marks .entry)) stamp p ⌝ }
+        ≡ refusalOf numbers tool (indexOf (now (mesh .entry)) h (now (starts .entry)) (now (members .entry)) (now (boxes .entry))) (now
+        (marks .entry)) stamp p ⌝ }
     ensures { λ k. ⌜ GoodAccepted numbers tool (indexOf (now (mesh .entry)) h (now (starts .entry)) (now (members .entry)) (now (boxes .entry)))
         (now (marks .entry)) stamp k ⌝ }
 {

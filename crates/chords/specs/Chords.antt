@@ -68,7 +68,8 @@ toolBlocksAt mesh boxes m low table i = toolBlocks (triangleOf mesh i) (boxAt bo
 -- sections_chord_clear: 1, 23, 2, 8 (the sections) and 7; reach is the largest r1.
 unfoldable pub sectionsChordOf : Index → List ℕ → ℕ → Chord → List Float → Outcome Ruling
 sectionsChordOf ix marks stamp m table =
-    askedChord (isChord m) (isTool table) (blockedAtOnce (ix .header .floor) m) (toolBlocksAt (ix .mesh) (ix .boxes) m (lowestOf table (sectionsIn table)) table)
+    askedChord (isChord m) (isTool table) (blockedAtOnce (ix .header .floor) m)
+    (toolBlocksAt (ix .mesh) (ix .boxes) m (lowestOf table (sectionsIn table)) table)
     ix marks stamp (patchOf (ix .header) (m .ax) (m .ay) (m .bx) (m .by) (widestOf table (sectionsIn table)))
 
 -- What `sections_chord_clear` promises of its verdict over the index built from its mesh.

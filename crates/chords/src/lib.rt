@@ -41,7 +41,18 @@ pub fn bull_chord_clear(
     let p = query::patch_of(h, m.ax, m.ay, m.bx, m.by, r);
     let asked = is_ride(m, r);
     let corner = ask::is_corner(r, rc);
-    let n = ask::refusal(mesh, h, starts, members, boxes, marks, stamp, p, asked, corner);
+    let n = ask::refusal(
+        mesh,
+        h,
+        starts,
+        members,
+        boxes,
+        marks,
+        stamp,
+        p,
+        asked,
+        corner,
+    );
     if n != 0 {
         return refused(n, stamp);
     }
@@ -49,7 +60,19 @@ pub fn bull_chord_clear(
         return blocked(stamp);
     }
     let next = walk::next_stamp(marks, stamp);
-    let v = chase_bull(mesh, starts, members, boxes, marks, next, columns, p, m, r, rc);
+    let v = chase_bull(
+        mesh,
+        starts,
+        members,
+        boxes,
+        marks,
+        next,
+        columns,
+        p,
+        m,
+        r,
+        rc,
+    );
     Ruling {
         refusal: 0,
         finding: finding_of(v.clear),
@@ -83,7 +106,18 @@ pub fn sections_chord_clear(
     let p = query::patch_of(h, m.ax, m.ay, m.bx, m.by, reach);
     let asked = is_chord(m);
     let valid = tool::is_tool(table);
-    let n = ask::refusal(mesh, h, starts, members, boxes, marks, stamp, p, asked, valid);
+    let n = ask::refusal(
+        mesh,
+        h,
+        starts,
+        members,
+        boxes,
+        marks,
+        stamp,
+        p,
+        asked,
+        valid,
+    );
     if n != 0 {
         return refused(n, stamp);
     }
@@ -222,14 +256,7 @@ fn tool_blocks(t: Triangle, b: Bounds, m: Chord, low: f64, table: &[f64]) -> boo
 }
 
 // Whether triangle i blocks the tool.
-fn tool_blocks_at(
-    mesh: &[f64],
-    boxes: &[f64],
-    m: Chord,
-    low: f64,
-    table: &[f64],
-    i: usize,
-) -> bool
+fn tool_blocks_at(mesh: &[f64], boxes: &[f64], m: Chord, low: f64, table: &[f64], i: usize) -> bool
     requires { ⌜ (9 * i + 9 ≤ length (now mesh)) × (5 * i + 5 ≤ length (now boxes)) ⌝ }
     ensures { λ b. ⌜ b ≡ toolBlocksAt (now (mesh .entry)) (now (boxes .entry)) m low (now (table .entry)) i ⌝ }
 {
@@ -251,7 +278,8 @@ fn strike_bull(
 ) -> Verdict
     requires { ⌜ (length (now mesh) ≡ length (now marks) * 9) × (i < length (now marks)) × Room stamp (judged (now marks) v) × (v .clear ≡ true)
         × (length (now boxes) ≡ length (now marks) * 5) ⌝ }
-    ensures { λ w. ⌜ judged (now (marks .exit)) w ≡ strike stamp (bullBlocksAt (now (mesh .entry)) (now (boxes .entry)) m r rc) (judged (now (marks .entry)) v) i ⌝ }
+    ensures { λ w. ⌜ judged (now (marks .exit)) w ≡ strike stamp (bullBlocksAt (now (mesh .entry)) (now (boxes .entry)) m r rc) (judged (now
+        (marks .entry)) v) i ⌝ }
 {
     let count = v.count;
     if !walk::fresh(marks, stamp, i) {
@@ -366,7 +394,17 @@ fn chase_tool(
         for x in x0..x1 {
             let part = walk::stretch(starts, members, y * columns + x);
             for j in 0..part.len() {
-                v = strike_tool(mesh, boxes, marks, stamp, m, low, table, v, part[j] as usize);
+                v = strike_tool(
+                    mesh,
+                    boxes,
+                    marks,
+                    stamp,
+                    m,
+                    low,
+                    table,
+                    v,
+                    part[j] as usize,
+                );
                 if !v.clear {
                     break 'rows;
                 }

@@ -2,12 +2,13 @@
 -- numbers; a number of the machine stands there by its bits.
 use mathlib.Core.List.{List, [], _∷_, _++_, map}
 use mathlib.Core.Path.{_≡_}
-use Prim.Native.Nat.{ℕ, zero, suc, _/_, _%_}
+use Prim.Native.Nat.{ℕ, zero, suc, _/_, _%_, _*_}
 use lib.Ieee.{Float, binary64, ofBits, toBits}
 use lib.ListN.{length, take, replicate}
 use Rattle.numbers.specs.Reals.{f0, f1, f2, f4, million, minus1}
 use Rattle.numbers.specs.Root.{rootOf}
 use Rattle.numbers.specs.Rounding.{roundDownOf}
+use Rattle.grid.specs.Grid.{trianglesIn}
 use Rattle.grid.specs.Build.{buildOf}
 use Rattle.walk.specs.Walk.{nextStamp, readyMarks}
 use Rattle.job.specs.Reader.{readOf}
@@ -66,7 +67,7 @@ cornerAt x = f0 ∷ f0 ∷ f2 ∷ f4 ∷ f0 ∷ f2 ∷ f0 ∷ x ∷ f2 ∷ []
 
 -- what the builder says to a mesh, with floor 0 and radius 1
 abbrev pub building : List Float → List ℕ
-building mesh = buildOf mesh f0 f1 (replicate 9 0) (replicate 9 0) .built .refusal ∷ []
+building mesh = buildOf mesh f0 f1 (replicate 9 0) (replicate 9 0) (replicate (trianglesIn mesh * 5) f0) .built .refusal ∷ []
 
 -- ---- the table
 

@@ -62,7 +62,18 @@ pub fn max_bull(
     let p = query::patch_of(h, px, py, px, py, r);
     let stands = is_stand(px, py, r);
     let corner = ask::is_corner(r, rc);
-    let n = ask::refusal(mesh, h, starts, members, boxes, marks, stamp, p, stands, corner);
+    let n = ask::refusal(
+        mesh,
+        h,
+        starts,
+        members,
+        boxes,
+        marks,
+        stamp,
+        p,
+        stands,
+        corner,
+    );
     if n != 0 {
         return Answer {
             refusal: n,
@@ -75,7 +86,18 @@ pub fn max_bull(
         };
     }
     let next = walk::next_stamp(marks, stamp);
-    let s = visit_bull(mesh, starts, members, boxes, marks, next, columns, p, k, first);
+    let s = visit_bull(
+        mesh,
+        starts,
+        members,
+        boxes,
+        marks,
+        next,
+        columns,
+        p,
+        k,
+        first,
+    );
     let best = s.best;
     Answer {
         refusal: 0,
@@ -122,7 +144,18 @@ pub fn max_sections(
     let p = query::patch_of(h, px, py, px, py, reach);
     let stands = is_place(px, py);
     let valid = tool::is_tool(table);
-    let n = ask::refusal(mesh, h, starts, members, boxes, marks, stamp, p, stands, valid);
+    let n = ask::refusal(
+        mesh,
+        h,
+        starts,
+        members,
+        boxes,
+        marks,
+        stamp,
+        p,
+        stands,
+        valid,
+    );
     if n != 0 {
         return Answer {
             refusal: n,
@@ -232,10 +265,19 @@ fn look_bull(
 }
 
 // The step over one cell: looks at each of its numbers.
-fn cell_bull(mesh: &[f64], boxes: &[f64], part: &[u32], marks: &mut [u32], stamp: u32, k: Bull, s: Seen) -> Seen
+fn cell_bull(
+    mesh: &[f64],
+    boxes: &[f64],
+    part: &[u32],
+    marks: &mut [u32],
+    stamp: u32,
+    k: Bull,
+    s: Seen,
+) -> Seen
     requires { ⌜ (length (now mesh) ≡ length (now marks) * 9) × Below (length (now marks)) (now part) × Room stamp (seen (now marks) s)
         × (length (now boxes) ≡ length (now marks) * 5) ⌝ }
-    ensures { λ r. ⌜ seen (now (marks .exit)) r ≡ fold (look stamp (bullStep (now (mesh .entry)) (now (boxes .entry)) k)) (seen (now (marks .entry)) s) (now (part .entry)) ⌝ }
+    ensures { λ r. ⌜ seen (now (marks .exit)) r ≡ fold (look stamp (bullStep (now (mesh .entry)) (now (boxes .entry)) k)) (seen (now (marks .entry)) s) (now
+        (part .entry)) ⌝ }
 {
     let mut found = s;
     for j in 0..part.len() {
@@ -291,14 +333,7 @@ fn raise_tool_on(t: Triangle, top: f64, i: u32, a: Axis, table: &[f64], best: Be
 }
 
 // The best so far with triangle i.
-fn raise_tool(
-    mesh: &[f64],
-    boxes: &[f64],
-    a: Axis,
-    table: &[f64],
-    best: Best,
-    i: u32,
-) -> Best
+fn raise_tool(mesh: &[f64], boxes: &[f64], a: Axis, table: &[f64], best: Best, i: u32) -> Best
     requires { ⌜ (9 * i + 9 ≤ length (now mesh)) × (5 * i + 5 ≤ length (now boxes)) ⌝ }
     ensures { λ r. ⌜ r ≡ toolStep (now (mesh .entry)) (now (boxes .entry)) a (now (table .entry)) best i ⌝ }
 {
@@ -319,7 +354,8 @@ fn look_tool(
 ) -> Seen
     requires { ⌜ (length (now mesh) ≡ length (now marks) * 9) × (i < length (now marks)) × Room stamp (seen (now marks) s)
         × (length (now boxes) ≡ length (now marks) * 5) ⌝ }
-    ensures { λ r. ⌜ seen (now (marks .exit)) r ≡ look stamp (toolStep (now (mesh .entry)) (now (boxes .entry)) a (now (table .entry))) (seen (now (marks .entry)) s) i ⌝ }
+    ensures { λ r. ⌜ seen (now (marks .exit)) r ≡ look stamp (toolStep (now (mesh .entry)) (now (boxes .entry)) a (now (table .entry))) (seen (now
+        (marks .entry)) s) i ⌝ }
 {
     let count = s.count;
     let best = s.best;

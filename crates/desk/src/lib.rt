@@ -447,10 +447,32 @@ fn plan_along(
         p (axisFrom axis) a) ⌝ }
 {
     if axis == 0 {
-        return plan::plan(mesh, h, starts, members, boxes, marks, levels, runs, p, Axis::X);
+        return plan::plan(
+            mesh,
+            h,
+            starts,
+            members,
+            boxes,
+            marks,
+            levels,
+            runs,
+            p,
+            Axis::X,
+        );
     }
     if axis == 1 {
-        return plan::plan(mesh, h, starts, members, boxes, marks, levels, runs, p, Axis::Y);
+        return plan::plan(
+            mesh,
+            h,
+            starts,
+            members,
+            boxes,
+            marks,
+            levels,
+            runs,
+            p,
+            Axis::Y,
+        );
     }
     refused(no_axis(mesh, boxes, marks))
 }
@@ -488,7 +510,18 @@ pub extern "C" fn mandrikelo_plan(
 {
     let h = header_from(measures, sizes);
     let p = parameters_from(parameters);
-    let a = plan_along(mesh, h, starts, members, boxes, marks, levels, runs, p, axis);
+    let a = plan_along(
+        mesh,
+        h,
+        starts,
+        members,
+        boxes,
+        marks,
+        levels,
+        runs,
+        p,
+        axis,
+    );
     let k = a.refusal;
     let cut = a.cut;
     let dropped = a.dropped;

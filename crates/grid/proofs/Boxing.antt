@@ -81,8 +81,13 @@ module _ (mesh : List Float) (i : ℕ) (old new : List Float) (b : Bounds) (h : 
       }
     where
       lengths : length (boxesOf mesh i ++ fiveOf (boxOf mesh i) ++ drop (i * 5 + 5) old) ≡ length old
-      lengths = omega (arith, length-append (boxesOf mesh i ++ fiveOf (boxOf mesh i)) (drop (i * 5 + 5) old), length-append (boxesOf mesh i) (fiveOf (boxOf mesh i)),
-          boxes-length mesh i, length-drop (i * 5 + 5) old)
+      lengths = omega (
+        arith,
+        length-append (boxesOf mesh i ++ fiveOf (boxOf mesh i)) (drop (i * 5 + 5) old),
+        length-append (boxesOf mesh i) (fiveOf (boxOf mesh i)),
+        boxes-length mesh i,
+        length-drop (i * 5 + 5) old,
+      )
 
 pub boxed-all : (mesh : List Float) (n : ℕ) (old new : List Float) → length old ≡ n * 5 → Boxed mesh n old new → new ≡ boxesOf mesh n
 boxed-all mesh n old new l h =

@@ -39,13 +39,25 @@ pub fn max_height(
     r: f64,
 ) -> Answer
     ensures { λ a. ⌜ ended a (now (marks .exit))
-        ≡ maxHeightOf (indexOf (now (mesh .entry)) h (now (starts .entry)) (now (members .entry)) (now (boxes .entry))) (now (marks .entry)) stamp (sweep px py qx qy r) ⌝ }
+        ≡ maxHeightOf (indexOf (now (mesh .entry)) h (now (starts .entry)) (now (members .entry)) (now (boxes .entry))) (now (marks .entry)) stamp
+        (sweep px py qx qy r) ⌝ }
     ensures { λ a. ⌜ DiskPromise (indexOf (now (mesh .entry)) h (now (starts .entry)) (now (members .entry)) (now (boxes .entry)))
         (now (marks .entry)) stamp (sweep px py qx qy r) a ⌝ }
 {
     let p = query::patch_of(h, px, py, qx, qy, r);
     let asked = is_sweep(px, py, qx, qy, r);
-    let n = ask::refusal(mesh, h, starts, members, boxes, marks, stamp, p, asked, true);
+    let n = ask::refusal(
+        mesh,
+        h,
+        starts,
+        members,
+        boxes,
+        marks,
+        stamp,
+        p,
+        asked,
+        true,
+    );
     if n != 0 {
         return Answer {
             refusal: n,
@@ -99,7 +111,8 @@ pub fn swept_height(
         × Sweepable (indexOf (now mesh) h (now starts) (now members) (now boxes)) (length (now marks)) (patchFor h (sweep px py qx qy r))
         × (length (now boxes) ≡ length (now marks) * 5) ⌝ }
     ensures { λ s. ⌜ (walkLeft s (now (marks .exit))
-        ≡ sweepWalk (indexOf (now (mesh .entry)) h (now (starts .entry)) (now (members .entry)) (now (boxes .entry))) (now (marks .entry)) stamp (sweep px py qx qy r))
+        ≡ sweepWalk (indexOf (now (mesh .entry)) h (now (starts .entry)) (now (members .entry)) (now (boxes .entry))) (now (marks .entry)) stamp
+        (sweep px py qx qy r))
         × (s .stamp ≡ nextStamp stamp) ⌝ }
 {
     let p = query::patch_of(h, px, py, qx, qy, r);
@@ -176,7 +189,18 @@ fn sweep_in(
         },
     };
     let next = walk::next_stamp(marks, stamp);
-    let found = visit(mesh, starts, members, boxes, marks, next, columns, p, q, first);
+    let found = visit(
+        mesh,
+        starts,
+        members,
+        boxes,
+        marks,
+        next,
+        columns,
+        p,
+        q,
+        first,
+    );
     let best = found.best;
     Swept {
         best,
@@ -234,7 +258,8 @@ fn visit_cell(
 ) -> Seen
     requires { ⌜ (length (now mesh) ≡ length (now marks) * 9) × Below (length (now marks)) (now part) × Room stamp (seen (now marks) s)
         × (length (now boxes) ≡ length (now marks) * 5) ⌝ }
-    ensures { λ r. ⌜ seen (now (marks .exit)) r ≡ fold (look stamp (diskStep (now (mesh .entry)) (now (boxes .entry)) q)) (seen (now (marks .entry)) s) (now (part .entry)) ⌝ }
+    ensures { λ r. ⌜ seen (now (marks .exit)) r ≡ fold (look stamp (diskStep (now (mesh .entry)) (now (boxes .entry)) q)) (seen (now (marks .entry)) s) (now
+        (part .entry)) ⌝ }
 {
     let mut found = s;
     for j in 0..part.len() {

@@ -39,7 +39,8 @@ pub fn search_levels(
     requires { ⌜ Askable (indexOf (now mesh) h (now starts) (now members) (now boxes)) × Marked (h .n) 0 (now marks) × (count * 5 ≤ length (now levels))
         × (count ≤ 65536) × (anyOf (tooFine p axis (h .r)) (levelsIn (now levels) 0 count) ≡ false) ⌝ }
     ensures { λ y. ⌜ Searched (now (runs .entry)) (levelsFound
-        (heightUnder (indexOf (now (mesh .entry)) h (now (starts .entry)) (now (members .entry)) (now (boxes .entry)))) p axis (h .r) (record { rows = 0; pieces = [] })
+        (heightUnder (indexOf (now (mesh .entry)) h (now (starts .entry)) (now (members .entry)) (now (boxes .entry)))) p axis (h .r)
+        (record { rows = 0; pieces = [] })
         (levelsIn (now (levels .entry)) 0 count)) (now (runs .exit)) y × (length (now (marks .exit)) ≡ h .n) ⌝ }
 {
     let mut stand = Stand {

@@ -72,7 +72,8 @@ pub fn level_at(levels: &[f64], m: usize) -> Level
 // The numbers of the flat triangles put in front of the list, in mesh order, and how many there are.
 fn gather(mesh: &[f64], n: usize, list: &mut [u32], tolerance: f64, least: f64) -> usize
     requires { ⌜ (n * 9 ≤ length (now mesh)) × (n ≤ length (now list)) × (n ≤ 65536) ⌝ }
-    ensures { λ r. ⌜ (r ≡ length (flatsOf (now (mesh .entry)) tolerance least n)) × (now (list .exit) ≡ flatsOf (now (mesh .entry)) tolerance least n ++ drop r (now (list .entry))) ⌝ }
+    ensures { λ r. ⌜ (r ≡ length (flatsOf (now (mesh .entry)) tolerance least n)) × (now (list .exit) ≡ flatsOf (now
+        (mesh .entry)) tolerance least n ++ drop r (now (list .entry))) ⌝ }
 {
     let mut k: usize = 0;
     for i in 0..n {

@@ -66,7 +66,8 @@ unfoldable pub listingOf : List ℕ → List ℕ
 listingOf bytes =
     let o = readOf bytes (replicate meshRoom f0) (replicate questionRoom f0) in
     cond (eqb (o .answer .refusal) 0)
-    (listedOf (take (9 * o .answer .n) (o .mesh)) (take (5 * o .answer .m) (o .questions)) (replicate (5 * o .answer .n) f0) (o .answer .floor) (o .answer .radius) (o .answer .n) (o .answer .m))
+    (listedOf (take (9 * o .answer .n) (o .mesh)) (take (5 * o .answer .m) (o .questions)) (replicate (5 * o .answer .n) f0)
+    (o .answer .floor) (o .answer .radius) (o .answer .n) (o .answer .m))
     (refusedLine (o .answer .refusal))
 
 -- an input that begins with these bytes, of which there are no more than enough, has their listing

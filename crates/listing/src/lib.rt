@@ -54,7 +54,8 @@ fn listed(
     out: &mut [u8],
 ) -> usize
     requires { ⌜ (n ≤ 256) × (m ≤ 256) × (length (now questions) ≡ 5 * m) × (20570 ≤ length (now out)) ⌝ }
-    ensures { λ r. ⌜ Wrote (now (out .entry)) (now (out .exit)) 0 r (listedOf (now (mesh .entry)) (now (questions .entry)) (now (boxes .entry)) floor radius n m) × (r ≤ 20570) ⌝ }
+    ensures { λ r. ⌜ Wrote (now (out .entry)) (now (out .exit)) 0 r (listedOf (now (mesh .entry)) (now (questions .entry)) (now
+        (boxes .entry)) floor radius n m) × (r ≤ 20570) ⌝ }
 {
     let mut starts = [0; 513];
     let mut members = [0; 16384];
@@ -94,7 +95,8 @@ fn answers(
 ) -> usize
     requires { ⌜ (length (now questions) ≡ 5 * m) × (at + 80 * m ≤ length (now out)) ⌝ }
     ensures { λ r. ⌜ Wrote (now (out .entry)) (now (out .exit)) at r
-        (answersOf (indexOf (now (mesh .entry)) h (now (starts .entry)) (now (members .entry)) (now (boxes .entry))) (now (questions .entry)) (now (marks .entry)) 0 0 m)
+        (answersOf (indexOf (now (mesh .entry)) h (now (starts .entry)) (now (members .entry)) (now (boxes .entry))) (now (questions .entry)) (now
+        (marks .entry)) 0 0 m)
         × (r ≤ at + 80 * m) ⌝ }
 {
     let mut stamp: u32 = 0;
@@ -129,5 +131,18 @@ fn asked(
     let qx = questions[k + 2];
     let qy = questions[k + 3];
     let r = questions[k + 4];
-    height::max_height(mesh, h, starts, members, boxes, marks, stamp, px, py, qx, qy, r)
+    height::max_height(
+        mesh,
+        h,
+        starts,
+        members,
+        boxes,
+        marks,
+        stamp,
+        px,
+        py,
+        qx,
+        qy,
+        r,
+    )
 }

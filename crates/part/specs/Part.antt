@@ -1,5 +1,6 @@
 -- Document 02, request 3: "What comes out is a mesh that the builder takes like any other, and demand 3 is read over it." From the bytes of an STL file to the
--- answer: the file is read, the index of its mesh is built (23 unless the lent box table is five numbers for each of its triangles), and the swept-disk height is asked.
+-- answer: the file is read, the index of its mesh is built, and the swept-disk height is asked. The builder says 23 unless the lent box table is five numbers
+-- for each triangle of the file.
 use mathlib.Core.Bool.{cond}
 use mathlib.Core.List.{List}
 use Prim.Native.Nat.{ℕ, _*_}

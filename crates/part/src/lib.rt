@@ -24,10 +24,12 @@ pub fn part_height(
     r: f64,
 ) -> Answer
     ensures { λ a. ⌜ left (now (mesh .exit)) (asked a (now (starts .exit)) (now (members .exit)) (now (boxes .exit)) (now (marks .exit)))
-        ≡ partHeightOf (now (bytes .entry)) (now (mesh .entry)) floor radius (now (starts .entry)) (now (members .entry)) (now (boxes .entry)) (now (marks .entry)) stamp
+        ≡ partHeightOf (now (bytes .entry)) (now (mesh .entry)) floor radius (now (starts .entry)) (now (members .entry)) (now (boxes .entry)) (now
+        (marks .entry)) stamp
         (sweep px py qx qy r) ⌝ }
     ensures { λ a. ⌜ (a .refusal ≡ 0
-        → MeetsDemand3 (meshOf (now (bytes .entry))) (now (starts .exit)) (now (members .exit)) (now (boxes .exit)) (now (marks .entry)) stamp (sweep px py qx qy r) a) ⌝ }
+        → MeetsDemand3 (meshOf (now (bytes .entry))) (now (starts .exit)) (now (members .exit)) (now (boxes .exit)) (now (marks .entry)) stamp
+        (sweep px py qx qy r) a) ⌝ }
 {
     let o = stl::read_stl(bytes, mesh);
     let refusal = o.refusal;
@@ -70,9 +72,11 @@ fn mesh_height(
     r: f64,
 ) -> Answer
     ensures { λ a. ⌜ asked a (now (starts .exit)) (now (members .exit)) (now (boxes .exit)) (now (marks .exit))
-        ≡ meshHeightOf (now (mesh .entry)) floor radius (now (starts .entry)) (now (members .entry)) (now (boxes .entry)) (now (marks .entry)) stamp (sweep px py qx qy r) ⌝ }
+        ≡ meshHeightOf (now (mesh .entry)) floor radius (now (starts .entry)) (now (members .entry)) (now (boxes .entry)) (now (marks .entry)) stamp
+        (sweep px py qx qy r) ⌝ }
     ensures { λ a. ⌜ (a .refusal ≡ 0
-        → MeetsDemand3 (now (mesh .entry)) (now (starts .exit)) (now (members .exit)) (now (boxes .exit)) (now (marks .entry)) stamp (sweep px py qx qy r) a) ⌝ }
+        → MeetsDemand3 (now (mesh .entry)) (now (starts .exit)) (now (members .exit)) (now (boxes .exit)) (now (marks .entry)) stamp
+        (sweep px py qx qy r) a) ⌝ }
 {
     let b = grid::build(mesh, floor, radius, starts, members, boxes);
     let refusal = b.refusal;
@@ -80,7 +84,20 @@ fn mesh_height(
     if refusal != 0 {
         return refused(refusal, stamp);
     }
-    height::max_height(mesh, h, starts, members, boxes, marks, stamp, px, py, qx, qy, r)
+    height::max_height(
+        mesh,
+        h,
+        starts,
+        members,
+        boxes,
+        marks,
+        stamp,
+        px,
+        py,
+        qx,
+        qy,
+        r,
+    )
 }
 
 // The answer to what reader or builder refuses.

@@ -50,13 +50,25 @@ pub fn plan(
         ≡ planOf (indexOf (now (mesh .entry)) h (now (starts .entry)) (now (members .entry)) (now (boxes .entry))) (now (marks .entry)) (now (levels .entry))
         (now (runs .entry)) p axis ⌝ }
     ensures { λ a. ⌜ NeverSeven (indexOf (now (mesh .entry)) h (now (starts .entry)) (now (members .entry)) (now (boxes .entry))) (a .refusal) ⌝ }
-    ensures { λ a. ⌜ (a .refusal ≡ 0 → NothingLost (indexOf (now (mesh .entry)) h (now (starts .entry)) (now (members .entry)) (now (boxes .entry))) p axis a) ⌝ }
+    ensures { λ a. ⌜ (a .refusal ≡ 0 → NothingLost (indexOf (now (mesh .entry)) h (now (starts .entry)) (now (members .entry)) (now
+        (boxes .entry))) p axis a) ⌝ }
 {
     let k = refusal(mesh, h, starts, members, boxes, marks, p);
     if k != 0 {
         return refused(k);
     }
-    work(mesh, h, starts, members, boxes, marks, levels, runs, p, axis)
+    work(
+        mesh,
+        h,
+        starts,
+        members,
+        boxes,
+        marks,
+        levels,
+        runs,
+        p,
+        axis,
+    )
 }
 
 // Refusals 1, 23, 9 and 7, or 0.
@@ -69,7 +81,8 @@ fn refusal(
     marks: &[u32],
     p: Parameters,
 ) -> u32
-    ensures { λ k. ⌜ k ≡ refusalOfInput (indexOf (now (mesh .entry)) h (now (starts .entry)) (now (members .entry)) (now (boxes .entry))) (now (marks .entry)) p ⌝ }
+    ensures { λ k. ⌜ k ≡ refusalOfInput (indexOf (now (mesh .entry)) h (now (starts .entry)) (now (members .entry)) (now (boxes .entry))) (now
+        (marks .entry)) p ⌝ }
 {
     if !query::is_marked(mesh, marks) {
         return 1;
@@ -158,7 +171,8 @@ fn finish(
         × (count ≤ 65536) × (anyOf (tooFine p axis (h .r)) (levelsIn (now levels) 0 count) ≡ false) ⌝ }
     ensures { λ a. ⌜ (settled a (now (levels .exit)) (now (runs .exit))
         ≡ finishedOf (now (levels .entry)) (now (runs .entry)) count
-        (foundOn (indexOf (now (mesh .entry)) h (now (starts .entry)) (now (members .entry)) (now (boxes .entry))) p axis (levelsIn (now (levels .entry)) 0 count)))
+        (foundOn (indexOf (now (mesh .entry)) h (now (starts .entry)) (now (members .entry)) (now (boxes .entry))) p axis (levelsIn (now
+        (levels .entry)) 0 count)))
         × (now (marks .exit) ≡ replicate (h .n) 0) ⌝ }
 {
     let y = lanes::search_levels(
@@ -202,7 +216,15 @@ fn survey(
         (levelsOf (now (mesh .entry)) (now (boxes .entry)) (length (now (marks .entry))) (p .tolerance) (p .«level_tolerance») floor) p axis r
         (now (levels .entry)) (now (marks .entry)) (now (levels .exit)) (now (marks .exit)) s ⌝ }
 {
-    let count = levels::find_levels(mesh, boxes, marks, p.tolerance, p.level_tolerance, floor, levels);
+    let count = levels::find_levels(
+        mesh,
+        boxes,
+        marks,
+        p.tolerance,
+        p.level_tolerance,
+        floor,
+        levels,
+    );
     walk::wipe(marks);
     let refusal = terms::refusal_of_levels(levels, count, p, axis, r);
     Surveyed { count, refusal }

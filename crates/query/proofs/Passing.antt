@@ -60,8 +60,13 @@ module _ (ix : Index) (d : SoundIndex ix) where
   box-good i l =
       let g : (k : ℕ) → k < 9 → isCoordinate (num (ix .mesh) (9 * i + k)) ≡ true = λ k h. d .numbers (9 * i + k) (omega (arith, d .nine)) in
       let z : isCoordinate (num (ix .mesh) (9 * i)) ≡ true = d .numbers (9 * i) (omega (arith, d .nine)) in
-      rw (low _ _ _ z (g 3 (lit< tt)) (g 6 (lit< tt)), low _ _ _ (g 1 (lit< tt)) (g 4 (lit< tt)) (g 7 (lit< tt)),
-        high _ _ _ z (g 3 (lit< tt)) (g 6 (lit< tt)), high _ _ _ (g 1 (lit< tt)) (g 4 (lit< tt)) (g 7 (lit< tt)), high _ _ _ (g 2 (lit< tt)) (g 5 (lit< tt)) (g 8 (lit< tt)))
+      rw (
+        low _ _ _ z (g 3 (lit< tt)) (g 6 (lit< tt)),
+        low _ _ _ (g 1 (lit< tt)) (g 4 (lit< tt)) (g 7 (lit< tt)),
+        high _ _ _ z (g 3 (lit< tt)) (g 6 (lit< tt)),
+        high _ _ _ (g 1 (lit< tt)) (g 4 (lit< tt)) (g 7 (lit< tt)),
+        high _ _ _ (g 2 (lit< tt)) (g 5 (lit< tt)) (g 8 (lit< tt)),
+      )
 
   pub sound-triangle : (i : ℕ) → i < ix .header .n → triangleUsable (ix .mesh) (ix .boxes) i ≡ true
   unfolding triangleUsable cornersUsable

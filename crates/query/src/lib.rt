@@ -106,7 +106,8 @@ pub fn usable(
     requires { ⌜ (length (now mesh) ≡ length (now marks) * 9) × (p .x1 ≤ h .columns) × (p .y1 ≤ h .rows) × (length (now boxes) ≡ length (now marks) * 5) ⌝ }
     ensures { λ r. ⌜ r
         ≡ usable (indexOf (now (mesh .entry)) h (now (starts .entry)) (now (members .entry)) (now (boxes .entry))) (now (marks .entry)) stamp p ⌝ }
-    ensures { λ r. ⌜ UsablePromise (indexOf (now (mesh .entry)) h (now (starts .entry)) (now (members .entry)) (now (boxes .entry))) (now (marks .entry)) stamp p r ⌝ }
+    ensures { λ r. ⌜ UsablePromise (indexOf (now (mesh .entry)) h (now (starts .entry)) (now (members .entry)) (now (boxes .entry))) (now
+        (marks .entry)) stamp p r ⌝ }
 {
     let n = h.n;
     let columns = h.columns;
@@ -199,14 +200,7 @@ fn each_usable(mesh: &[f64], i: usize) -> bool
 }
 
 // Whether member i of a question's cells can be looked at.
-fn member_usable(
-    mesh: &[f64],
-    boxes: &[f64],
-    n: usize,
-    marks: &[u32],
-    stamp: u32,
-    i: usize,
-) -> bool
+fn member_usable(mesh: &[f64], boxes: &[f64], n: usize, marks: &[u32], stamp: u32, i: usize) -> bool
     requires { ⌜ (length (now mesh) ≡ n * 9) × (length (now marks) ≡ n) × (length (now boxes) ≡ n * 5) ⌝ }
     ensures { λ r. ⌜ r ≡ memberUsable (now (mesh .entry)) (now (boxes .entry)) n (now (marks .entry)) stamp i ⌝ }
 {
@@ -285,10 +279,20 @@ fn row_usable(
 ) -> bool
     requires { ⌜ (length (now mesh) ≡ n * 9) × (length (now marks) ≡ n) × (y * columns + x1 < length (now starts)) × (length (now boxes) ≡ n * 5) ⌝ }
     ensures { λ r. ⌜ r
-        ≡ rowUsable (memberUsable (now (mesh .entry)) (now (boxes .entry)) n (now (marks .entry)) stamp) (now (starts .entry)) (now (members .entry)) columns x0 x1 y ⌝ }
+        ≡ rowUsable (memberUsable (now (mesh .entry)) (now (boxes .entry)) n (now (marks .entry)) stamp) (now (starts .entry)) (now
+        (members .entry)) columns x0 x1 y ⌝ }
 {
     for x in x0..x1 {
-        if !cell_usable(mesh, n, starts, members, boxes, marks, stamp, y * columns + x) {
+        if !cell_usable(
+            mesh,
+            n,
+            starts,
+            members,
+            boxes,
+            marks,
+            stamp,
+            y * columns + x,
+        ) {
             return false;
         }
     }
@@ -310,14 +314,27 @@ fn cells_usable(
     requires { ⌜ (length (now mesh) ≡ n * 9) × (length (now marks) ≡ n) × (p .x1 ≤ columns) × (p .y1 * columns < length (now starts))
         × (length (now boxes) ≡ n * 5) ⌝ }
     ensures { λ r. ⌜ r
-        ≡ cellsUsable (memberUsable (now (mesh .entry)) (now (boxes .entry)) n (now (marks .entry)) stamp) (now (starts .entry)) (now (members .entry)) columns p ⌝ }
+        ≡ cellsUsable (memberUsable (now (mesh .entry)) (now (boxes .entry)) n (now (marks .entry)) stamp) (now (starts .entry)) (now
+        (members .entry)) columns p ⌝ }
 {
     let x0 = p.x0;
     let x1 = p.x1;
     let y0 = p.y0;
     let y1 = p.y1;
     for y in y0..y1 {
-        if !row_usable(mesh, n, starts, members, boxes, marks, stamp, columns, x0, x1, y) {
+        if !row_usable(
+            mesh,
+            n,
+            starts,
+            members,
+            boxes,
+            marks,
+            stamp,
+            columns,
+            x0,
+            x1,
+            y,
+        ) {
             return false;
         }
     }

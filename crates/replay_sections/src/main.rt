@@ -135,6 +135,7 @@ fn of_heights(
     h: Header,
     starts: &[u32],
     members: &[u32],
+    boxes: &[f64],
     marks: &mut [u32],
     stamp: u32,
     px: f64,
@@ -144,7 +145,18 @@ fn of_heights(
 ) -> Answer
     requires { ⌜ n ≤ 33 ⌝ }
 {
-    sections::max_sections(mesh, h, starts, members, marks, stamp, px, py, &t[..n])
+    sections::max_sections(
+        mesh,
+        h,
+        starts,
+        members,
+        boxes,
+        marks,
+        stamp,
+        px,
+        py,
+        &t[..n],
+    )
 }
 
 // Whether it is clear on a chord.
@@ -153,6 +165,7 @@ fn of_chords(
     h: Header,
     starts: &[u32],
     members: &[u32],
+    boxes: &[f64],
     marks: &mut [u32],
     stamp: u32,
     m: Chord,
@@ -161,7 +174,7 @@ fn of_chords(
 ) -> Ruling
     requires { ⌜ n ≤ 33 ⌝ }
 {
-    sections::sections_chord_clear(mesh, h, starts, members, marks, stamp, m, &t[..n])
+    sections::sections_chord_clear(mesh, h, starts, members, boxes, marks, stamp, m, &t[..n])
 }
 
 // The flat table of a tool.
@@ -183,6 +196,7 @@ fn by_slice(
     h: Header,
     starts: &[u32],
     members: &[u32],
+    boxes: &[f64],
     marks: &mut [u32; 6],
     q: Question,
 ) -> Told
@@ -190,8 +204,31 @@ fn by_slice(
 {
     let m = q.m;
     let t = tool_of(q.tool);
-    let height = of_heights(mesh, h, starts, members, marks, 0, m.ax, m.ay, t, q.n);
-    let ruling = of_chords(mesh, h, starts, members, marks, height.stamp, m, t, q.n);
+    let height = of_heights(
+        mesh,
+        h,
+        starts,
+        members,
+        boxes,
+        marks,
+        0,
+        m.ax,
+        m.ay,
+        t,
+        q.n,
+    );
+    let ruling = of_chords(
+        mesh,
+        h,
+        starts,
+        members,
+        boxes,
+        marks,
+        height.stamp,
+        m,
+        t,
+        q.n,
+    );
     Told {
         height,
         ruling,
@@ -205,6 +242,7 @@ fn by_table(
     h: Header,
     starts: &[u32],
     members: &[u32],
+    boxes: &[f64],
     marks: &mut [u32; 6],
     q: Question,
 ) -> Told
@@ -218,6 +256,7 @@ fn by_table(
         h,
         starts,
         members,
+        boxes,
         marks,
         0,
         m.ax,
@@ -229,6 +268,7 @@ fn by_table(
         h,
         starts,
         members,
+        boxes,
         marks,
         height.stamp,
         m,
@@ -269,8 +309,9 @@ fn indexed(mesh: &[f64; 54], q: Question, slice: bool) -> Told
 {
     let mut starts = [0u32; 64];
     let mut members = [0u32; 512];
-    let b = grid::build(mesh, -10.0, 1.0, &mut starts, &mut members);
-    over(mesh, b.header, &starts, &members, q, slice)
+    let mut boxes = [0.0; 30];
+    let b = grid::build(mesh, -10.0, 1.0, &mut starts, &mut members, &mut boxes);
+    over(mesh, b.header, &starts, &members, &boxes, q, slice)
 }
 
 // The question over its tables.
@@ -279,6 +320,7 @@ fn over(
     h: Header,
     starts: &[u32; 64],
     members: &[u32; 512],
+    boxes: &[f64; 30],
     q: Question,
     slice: bool,
 ) -> Told
@@ -286,9 +328,9 @@ fn over(
 {
     let mut marks = [0u32; 6];
     if slice {
-        return by_slice(mesh, h, starts, members, &mut marks, q);
+        return by_slice(mesh, h, starts, members, boxes, &mut marks, q);
     }
-    by_table(mesh, h, starts, members, &mut marks, q)
+    by_table(mesh, h, starts, members, boxes, &mut marks, q)
 }
 
 // 1 where one of the numbers is another.

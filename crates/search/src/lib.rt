@@ -53,7 +53,8 @@ fn end_stretch(
     k: usize,
     s: Stand,
 ) -> Stand
-    requires { ⌜ Askable (indexOf (now mesh) h (now starts) (now members) (now boxes)) × Marked (h .n) (s .stamp) (now marks) × (k ≤ j) × (j ≤ l .samples + 1) ⌝ }
+    requires { ⌜ Askable (indexOf (now mesh) h (now starts) (now members) (now boxes)) × Marked (h .n) (s .stamp) (now marks) × (k ≤ j) ×
+        (j ≤ l .samples + 1) ⌝ }
     ensures { λ e. ⌜ (work (now (runs .exit)) (e .tally)
         ≡ rowTaken (heightUnder (indexOf (now (mesh .entry)) h (now (starts .entry)) (now (members .entry)) (now (boxes .entry)))) a l n
         (work (now (runs .entry)) (s .tally)) (map (numbered forward (l .samples)) (endedAt k j))) × Marked (h .n) (e .stamp) (now (marks .exit)) ⌝ }

@@ -12,6 +12,7 @@ use Rattle.walk.specs.declared.Best.{Best}
 use lib.ListN.{length, take}
 use lib.Seq.{take-length}
 use Rattle.numbers.proofs.Branches.{left}
+use Rattle.grid.specs.Boxes.{isBoxed}
 use Rattle.grid.specs.Index.{Index}
 use Rattle.grid.specs.Ladder.{demand}
 use Rattle.cells.specs.Cover.{isFrom}
@@ -56,16 +57,17 @@ unfolding isTool isFrom
 none = refl
 
 -- a question of no tool is refused, whatever its cells are
-no-rung : (mesh numbers index : Bool) → eqb (demand mesh 1 (demand numbers 2 (demand false 8 (demand index 7 0)))) 0 ≡ false
+no-rung : (mesh boxes numbers index : Bool) → eqb (demand mesh 1 (demand boxes 23 (demand numbers 2 (demand false 8 (demand index 7 0))))) 0 ≡ false
 unfolding demand
-no-rung true true index = refl
-no-rung true false index = refl
-no-rung false numbers index = refl
+no-rung true true true index = refl
+no-rung true true false index = refl
+no-rung true false numbers index = refl
+no-rung false boxes numbers index = refl
 
 module _ (ix : Index) (marks : List ℕ) (stamp : ℕ) (numbers : Bool) (p q : Patch) where
   refused : eqb (refusalOf numbers false ix marks stamp p) 0 ≡ false
   unfolding refusalOf
-  refused = no-rung (isMarked (ix .mesh) marks) numbers (usable ix marks stamp p)
+  refused = no-rung (isMarked (ix .mesh) marks) (isBoxed (ix .mesh) (ix .boxes)) numbers (usable ix marks stamp p)
 
   heights-alike : (f g : Best → ℕ → Best) → askedHeight numbers false f ix marks stamp p ≡ askedHeight numbers false g ix marks stamp q
   unfolding askedHeight answerOf refusalOf demand

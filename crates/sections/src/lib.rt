@@ -21,6 +21,7 @@ pub fn max_sections(
     h: Header,
     starts: &[u32],
     members: &[u32],
+    boxes: &[f64],
     marks: &mut [u32],
     stamp: u32,
     px: f64,
@@ -28,13 +29,13 @@ pub fn max_sections(
     sections: &[Section],
 ) -> Answer
     ensures { λ a. ⌜ ended a (now (marks .exit))
-        ≡ maxSectionsOf (indexOf (now (mesh .entry)) h (now (starts .entry)) (now (members .entry)))
+        ≡ maxSectionsOf (indexOf (now (mesh .entry)) h (now (starts .entry)) (now (members .entry)) (now (boxes .entry)))
         (now (marks .entry)) stamp px py (flatOf (now (sections .entry))) ⌝ }
-    ensures { λ a. ⌜ SectionsPromise (indexOf (now (mesh .entry)) h (now (starts .entry)) (now (members .entry)))
+    ensures { λ a. ⌜ SectionsPromise (indexOf (now (mesh .entry)) h (now (starts .entry)) (now (members .entry)) (now (boxes .entry)))
         (now (marks .entry)) stamp px py (flatOf (now (sections .entry))) a ⌝ }
 {
     let t = flatten::flat(sections);
-    max_over(mesh, h, starts, members, marks, stamp, px, py, t)
+    max_over(mesh, h, starts, members, boxes, marks, stamp, px, py, t)
 }
 
 // Whether a tool of the sections is clear from the tip a to the tip b, or why the question is refused.
@@ -43,19 +44,20 @@ pub fn sections_chord_clear(
     h: Header,
     starts: &[u32],
     members: &[u32],
+    boxes: &[f64],
     marks: &mut [u32],
     stamp: u32,
     m: Chord,
     sections: &[Section],
 ) -> Ruling
     ensures { λ a. ⌜ ended a (now (marks .exit))
-        ≡ sectionsChordOf (indexOf (now (mesh .entry)) h (now (starts .entry)) (now (members .entry)))
+        ≡ sectionsChordOf (indexOf (now (mesh .entry)) h (now (starts .entry)) (now (members .entry)) (now (boxes .entry)))
         (now (marks .entry)) stamp m (flatOf (now (sections .entry))) ⌝ }
-    ensures { λ a. ⌜ SectionsChordPromise (indexOf (now (mesh .entry)) h (now (starts .entry)) (now (members .entry)))
+    ensures { λ a. ⌜ SectionsChordPromise (indexOf (now (mesh .entry)) h (now (starts .entry)) (now (members .entry)) (now (boxes .entry)))
         (now (marks .entry)) stamp m (flatOf (now (sections .entry))) a ⌝ }
 {
     let t = flatten::flat(sections);
-    chord_over(mesh, h, starts, members, marks, stamp, m, t)
+    chord_over(mesh, h, starts, members, boxes, marks, stamp, m, t)
 }
 
 // The highest tip of a tool of the sections whose numbers a table holds.
@@ -64,6 +66,7 @@ fn max_over(
     h: Header,
     starts: &[u32],
     members: &[u32],
+    boxes: &[f64],
     marks: &mut [u32],
     stamp: u32,
     px: f64,
@@ -72,7 +75,7 @@ fn max_over(
 ) -> Answer
     requires { ⌜ t .count ≤ length (t .numbers) ⌝ }
     ensures { λ a. ⌜ ended a (now (marks .exit))
-        ≡ maxSectionsOf (indexOf (now (mesh .entry)) h (now (starts .entry)) (now (members .entry)))
+        ≡ maxSectionsOf (indexOf (now (mesh .entry)) h (now (starts .entry)) (now (members .entry)) (now (boxes .entry)))
         (now (marks .entry)) stamp px py (heldIn t) ⌝ }
 {
     let numbers = t.numbers;
@@ -82,6 +85,7 @@ fn max_over(
         h,
         starts,
         members,
+        boxes,
         marks,
         stamp,
         px,
@@ -96,6 +100,7 @@ fn chord_over(
     h: Header,
     starts: &[u32],
     members: &[u32],
+    boxes: &[f64],
     marks: &mut [u32],
     stamp: u32,
     m: Chord,
@@ -103,10 +108,20 @@ fn chord_over(
 ) -> Ruling
     requires { ⌜ t .count ≤ length (t .numbers) ⌝ }
     ensures { λ a. ⌜ ended a (now (marks .exit))
-        ≡ sectionsChordOf (indexOf (now (mesh .entry)) h (now (starts .entry)) (now (members .entry)))
+        ≡ sectionsChordOf (indexOf (now (mesh .entry)) h (now (starts .entry)) (now (members .entry)) (now (boxes .entry)))
         (now (marks .entry)) stamp m (heldIn t) ⌝ }
 {
     let numbers = t.numbers;
     let n = t.count;
-    chords::sections_chord_clear(mesh, h, starts, members, marks, stamp, m, &numbers[..n])
+    chords::sections_chord_clear(
+        mesh,
+        h,
+        starts,
+        members,
+        boxes,
+        marks,
+        stamp,
+        m,
+        &numbers[..n],
+    )
 }

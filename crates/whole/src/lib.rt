@@ -8,13 +8,7 @@ ghost use Rattle.query.specs.Usable.{every, each, triangleUsable, cellUsable, u
 use grid::Header;
 
 // Whether header and tables can be used for any question over the mesh.
-pub fn usable_whole(
-    mesh: &[f64],
-    h: Header,
-    starts: &[u32],
-    members: &[u32],
-    boxes: &[f64],
-) -> bool
+pub fn usable_whole(mesh: &[f64], h: Header, starts: &[u32], members: &[u32], boxes: &[f64]) -> bool
     requires { ⌜ length (now boxes) ≡ length (now mesh) / 9 * 5 ⌝ }
     ensures { λ r. ⌜ r ≡ usableWhole (indexOf (now (mesh .entry)) h (now (starts .entry)) (now (members .entry)) (now (boxes .entry))) ⌝ }
 {

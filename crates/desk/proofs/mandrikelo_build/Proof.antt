@@ -8,29 +8,29 @@ use Rattle.desk.proofs.mandrikelo_build.Tie as tie
 
 returns : tie.Need-returns
 returns c =
-    let b = c .before .before .before .before .before .before .before .before .build in
+    let b = c .before .before .before .before .before .before .before .before .before .before .build in
     let some = c .before .before .if1 .taken in
     (refused-left (outcome (b .result) (b .last .1 .1 .1 .0) (b .last .1 .1 .1 .1 .0) (b .last .1 .1 .1 .1 .1 .0)) some ∙ ap builtLeftBy (b .ensures .0), record { sound = λ none. absurd (some none); built = λ none. absurd (some none) })
 
-cast-t19 : tie.Need-cast-t19
-cast-t19 c =
-    let b = c .before .before .before .before .before .before .before .before .before .build in
+cast-t22 : tie.Need-cast-t22
+cast-t22 c =
+    let b = c .before .before .before .before .before .before .before .before .before .before .before .build in
     record { fits = narrow (b .result .header) (b .ensures .1 .sound (c .before .before .before .if1 .left) .ranges) .n }
 
-cast-t20 : tie.Need-cast-t20
-cast-t20 c =
-    let b = c .before .before .before .before .before .before .before .before .before .before .build in
+cast-t23 : tie.Need-cast-t23
+cast-t23 c =
+    let b = c .before .before .before .before .before .before .before .before .before .before .before .before .build in
     record { fits = narrow (b .result .header) (b .ensures .1 .sound (c .before .before .before .before .if1 .left) .ranges) .columns }
 
-cast-t21 : tie.Need-cast-t21
-cast-t21 c =
-    let b = c .before .before .before .before .before .before .before .before .before .before .before .build in
+cast-t24 : tie.Need-cast-t24
+cast-t24 c =
+    let b = c .before .before .before .before .before .before .before .before .before .before .before .before .before .build in
     record { fits = narrow (b .result .header) (b .ensures .1 .sound (c .before .before .before .before .before .if1 .left) .ranges) .rows }
 
 returns-2 : tie.Need-returns-2
 unfolding headerFrom
 returns-2 c =
-    let b = c .before .before .before .before .before .before .before .before .before .before .before .before .build in
+    let b = c .before .before .before .before .before .before .before .before .before .before .before .before .before .before .build in
     let zero = c .before .before .before .before .before .before .if1 .left in
     (accepted-left (outcome (b .result) (b .last .1 .1 .1 .0) (b .last .1 .1 .1 .1 .0) (b .last .1 .1 .1 .1 .1 .0)) zero ∙ ap builtLeftBy (b .ensures .0), b .ensures .1)
 
@@ -43,9 +43,9 @@ mandrikelo-build-spec =
     (λ c. search needs)
     (λ c. search needs)
     returns
-    cast-t19
-    cast-t20
-    cast-t21
+    cast-t22
+    cast-t23
+    cast-t24
     (λ c. search needs)
     (λ c. search needs)
     (λ c. search needs)

@@ -9,7 +9,7 @@ use Rattle.desk.proofs.mandrikelo_max_bull.Tie as tie
 returns : tie.Need-returns
 returns c =
     let b = c .before .before .before .before .before .before .before in
-    let a = b .before .before .before .before .before .args in
+    let a = b .before .before .before .before .before .before .args in
     let q = c .before .before .before .before .before .max-bull in
     height-told (b .header-from .result) (headerFrom (a .measures .now) (a .sizes .now)) (b .header-from .ensures)
     (λ h. maxBullOf (indexOf (a .mesh .now) h (a .starts .now) (a .members .now) (a .boxes .now)) (a .marks .now) (a .stamp) (record { x = a .px; y = a .py; r = a .r; rc = a .rc }))

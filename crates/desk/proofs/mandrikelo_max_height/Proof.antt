@@ -11,7 +11,7 @@ use Rattle.desk.proofs.mandrikelo_max_height.Tie as tie
 returns : tie.Need-returns
 returns c =
     let b = c .before .before .before .before .before .before .before in
-    let a = b .before .before .before .before .before .args in
+    let a = b .before .before .before .before .before .before .args in
     let q = c .before .before .before .before .before .max-height in
     height-told (b .header-from .result) (headerFrom (a .measures .now) (a .sizes .now)) (b .header-from .ensures)
     (λ h. maxHeightOf (indexOf (a .mesh .now) h (a .starts .now) (a .members .now) (a .boxes .now)) (a .marks .now) (a .stamp) (sweep (a .px) (a .py) (a .qx) (a .qy) (a .r)))

@@ -17,7 +17,7 @@ returns c =
     let d = n .before .before .before .before .before .before .before .before .before in
     let q = d .plan-along in
     let b = d .before .before .before .before in
-    let a = b .before .before .before .before .before .before .before .before .args in
+    let a = b .before .before .before .before .before .before .before .before .before .args in
     let along : Header → Parameters → _ = λ h p. planAlong (indexOf (a .mesh .now) h (a .starts .now) (a .members .now) (a .boxes .now)) (a .marks .now) (a .levels .now) (a .runs .now) p (a .axis) in
     let e = q .ensures .0
     ∙ ap (λ (h : Header). along h (b .parameters-from .result)) (b .before .header-from .ensures)

@@ -10,7 +10,7 @@ use Rattle.desk.proofs.mandrikelo_sections_chord_clear.Tie as tie
 returns : tie.Need-returns
 returns c =
     let b = c .before .before .before .before .before .before in
-    let a = b .before .before .before .before .before .before .args in
+    let a = b .before .before .before .before .before .before .before .args in
     let q = c .before .before .before .before .sections-chord-clear in
     let m : Chord = record { ax = a .ax; ay = a .ay; az = a .az; bx = a .bx; by = a .by; bz = a .bz; lift = a .lift } in
     verdict-told (b .header-from .result) (headerFrom (a .measures .now) (a .sizes .now)) (b .header-from .ensures)

@@ -7,10 +7,10 @@ use Rattle.sections.proofs.chord_over.Statement.{statement}
 use Rattle.sections.proofs.chord_over.Tie as tie
 
 array-share-prefix-numbers : tie.Need-array-share-prefix-numbers
-array-share-prefix-numbers c = c .before .before .before .before .before .before .pre
+array-share-prefix-numbers c = c .before .before .before .before .before .before .before .pre
 
 slice-aggregate-sections-chord-clear : tie.Need-slice-aggregate-sections-chord-clear
-slice-aggregate-sections-chord-clear c = simp length-take (omega (arith, c .before .before .before .before .before .before .before .pre))
+slice-aggregate-sections-chord-clear c = simp length-take (omega (arith, c .before .before .before .before .before .before .before .before .pre))
 
 returns : tie.Need-returns
 unfolding heldIn

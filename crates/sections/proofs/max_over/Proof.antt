@@ -7,10 +7,10 @@ use Rattle.sections.proofs.max_over.Statement.{statement}
 use Rattle.sections.proofs.max_over.Tie as tie
 
 array-share-prefix-numbers : tie.Need-array-share-prefix-numbers
-array-share-prefix-numbers c = c .before .before .before .before .before .before .pre
+array-share-prefix-numbers c = c .before .before .before .before .before .before .before .pre
 
 slice-aggregate-max-sections : tie.Need-slice-aggregate-max-sections
-slice-aggregate-max-sections c = simp length-take (omega (arith, c .before .before .before .before .before .before .before .pre))
+slice-aggregate-max-sections c = simp length-take (omega (arith, c .before .before .before .before .before .before .before .before .pre))
 
 returns : tie.Need-returns
 unfolding heldIn
