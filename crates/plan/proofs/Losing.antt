@@ -181,7 +181,7 @@ module _ (ix : Index) (e : usableWhole ix ≡ true) (boxed : isBoxed (ix .mesh) 
     pieces-safe : anyOf (tooFine p axis (ix .header .r)) (levelsUnder ix p) ≡ false → EachKept (Safe ix (p .tolerance)) (piecesOn ix p axis)
     pieces-safe coarse =
         let ps = halvesOfAll under p (ix .header .r) (stretchesOn ix p axis) in
-        let both = each-both Clear Pointed ps (each-clear (stretchesOn ix p axis)) (pieces-pointed ix p axis (head .nine) (tables .0) radius-fits coarse) in
+        let both = each-both Clear Pointed ps (each-clear (stretchesOn ix p axis)) (pieces-pointed ix p axis (tables .0) radius-fits coarse) in
         subst (EachKept (Safe ix (p .tolerance))) (sym pieces-are) (each-more (λ q. Clear q × Pointed q) (Safe ix (p .tolerance)) clear-safe ps both)
 
     pub nothing-lost : (a : Planned) → anyOf (tooFine p axis (ix .header .r)) (levelsUnder ix p) ≡ false

@@ -1,23 +1,24 @@
 -- Over an index that 7 lets pass, with levels that 12 lets pass, the ends of every kept piece are points that a question takes.
-use mathlib.Core.Bool.{true, false}
+use mathlib.Core.Bool.{true, false, _&&_}
 use mathlib.Core.List.{List}
 use mathlib.Core.Path.{_≡_, refl}
-use Prim.Native.Nat.{ℕ, _*_, _/_}
+use Prim.Native.Nat.{ℕ, _<_}
 use native.Mathlib.Omega.{arith}
 use lib.Ieee.{Float, ofBits}
 use lib.Ieee.Exact.{HasValue}
-use lib.ListN.{length}
-use Rattle.numbers.specs.Reals.{num, threeMillion}
+use Rattle.numbers.specs.Reals.{threeMillion}
+use Rattle.numbers.proofs.Branches.{both-true}
+use Rattle.plane.specs.declared.Bounds.{Bounds}
 use Rattle.spans.specs.Mesh.{isCoordinate, isRadius}
-use Rattle.spans.specs.Inside.{AllGood}
 use Rattle.bound.proofs.Whole.{Bounded, bounded-size}
+use Rattle.grid.specs.Boxes.{boxAt}
 use Rattle.grid.specs.Index.{Index}
 use Rattle.query.specs.Asked.{isPoint}
-use Rattle.query.specs.Usable.{every, triangleUsable}
+use Rattle.query.specs.Usable.{every, cornersUsable, areCoordinates, boxUsable, triangleUsable}
 use Rattle.query.proofs.Using.{every-at}
 use Rattle.height.specs.Height.{arePoints}
 use Rattle.fives.specs.Groups.{Each}
-use Rattle.levels.proofs.Boxes.{Boxed, levels-boxed}
+use Rattle.levels.proofs.Boxes.{Sided, Boxed, levels-boxed}
 use Rattle.runs.specs.declared.Run.{Run}
 use Rattle.runs.specs.Chains.{EachKept}
 use Rattle.runs.proofs.Chaining.{each-more}
@@ -31,12 +32,21 @@ use Rattle.search.proofs.Reaching.{levels-reached, pieces-reached}
 use Rattle.plan.specs.Plan.{levelsUnder}
 use Rattle.plan.specs.Lost.{stretchesOn}
 
--- every number of a mesh whose triangles pass
-mesh-good : (mesh : List Float) (n : ℕ) → length mesh ≡ n * 9 → every (triangleUsable mesh) 0 n ≡ true → AllGood mesh
+-- the box of a triangle that passes
+box-sided : (b : Bounds) → boxUsable b ≡ true → Sided b
+unfolding boxUsable areCoordinates
+box-sided b e =
+    let four = both-true (areCoordinates (b .«low_x») (b .«low_y») (b .«high_x») (b .«high_y»)) (isCoordinate (b .top)) e .0 in
+    let x = both-true (isCoordinate (b .«low_x»)) (isCoordinate (b .«low_y») && (isCoordinate (b .«high_x») && isCoordinate (b .«high_y»))) four in
+    let y = both-true (isCoordinate (b .«low_y»)) (isCoordinate (b .«high_x») && isCoordinate (b .«high_y»)) (x .1) in
+    let z = both-true (isCoordinate (b .«high_x»)) (isCoordinate (b .«high_y»)) (y .1) in
+    record { x = (x .0, z .0); y = (y .0, z .1) }
+
+boxes-sided : (mesh boxes : List Float) (n : ℕ) → every (triangleUsable mesh boxes) 0 n ≡ true → (i : ℕ) → i < n → Sided (boxAt boxes i)
 unfolding triangleUsable
-mesh-good mesh n nine e k h =
-    let i = k / 9 in
-    every-at (λ j. isCoordinate (num mesh j)) (9 * i) 9 k (every-at (triangleUsable mesh) 0 n i e (omega arith) (omega arith)) (omega arith) (omega arith)
+boxes-sided mesh boxes n e i h =
+    box-sided (boxAt boxes i)
+    (both-true (cornersUsable mesh i) (boxUsable (boxAt boxes i)) (every-at (triangleUsable mesh boxes) 0 n i e (omega arith) (omega arith)) .1)
 
 point : (x : Float) → Bounded 3000000 x → isPoint x ≡ true
 unfolding isPoint
@@ -50,14 +60,14 @@ unfolding arePoints
 pointed q h = rw (point (q .ax) (h .ax), point (q .ay) (h .ay), point (q .bx) (h .bx), point (q .by) (h .by))
 
 module _ (ix : Index) (p : Parameters) (axis : Axis) where
-  pub pieces-pointed : length (ix .mesh) ≡ ix .header .n * 9 → every (triangleUsable (ix .mesh)) 0 (ix .header .n) ≡ true
+  pub pieces-pointed : every (triangleUsable (ix .mesh) (ix .boxes)) 0 (ix .header .n) ≡ true
       → isRadius (ix .header .r) ≡ true → anyOf (tooFine p axis (ix .header .r)) (levelsUnder ix p) ≡ false
       → EachKept Pointed (halvesOfAll (heightUnder ix) p (ix .header .r) (stretchesOn ix p axis))
   unfolding stretchesOn Each
-  pieces-pointed nine pass radius coarse =
-      let good = mesh-good (ix .mesh) (ix .header .n) nine pass in
+  pieces-pointed pass radius coarse =
       let boxed : Each Boxed (levelsUnder ix p) = unfold levelsUnder in
-      levels-boxed (ix .mesh) good (p .«level_tolerance») (ix .header .n) (p .tolerance) (ix .header .floor) (omega arith) in
+      levels-boxed (ix .mesh) (ix .boxes) (p .«level_tolerance») (ix .header .n) (p .tolerance) (ix .header .floor)
+      (boxes-sided (ix .mesh) (ix .boxes) (ix .header .n) pass) in
       each-more Reached Pointed pointed _
       (pieces-reached (heightUnder ix) p (ix .header .r) _
       (levels-reached (heightUnder ix) p axis (ix .header .r) radius (levelsUnder ix p) _ boxed coarse tt))

@@ -4,23 +4,21 @@ use mathlib.Core.Bool.{Bool, true, false}
 use mathlib.Core.List.{List, [], _∷_, map, reverse, reverse-cons}
 use mathlib.Core.Path.{_≡_, sym, subst}
 use Prim.Native.Nat.{ℕ, _+_, _*_, _/_, _≤_, _<_}
-use native.Mathlib.Nat.{add-mul, one-mul, mul-comm, mul-le-mul, lt-div-mul-add, div-mul-le-self, div-le-self}
+use native.Mathlib.Nat.{add-mul, one-mul, mul-le-mul, lt-div-mul-add, div-mul-le-self, div-le-self}
 use native.Mathlib.Omega.{arith}
 use borrow.Author.Tests.{ltb-true}
-use lib.Dec.{T, ltb}
+use lib.Dec.{ltb}
 use lib.IntN.{pos}
-use lib.Ieee.{Float, nan, inf, fin, binary64, neg, lt, le, isNan, toUnsigned, ofBits}
+use lib.Ieee.{Float, nan, inf, fin, lt, isNan, toUnsigned, ofBits}
 use lib.ListN.{length}
 use Rattle.numbers.specs.Reals.{_⊕_, _⊖_, _⊗_, _⊘_, f1, maxOf}
 use Rattle.numbers.specs.Rounding.{roundUpOf}
 use Rattle.numbers.proofs.Branches.{either, by-test, no}
 use Rattle.spans.specs.Mesh.{isRadius}
-use Rattle.spans.proofs.Ranges.{sub-mono, cut-up}
+use Rattle.spans.proofs.Ranges.{cut-up}
 use Rattle.spans.proofs.Sizes.{f1-is, not-below}
-use Rattle.bound.proofs.Order.{O, le-trans, neg-finite, neg-turns, sub-turns, add-is}
-use Rattle.bound.proofs.Small.{small-radius}
-use Rattle.bound.proofs.Whole.{Bounded, UpTo, whole-upTo, bounded-more, upTo-more, bounded-add, bounded-sub, upTo-mul, upTo-div}
-use Rattle.bound.proofs.Whole.{width, width-few, width-upTo, further, coordinate-bounded, radius-upTo}
+use Rattle.bound.proofs.Whole.{Within, Bounded, within-more, bounded-add, bounded-sub, within-mul, within-times, within-div}
+use Rattle.bound.proofs.Whole.{ahead, back, ahead-few, back-few, width-within, further, coordinate-bounded, radius-bounded}
 use Rattle.fives.specs.Groups.{Each}
 use Rattle.fives.proofs.Grouping.{each-append}
 use Rattle.levels.specs.declared.Level.{Level}
@@ -36,7 +34,7 @@ use Rattle.rows.proofs.Turning.{sampled-length}
 
 -- ---- the box grown by the radius
 abbrev pub Edge : Float → Float → Type 0
-Edge low high = Bounded 2000000 low × Bounded 2000000 high × T (le low high)
+Edge low high = Bounded 2000000 low × Bounded 2000000 high
 
 pub record Spreading (s : Spread) : Type 0 where
   pub along : Edge (s .a0) (s .a1)
@@ -45,16 +43,9 @@ pub record Spreading (s : Spread) : Type 0 where
 module _ (r : Float) (e : isRadius r ≡ true) where
   edge : (low high : Float) → Side low high → Edge (low ⊖ r) (high ⊕ r)
   edge low high s =
-      let l = coordinate-bounded low (s .0) in
-      let h = coordinate-bounded high (s .1) in
-      let u = radius-upTo r e in
-      let f = u .bounded .fine in
-      let z : T (le O r) = small-radius r e .0 in
-      let turned : T (le (neg r) r) = le-trans (neg r) (neg O) r (neg-turns O r tt f z) (le-trans (neg O) O r (unfold neg le in tt) z) in (
-        bounded-sub low r 1000000 1000000 (omega arith) l (u .bounded),
-        bounded-add high r 1000000 1000000 (omega arith) h (u .bounded),
-        le-trans (low ⊖ r) (high ⊖ r) (high ⊕ r) (sub-mono binary64 low high r (l .fine) (h .fine) f (s .2))
-            (rw (add-is binary64 high r) at (sub-turns binary64 (neg r) r high (neg-finite r f) f (h .fine) turned)),
+      let u = radius-bounded r e in (
+        bounded-sub low r 1000000 1000000 (omega arith) (coordinate-bounded low (s .0)) u,
+        bounded-add high r 1000000 1000000 (omega arith) (coordinate-bounded high (s .1)) u,
       )
 
   pub spread-reach : (axis : Axis) (l : Level) → Boxed l → Spreading (spreadOf axis r l)
@@ -81,38 +72,56 @@ parts-some width step =
     one : 0 < toUnsigned 64 f1
     one = unfold ofBits toUnsigned in omega arith
 
--- ---- between two edges, with n steps, of which k are made
+-- ---- between two edges, in either order, with n steps, of which k are made
+module _ (w n k : ℕ) (some : 0 < n) (inside : k ≤ n) where
+  step-holds : w ≤ (w / n + 1) * n
+  step-holds = omega (arith, lt-div-mul-add {a = w} {b = n} some, add-mul (w / n) 1 n, one-mul n)
+
+  steps-end : (w / n + 1) * k ≤ w + n
+  steps-end =
+      let q = w / n + 1 in
+      omega (arith, mul-le-mul {n₁ = q} {m₁ = k} {n₂ = q} {m₂ = n} (omega arith) inside, div-mul-le-self w n, add-mul (w / n) 1 n, one-mul n)
+
 module _ (a b : Float) (e : Edge a b) (n k : ℕ) (some : 0 < n) (few : n ≤ 65535) (inside : k ≤ n) where
-  wide : ℕ
-  wide = width a b 2000000 (e .0) (e .1) (e .2)
+  abbrev on : ℕ
+  on = ahead a b 2000000 (e .0) (e .1)
 
-  wide-few : wide ≤ 4000001
-  unfolding wide
-  wide-few = width-few a b 2000000 (e .0) (e .1) (e .2)
+  abbrev off : ℕ
+  off = back a b 2000000 (e .0) (e .1)
 
-  steps : UpTo wide (b ⊖ a)
-  unfolding wide
-  steps = width-upTo a b 2000000 (e .0) (e .1) (e .2) (omega arith)
+  on-few : on ≤ 4000001
+  on-few = ahead-few a b 2000000 (e .0) (e .1)
+
+  off-few : off ≤ 4000001
+  off-few = back-few a b 2000000 (e .0) (e .1)
+
+  width : Within off on (b ⊖ a)
+  width = width-within a b 2000000 (e .0) (e .1) (omega arith)
+
+  reach : (t : Float) (j : ℕ) → j ≤ 65535 → Within (off + j) (on + j) t → Bounded 3000000 (a ⊕ t)
+  reach t j h u =
+      within-more _ _ _ _ _ (omega arith) (omega arith) (further a b 2000000 (e .0) (e .1) t j (omega arith) u)
 
   pub row-reach : Bounded 3000000 (a ⊕ real k ⊗ ((b ⊖ a) ⊘ real n))
   row-reach =
-      let q = wide / n + 1 in
-      let up : wide ≤ q * n = omega (arith, lt-div-mul-add {a = wide} {b = n} some, add-mul (wide / n) 1 n, one-mul n) in
-      let far : k * q ≤ n * q = mul-le-mul {n₁ = k} {m₁ = q} {n₂ = n} {m₂ = q} inside (omega arith) in
-      let down : k * q ≤ wide + n = omega (arith, far, mul-comm n q, div-mul-le-self wide n, add-mul (wide / n) 1 n, one-mul n) in
-      let pitch = upTo-div (b ⊖ a) wide q n some (omega arith) (omega (arith, wide-few, div-le-self wide n)) up steps in
-      let t = upTo-mul (real k) _ k q (omega (arith, wide-few)) (whole-upTo k (omega arith)) pitch in
-      bounded-more _ (2000000 + n + 1) 3000000 (omega arith)
-      (unfold wide in further a b 2000000 (e .0) (e .1) (e .2) _ n (omega arith) (upTo-more _ _ _ down t))
+      let p = off / n + 1 in
+      let q = on / n + 1 in
+      let i = steps-end off n k some inside in
+      let j = steps-end on n k some inside in
+      let pitch = within-div (b ⊖ a) off on n (omega arith) width p q some (omega (arith, off-few, div-le-self off n)) (omega (arith, on-few, div-le-self on n))
+          (step-holds off n k some inside) (step-holds on n k some inside) in
+      reach _ n few
+      (within-more _ _ _ _ _ i j (within-times _ p q k (omega arith) pitch (omega (arith, off-few)) (omega (arith, on-few))))
+
+  small : (w : ℕ) → w ≤ 4000001 → w * k ≤ 4000001 * 65535
+  small w h = mul-le-mul {n₁ = w} {m₁ = k} {n₂ = 4000001} {m₂ = 65535} h (omega arith)
 
   pub sample-reach : Bounded 3000000 (a ⊕ (b ⊖ a) ⊗ real k ⊘ real n)
   sample-reach =
-      let h : wide * k ≤ wide * n = mul-le-mul {n₁ = wide} {m₁ = k} {n₂ = wide} {m₂ = n} (omega arith) inside in
-      let m : wide * k ≤ 4000001 * 65535 = mul-le-mul {n₁ = wide} {m₁ = k} {n₂ = 4000001} {m₂ = 65535} wide-few (omega arith) in
-      let s = upTo-mul (b ⊖ a) (real k) wide k (omega arith) steps (whole-upTo k (omega arith)) in
-      let t = upTo-div _ (wide * k) wide n some (omega arith) (omega (arith, wide-few)) h s in
-      bounded-more _ (2000000 + 0 + 1) 3000000 (omega arith)
-      (unfold wide in further a b 2000000 (e .0) (e .1) (e .2) _ 0 (omega arith) (upTo-more _ _ _ (omega arith) t))
+      let fewer : (w : ℕ) → w * k ≤ w * n = λ w. mul-le-mul {n₁ = w} {m₁ = k} {n₂ = w} {m₂ = n} (omega arith) inside in
+      let s = within-mul (b ⊖ a) off on k (omega arith) width (omega (arith, small off off-few)) (omega (arith, small on on-few)) in
+      let t = within-div _ (off * k) (on * k) n (omega arith) s off on some (omega (arith, off-few)) (omega (arith, on-few)) (fewer off) (fewer on) in
+      reach _ 0 (omega arith) (within-more _ _ _ _ _ (omega arith) (omega arith) t)
 
 -- ---- a row's runs
 pub record Reached (r : Run) : Type 0 where

@@ -11,7 +11,7 @@ use lib.Ieee.{Float, binary64, ofBits, ofInt, round}
 use Rattle.numbers.specs.Reals.{_⊕_, f2}
 use Rattle.numbers.proofs.Branches.{either, no}
 use Rattle.spans.specs.Mesh.{isRadius}
-use Rattle.bound.proofs.Whole.{Bounded, bounded-add, bounded-div}
+use Rattle.bound.proofs.Whole.{Bounded, bounded-add, within-div}
 use Rattle.fives.specs.Groups.{Each}
 use Rattle.fives.proofs.Grouping.{each-append}
 use Rattle.levels.specs.declared.Level.{Level}
@@ -89,7 +89,9 @@ module _ (under : Run → Float) (p : Parameters) (axis : Axis) (r : Float) (e :
 middle-bounded : (a b : Float) → Bounded 3000000 a → Bounded 3000000 b → Bounded 3000000 (middle a b)
 middle-bounded a b p q =
     let two : f2 ≡ ofInt binary64 (pos 2) = unfold ofBits ofInt round in refl in
-    rw two (bounded-div (a ⊕ b) 6000000 3000000 2 (omega arith) (omega arith) (omega arith) (omega arith) (bounded-add a b 3000000 3000000 (omega arith) p q))
+    rw two
+    (within-div (a ⊕ b) 6000000 6000000 2 (omega arith) (bounded-add a b 3000000 3000000 (omega arith) p q) 3000000 3000000
+    (omega arith) (omega arith) (omega arith) (omega arith) (omega arith))
 
 halves-reached : (q : Run) → Reached q → Reached (firstHalf q) × Reached (secondHalf q)
 halves-reached q h =
