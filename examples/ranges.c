@@ -502,6 +502,99 @@ static void the_sheet(void)
     expect("32 holders", 8, sections_of());
 }
 
+/* ---- another planner's moves: one move, a rapid or a cut over the square */
+
+static uint8_t list[34 + 25 + 1];
+static size_t list_len = 59;
+static double ends[6], depth = 1e-3;
+static uint32_t finding[3];
+
+static uint32_t look_over(void)
+{
+    memcpy(list + 10, ends, 24);
+    memcpy(list + 35, ends + 3, 24);
+    return mandrikelo_look_over(list, list_len, INDEX, tool, tool_len, depth, finding);
+}
+
+/* The three numbers of a list that is accepted. */
+static void found(const char *what, uint32_t verdict, uint32_t move, uint32_t reason)
+{
+    expect(what, 0, look_over());
+    expect(what, verdict, finding[0]);
+    expect(what, move, finding[1]);
+    expect(what, reason, finding[2]);
+}
+
+static void at_height(double start, double end)
+{
+    const double good[6] = {1, 1, start, 3, 3, end};
+    memcpy(ends, good, sizeof ends);
+}
+
+static void list_byte(const char *what, size_t at, int value, uint32_t refusal)
+{
+    const uint8_t kept = list[at];
+    list[at] = (uint8_t)value;
+    expect(what, refusal, look_over());
+    list[at] = kept;
+}
+
+static void the_paths(void)
+{
+    static const char *const NAME[6] = {"start x", "start y", "start z", "end x", "end y", "end z"};
+    part = "look_over";
+    memcpy(list, "FTP\1\0\0\1\0\0", 10);
+    memcpy(tool, (const double[4]){0, 2, 2, 0}, 4 * sizeof *tool);
+    tool_len = 4;
+    at_height(12, 12);
+    found("a rapid", 1, 0, 0);
+    range("tolerance", &depth, 1e-7, 0.01, 2, look_over);
+    for (size_t k = 0; k < 6; k++) {
+        const double kept = ends[k], good[] = {3e6, -3e6}, over[] = {nextafter(3e6, INFINITY), nextafter(-3e6, -INFINITY)};
+        const double none[] = {INFINITY, -INFINITY, NAN};
+        for (size_t i = 0; i < 2; i++) {
+            ends[k] = good[i];
+            expect(NAME[k], 0, look_over());
+            ends[k] = over[i];
+            expect(NAME[k], 2, look_over());
+        }
+        for (size_t i = 0; i < 3; i++) {
+            ends[k] = none[i];
+            expect(NAME[k], 20, look_over());
+        }
+        ends[k] = kept;
+    }
+    length("bytes_len", &list_len, 59, 19, 21, look_over);
+    length("marks_len", &marks_len, 2, 1, 1, look_over);
+    list_len = 33;
+    expect("33 bytes", 14, look_over());
+    list_len = 34;
+    expect("34 bytes and a count of 1", 19, look_over());
+    list[6] = 0;
+    expect("no move", 0, look_over());
+    expect("no move passes", 1, finding[0]);
+    list[6] = 1, list_len = 59;
+    list_byte("the mark", 2, 'M', 15);
+    list_byte("the version", 3, 2, 16);
+    list_byte("the sixth byte", 5, 1, 17);
+    list_byte("65,537 moves", 8, 1, 18);
+    list_byte("kind 2", 34, 2, 28);
+    tool_len = 0;
+    expect("no section", 8, look_over());
+    tool_len = 4;
+    at_height(12, 5);
+    found("a rapid into the square", 2, 0, 1);
+    list[34] = 1;
+    found("a cut that changes its z", 2, 0, 2);
+    at_height(0., -0.);
+    found("a cut from 0 to -0", 2, 0, 2);
+    at_height(5, 5);
+    found("a cut too deep", 2, 0, 3);
+    at_height(10, 10);
+    found("a cut on the square", 1, 0, 0);
+    list[34] = 0;
+}
+
 /* ---- files */
 
 static uint8_t *bytes;
@@ -658,6 +751,7 @@ int main(void)
     the_plan();
     the_moves();
     the_sheet();
+    the_paths();
     the_files();
     printf("ranges: %u passed, %u failed\n", passed, failed);
     return failed != 0;

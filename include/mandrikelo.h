@@ -41,11 +41,11 @@
  *   11  more levels than room
  *   12  over 65,535 intervals or samples on a level
  *   13  more joined runs than room
- *   14  the file has no whole head: a job under 30 bytes, an STL file under 84
- *   15  the job's mark is not "FTM"
+ *   14  the file has no whole head: a job under 30 bytes, an STL file under 84, a list of moves under 34
+ *   15  the job's mark is not "FTM", or that of a list of moves not "FTP"
  *   16  its version is not 1
  *   17  its sixth byte is not 0
- *   18  no triangle, or more triangles or questions than 65,536 or than the lent room
+ *   18  no triangle, or more triangles or questions than 65,536 or than the lent room; more than 65,536 moves
  *   19  the file has fewer bytes than its counts ask for: a copy that broke off; sizes[0] or count[0] tells how many triangles stand
  *       whole before the cut
  *   20  a number in it is not finite
@@ -285,6 +285,20 @@ uint32_t mandrikelo_moves_begin(const double *runs, size_t runs_len, const doubl
     const double start[3], uint64_t first_id, double position[3], uint64_t state[3] /* phase, run, next id */);
 uint32_t mandrikelo_moves_next(const double *runs, size_t runs_len, const double heights[3],
     double position[3], uint64_t state[3], double end[3], uint64_t go[2] /* 0 the end, 1 rapid, 2 plunge, 3 cut, 4 retract; id */);
+
+/* Another planner's moves, looked over. `bytes` is a list of moves: "FTP", u16 version 1, a zero byte, u32 count (0 to 65,536), the start
+ * point of three f64s: 34 bytes; then 25 bytes a move, a kind byte (0 rapid, 1 cut) and its end point of three f64s, little endian. Each
+ * move starts where the one before it ended. A rapid is bad if it is not clear as mandrikelo_sections_chord_clear tells it, with the
+ * sections and lift 0. A cut is bad if its z does not stay the same to the bit (0.0 and -0.0 differ), else if mandrikelo_max_height along
+ * it, with the index's radius, is above its z + tolerance. The list passes exactly when no move is bad; else the first bad one is named,
+ * from 0, with the reason. Refusals in their order: 14, 15, 16, 17, 18, 19 or 21, 20 (any number of the file), 28, then 1, 23, 2 (points
+ * of magnitude at most 3e6; tolerance 1e-7 to 0.01), 8, 7 (every cell and every triangle, no mark). Then the marks, whatever they held,
+ * are all zero; a refusal leaves them. */
+uint32_t mandrikelo_look_over(const uint8_t *bytes, size_t bytes_len, const double *mesh, size_t mesh_len, const double measures[6],
+    const uint32_t sizes[3], const uint32_t *starts, size_t starts_len, const uint32_t *members, size_t members_len,
+    const double *boxes, size_t boxes_len, uint32_t *marks, size_t marks_len, const double *sections, size_t sections_len,
+    double tolerance, uint32_t finding[3] /* 0 none, 1 passes, 2 does not; the first bad move; 1 blocked rapid, 2 changed z, 3 cut too
+        deep; 1, 0, 0 where it passes */);
 
 /* A job file: "FTM", u16 version 1, a zero byte, u32 number of triangles n, u32 number of questions m, f64 floor, f64 radius: 30 bytes;
  * then 72 bytes a triangle, 9 f64s, and 40 a question, 5 f64s (px, py, qx, qy, r). All little endian; the length is 30 + 72 n + 40 m, n

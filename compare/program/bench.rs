@@ -131,6 +131,7 @@ pub fn run() {
     build(&bed);
     heights(&bed);
     tools(&bed);
+    moves(&bed);
     plans();
     crate::writer::bench(now, wanted);
 }
@@ -393,6 +394,63 @@ fn tools(bed: &Bed) {
             ],
         );
     }
+}
+
+/// A list of 10,000 moves that all pass, looked over in one call, beside the same questions one by one.
+fn moves(bed: &Bed) {
+    if MISSING.contains(&"look_over") || !wanted("look over") {
+        return;
+    }
+    let mut rng = Rng::new(3, "moves", 0);
+    let mut at = [50., 50., 2.];
+    let start = at;
+    let legs: Vec<(u8, [f64; 3])> = (0..10_000)
+        .map(|t| {
+            for k in 0..2 {
+                at[k] = (at[k] + rng.between(-5., 5.)).clamp(0., 100.);
+            }
+            (t as u8 % 2, at)
+        })
+        .collect();
+    let bytes = crate::paths::file(start, &legs);
+    let table = [0., RADIUS, RADIUS, 0.];
+    let (mut marks, mut stamp) = (vec![0u32; bed.mesh.len() / 9], 0);
+    let mut times = [vec![], vec![]];
+    for round in 0..12 {
+        let begun = now();
+        let mut lent = crate::doors::Lent::new(&marks);
+        let (k, finding) = crate::paths::look_over(&bytes, &bed.mesh, &bed.handed, &mut lent, &table, 1e-3);
+        assert!(k == 0 && finding.holds(&[1, 0, 0]), "look over: {k} {:?}", finding.get());
+        let between = now();
+        let mut a = start;
+        for (kind, b) in &legs {
+            if *kind == 0 {
+                let counts = ask!(
+                    bed, mandrikelo_sections_chord_clear, marks, stamp, a[0], a[1], a[2], b[0], b[1], b[2], 0., table.as_ptr(), table.len()
+                );
+                stamp = counts[2];
+                assert!(counts[0] == 1);
+            } else {
+                let (mut z, mut on) = (0., [0u32; 3]);
+                stamp = ask!(bed, mandrikelo_max_height, marks, stamp, a[0], a[1], b[0], b[1], RADIUS, &mut z; on.as_mut_ptr())[1];
+                assert!(z <= a[2] + 1e-3);
+            }
+            a = *b;
+        }
+        if round > 0 {
+            times[0].push((between - begun) / 1e4);
+            times[1].push((now() - between) / 1e4);
+        }
+    }
+    let [ours, one_by_one] = times.map(|mut t| {
+        t.sort_by(f64::total_cmp);
+        t[t.len() / 2]
+    });
+    println!();
+    println!("| what | a list, ns a move | one by one, ns a move | list / one by one |");
+    println!("|---|---|---|---|");
+    println!("| look over 10,000 moves on the plate | {ours:.1} | {one_by_one:.1} | {:.2} |", ours / one_by_one);
+    println!();
 }
 
 /// Plans over plates of several sizes, so that the growth with triangles, rows and samples shows.

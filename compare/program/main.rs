@@ -17,6 +17,7 @@ mod join;
 mod model;
 mod moves;
 mod parts;
+mod paths;
 mod rng;
 mod sheet;
 mod shipped;

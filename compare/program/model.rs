@@ -204,14 +204,13 @@ pub fn plan(mesh: &[f64], h: &Handed, marks: &[u32], parameters: &[f64; 7], axis
     if !stands {
         return 9;
     }
-    if !header_stands(mesh, h) {
-        return 7;
-    }
-    let all: Vec<usize> = (0..(h.sizes[1] * h.sizes[2]) as usize).collect();
-    if !stretches_stand(mesh, h, &all, None) || mesh.iter().any(|v| !within(*v, 1e6)) {
-        return 7;
-    }
-    0
+    if whole(mesh, h) { 0 } else { 7 }
+}
+
+/// What refusal 7 tests of a plan and of a list of moves: every cell and every triangle, and no mark.
+pub fn whole(mesh: &[f64], h: &Handed) -> bool {
+    let all = || (0..(h.sizes[1] * h.sizes[2]) as usize).collect::<Vec<_>>();
+    header_stands(mesh, h) && stretches_stand(mesh, h, &all(), None) && mesh.iter().all(|v| within(*v, 1e6))
 }
 
 /// A job as document 01 lays it out: floor, radius, mesh, questions; or the reader's refusal with the count that it tells, 0 but

@@ -162,6 +162,7 @@ pub const PARTS: &[Part] = &[
     crate::join::PART,
     crate::copies::PART,
     crate::moves::PART,
+    crate::paths::PART,
     Part {
         name: "job",
         doors: &["read_job"],
@@ -512,7 +513,7 @@ pub fn handed(mesh: &[f64], floor: f64, r: f64) -> Option<(Grid, Handed)> {
 // Questions
 
 /// Damage to what a question is handed: entries of (kind, where, high half, low half of a number).
-fn damage_of(rng: &mut Rng, mesh: &[f64], h: &Handed) -> Vec<u32> {
+pub fn damage_of(rng: &mut Rng, mesh: &[f64], h: &Handed) -> Vec<u32> {
     let mut out = vec![];
     for _ in 0..1 + rng.below(2) {
         let n = mesh.len() as u64 / 9;
@@ -555,7 +556,7 @@ fn damage_of(rng: &mut Rng, mesh: &[f64], h: &Handed) -> Vec<u32> {
 }
 
 /// Damages mesh, index and marks as `damage` says.
-fn damaged(damage: &[u32], mesh: &mut Vec<f64>, h: &mut Handed, marks: &mut Vec<u32>) {
+pub fn damaged(damage: &[u32], mesh: &mut Vec<f64>, h: &mut Handed, marks: &mut Vec<u32>) {
     for d in damage.chunks_exact(4) {
         let (at, value) = (d[1] as usize, (d[2] as u64) << 32 | d[3] as u64);
         let word = value as u32;
@@ -686,7 +687,7 @@ fn make_max_bull(rng: &mut Rng, case: u64, damage: bool) -> Case {
 }
 
 /// A tool, and where the case is damaged one that refusal 8 is for.
-fn make_tool(rng: &mut Rng, damage: bool) -> Vec<f64> {
+pub fn make_tool(rng: &mut Rng, damage: bool) -> Vec<f64> {
     let mut tool = inputs::sections(rng);
     if damage && rng.one_in(3) {
         match rng.below(3) {

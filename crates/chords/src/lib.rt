@@ -9,6 +9,7 @@ ghost use Rattle.grid.specs.Index.{indexOf};
 ghost use Rattle.ask.specs.Ask.{ended, refusedChord, blockedEarly};
 ghost use Rattle.chords.specs.Chords.{isEnd, isChord, blockedAtOnce, bullBlocksAt, isRide, bullChordOf, BullChordPromise};
 ghost use Rattle.chords.specs.Chords.{toolBlocks, toolBlocksAt, sectionsChordOf, SectionsChordPromise};
+ghost use Rattle.chords.specs.Inside.{ruledChord};
 use ask::Finding;
 use ask::Ruling;
 use grid::Header;
@@ -99,8 +100,6 @@ pub fn sections_chord_clear(
     ensures { λ a. ⌜ SectionsChordPromise (indexOf (now (mesh .entry)) h (now (starts .entry)) (now (members .entry)) (now (boxes .entry)))
         (now (marks .entry)) stamp m (now (table .entry)) a ⌝ }
 {
-    let columns = h.columns;
-    let floor = h.floor;
     let reach = tool::widest(table);
     let low = tool::lowest(table);
     let p = query::patch_of(h, m.ax, m.ay, m.bx, m.by, reach);
@@ -121,6 +120,44 @@ pub fn sections_chord_clear(
     if n != 0 {
         return refused(n, stamp);
     }
+    tool_ruling(
+        mesh,
+        h,
+        starts,
+        members,
+        boxes,
+        marks,
+        stamp,
+        p,
+        m,
+        low,
+        table,
+    )
+}
+
+// The same where nothing is left to refuse, over the cells p and with the lowest z0 of the sections.
+pub fn tool_ruling(
+    mesh: &[f64],
+    h: Header,
+    starts: &[u32],
+    members: &[u32],
+    boxes: &[f64],
+    marks: &mut [u32],
+    stamp: u32,
+    p: Patch,
+    m: Chord,
+    low: f64,
+    table: &[f64],
+) -> Ruling
+    requires { ⌜ (length (now mesh) ≡ length (now marks) * 9) × (length (now marks) ≤ 65536)
+        × Walkable (now starts) (now members) (length (now marks)) (h .columns) (p .x0) (p .x1) (p .y0) (p .y1)
+        × (length (now boxes) ≡ length (now marks) * 5) ⌝ }
+    ensures { λ a. ⌜ ended a (now (marks .exit))
+        ≡ ruledChord (blockedAtOnce (h .floor) m) (toolBlocksAt (now (mesh .entry)) (now (boxes .entry)) m low (now (table .entry)))
+        (indexOf (now (mesh .entry)) h (now (starts .entry)) (now (members .entry)) (now (boxes .entry))) (now (marks .entry)) stamp p ⌝ }
+{
+    let columns = h.columns;
+    let floor = h.floor;
     if blocked_at_once(floor, m) {
         return blocked(stamp);
     }
@@ -182,7 +219,7 @@ fn finding_of(clear: bool) -> Finding
 }
 
 // Whether the three coordinates of an end are a point's.
-fn is_end(x: f64, y: f64, z: f64) -> bool
+pub fn is_end(x: f64, y: f64, z: f64) -> bool
     ensures { λ b. ⌜ b ≡ isEnd x y z ⌝ }
 {
     if query::is_point(x) {

@@ -97,7 +97,7 @@ module _ (ix : Index) (e : usableWhole ix ≡ true) (boxed : isBoxed (ix .mesh) 
       let v = both-true b (each low (cell (ix .starts) (ix .members) c)) (u .1) in
       rw (u .0, v .0) (each-more-tests low passes member-passes (cell (ix .starts) (ix .members) c) (v .1))
 
-  patch-passes : (q : Patch) → q .x1 ≤ ix .header .columns → q .y1 ≤ ix .header .rows → usable ix (replicate (ix .header .n) 0) 0 q ≡ true
+  pub patch-passes : (q : Patch) → q .x1 ≤ ix .header .columns → q .y1 ≤ ix .header .rows → usable ix (replicate (ix .header .n) 0) 0 q ≡ true
   unfolding usable cellsUsable rowUsable
   patch-passes q right top =
       rw (parts .0)
@@ -120,7 +120,7 @@ module _ (ix : Index) (e : usableWhole ix ≡ true) (boxed : isBoxed (ix .mesh) 
       (skip (isCoordinate (ix .header .«origin_x»)) _
       (skip (isFrom 1 65536 (ix .header .n)) _ (both-true (inRanges (ix .header)) (eqb (length (ix .mesh)) (ix .header .n * 9) && leb (ix .header .rows * ix .header .columns + 1) (length (ix .starts))) (parts .0) .0)))))))))
 
-  marked : isMarked (ix .mesh) (replicate (ix .header .n) 0) ≡ true
+  pub marked : isMarked (ix .mesh) (replicate (ix .header .n) 0) ≡ true
   unfolding isMarked
   marked = rw (length-replicate {A = ℕ} (ix .header .n) 0, le-leb (ix .header .n) 65536 (head .ranged .few), eq-eqb (length (ix .mesh)) (ix .header .n * 9) (head .nine))
 
@@ -141,7 +141,7 @@ module _ (ix : Index) (e : usableWhole ix ≡ true) (boxed : isBoxed (ix .mesh) 
         (demand-next true 8 _ 0 refl
         (demand-next _ 7 0 0 (patch-passes (patchFor (ix .header) s) (i .0) (i .1)) refl)))))
 
-    again-is : Pointed q → (askedAgain ix q .refusal ≡ 0) × (askedAgain ix q .height ≡ heightUnder ix q)
+    pub again-is : Pointed q → (askedAgain ix q .refusal ≡ 0) × (askedAgain ix q .height ≡ heightUnder ix q)
     unfolding askedAgain maxHeightOf askedHeight answerOf heightUnder sweepWalk capsuleWalk
     again-is f =
         let z = not-refused f in (

@@ -56,7 +56,7 @@ alike-set s m t k i a =
           (on-or-off (eqb j i));
     }
 
-looked-same : (s : ℕ) (m : List ℕ) (t : ℕ) (k : List ℕ) (ms : List ℕ) → Alike s m t k → looked s m ms ≡ looked t k ms
+pub looked-same : (s : ℕ) (m : List ℕ) (t : ℕ) (k : List ℕ) (ms : List ℕ) → Alike s m t k → looked s m ms ≡ looked t k ms
 unfolding looked
 looked-same s m t k [] a = refl
 looked-same s m t k (i ∷ ms) a =
@@ -66,7 +66,7 @@ looked-same s m t k (i ∷ ms) a =
     by b d e p q = rw (e, p, q)
 
 -- marks that are not above the stamp, made ready for the next walk, and wiped ones
-ready-alike : (n stamp : ℕ) (marks : List ℕ) → Marked n stamp marks → Alike (nextStamp stamp) (readyMarks marks stamp) (nextStamp 0) (readyMarks (replicate n 0) 0)
+pub ready-alike : (n stamp : ℕ) (marks : List ℕ) → Marked n stamp marks → Alike (nextStamp stamp) (readyMarks marks stamp) (nextStamp 0) (readyMarks (replicate n 0) 0)
 unfolding nextStamp readyMarks
 ready-alike n stamp marks m =
     by (eqb stamp 4294967295) refl
@@ -81,7 +81,7 @@ ready-alike n stamp marks m =
 
 -- ---- the marks afterwards
 
-marked-below : (s n : ℕ) (is m : List ℕ) → length m ≡ n → ((i : ℕ) → getD m i 0 ≤ s) → Marked n s (marked s m is)
+pub marked-below : (s n : ℕ) (is m : List ℕ) → length m ≡ n → ((i : ℕ) → getD m i 0 ≤ s) → Marked n s (marked s m is)
 unfolding marked
 marked-below s n [] m l b = record { size = l; below = b }
 marked-below s n (i ∷ is) m l b =
@@ -97,7 +97,7 @@ marked-below s n (i ∷ is) m l b =
     (λ (e : eqb j i ≡ false). rw (getD-set-other m i j s 0 (eqb-false j i e)) (b j))
     (on-or-off (eqb j i)))
 
-ready-below : (n stamp : ℕ) (marks : List ℕ) → Marked n stamp marks → (length (readyMarks marks stamp) ≡ n) × ((i : ℕ) → getD (readyMarks marks stamp) i 0 ≤ nextStamp stamp)
+pub ready-below : (n stamp : ℕ) (marks : List ℕ) → Marked n stamp marks → (length (readyMarks marks stamp) ≡ n) × ((i : ℕ) → getD (readyMarks marks stamp) i 0 ≤ nextStamp stamp)
 unfolding nextStamp readyMarks
 ready-below n stamp marks m = by (eqb stamp 4294967295)
   where

@@ -1,8 +1,6 @@
 use borrow.Author.Needs.{needs}
-use mathlib.Core.Bool.{Bool, true}
-use Rattle.numbers.proofs.Branches.{bool-called}
-use Rattle.ask.proofs.Answers.{inside, ready, chord-refused, chord-early, chord-ruled}
-use Rattle.chords.proofs.Asking.{ended-is, tool-answers}
+use Rattle.ask.proofs.Answers.{inside, ready, chord-refused}
+use Rattle.chords.proofs.Asking.{ended-is, tool-answers, ruled-asked, accepted-ready}
 use Rattle.chords.proofs.sections_chord_clear.Statement.{statement}
 use Rattle.chords.proofs.sections_chord_clear.Tie as tie
 
@@ -16,28 +14,20 @@ returns c =
     (d .before .before .patch-of .ensures) (d .before .is-chord .ensures) (d .is-tool .ensures)
     (ended-is _ _ _ _ (c .refused .ensures) (chord-refused _ _ _ _ _ _ _ (c .before .before .refusal .ensures .0) _ _ (c .before .if1 .taken)))
 
+tool-ruling-requires : tie.Need-tool-ruling-requires
+tool-ruling-requires c κs =
+    let n = c .before in
+    accepted-ready _ _ _ _ _ _ _ (n .before .refusal .ensures .0) (n .if1 .left) (inside _ _ _ _ _ _ _ (n .before .before .before .before .before .patch-of .ensures))
+
 returns-2 : tie.Need-returns-2
 returns-2 c =
-    let d = c .before .before .before .before .before .before in
+    let n = c .before .before .before .before in
+    let d = n .before .before .before in
     tool-answers _ _ _ _ _ _ _ _ _ _ _ _ (d .before .before .before .before .widest .ensures) (d .before .before .before .lowest .ensures)
     (d .before .before .patch-of .ensures) (d .before .is-chord .ensures) (d .is-tool .ensures)
-    (ended-is _ _ _ _ (c .blocked .ensures)
-    (chord-early _ _ _ _ _ _ _ (c .before .before .before .before .refusal .ensures .0) _ _ (c .before .before .before .if1 .left) (bool-called _ _ _ (c .before .before .blocked-at-once .ensures) (c .before .if2 .taken))))
-
-chase-requires : tie.Need-chase-tool-requires
-chase-requires c κs =
-    ready _ _ _ _ _ _ _ (c .before .before .before .before .before .before .before .before .refusal .ensures .0) {A = Bool} _ _ true (c .before .before .before .before .before .before .before .if1 .left) (c .before .before .before .next-stamp .ensures .1) (inside _ _ _ _ _ _ _ (c .before .before .before .before .before .before .before .before .before .before .before .before .patch-of .ensures))
-
-returns-3 : tie.Need-returns-3
-returns-3 c =
-    let d = c .before .before .before .before .before .before .before .before .before .before .before .before .before .before in
-    let n = c .before .before .before .before .before .before .before .next-stamp in
-    tool-answers _ _ _ _ _ _ _ _ _ _ _ _ (d .before .before .before .before .widest .ensures) (d .before .before .before .lowest .ensures)
-    (d .before .before .patch-of .ensures) (d .before .is-chord .ensures) (d .is-tool .ensures)
-    (chord-ruled _ _ _ _ _ _ _ (c .before .before .before .before .before .before .before .before .before .before .before .before .refusal .ensures .0) _ _ _ _ _ _ _ (c .before .before .before .before .before .before .before .before .before .before .before .if1 .left) (bool-called _ _ _ (c .before .before .before .before .before .before .before .before .before .before .blocked-at-once .ensures) (c .before .before .before .before .before .before .before .before .before .if2 .left))
-    (n .ensures .0) (n .ensures .1) (c .before .before .before .chase-tool .ensures) (c .finding-of .ensures))
+    (ruled-asked _ _ _ _ _ _ _ _ _ _ (n .before .refusal .ensures .0) (n .if1 .left) (c .before .before .tool-ruling .ensures))
 
 pub sections-chord-clear-spec : {M : Type 1} → statement M
 sections-chord-clear-spec =
     tie.close
-    (tie.spec (λ c κs. tt) (λ c κs. tt) (λ c κs. tt) (λ c κs. tt) (λ c κs. tt) refusal-requires (λ c κs. tt) (λ c. search needs) returns (λ c κs. tt) (λ c κs. tt) (λ c. search needs) returns-2 (λ c κs. tt) chase-requires (λ c κs. tt) (λ c. search needs) returns-3)
+    (tie.spec (λ c κs. tt) (λ c κs. tt) (λ c κs. tt) (λ c κs. tt) (λ c κs. tt) refusal-requires (λ c κs. tt) (λ c. search needs) returns tool-ruling-requires (λ c. search needs) returns-2)

@@ -1,0 +1,4 @@
+pub mod Listing
+pub mod Asking
+pub mod Trying
+pub mod Looking
