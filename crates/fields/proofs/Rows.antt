@@ -54,19 +54,23 @@ module _ (f : ℕ → Float) where
       let e : finite (f k) ≡ true = rw add-zero at (g 0 (omega arith)) in
       rw e (passes (k + 1) c (λ i h. let s : k + suc i ≡ k + 1 + i = omega arith in rw s at (g (suc i) (omega arith))))
 
-  -- ---- a table that is filled
+-- ---- a table that is filled, with numbers of any kind; z is any of them
+module _ {A : Type 0} (f : ℕ → A) where
   pub row-length : (k c : ℕ) → length (row f k c) ≡ c
   unfolding row
   row-length k zero = refl
   row-length k (suc c) = ap suc (row-length (k + 1) c)
 
-  row-more : (k c : ℕ) (xs : List Float) → row f k (suc c) ++ xs ≡ row f k c ++ f (k + c) ∷ xs
+  row-more : (k c : ℕ) (xs : List A) → row f k (suc c) ++ xs ≡ row f k c ++ f (k + c) ∷ xs
   unfolding row
   row-more k zero xs = rw add-zero
   row-more k (suc c) xs =
       let s : k + suc c ≡ k + 1 + c = omega arith in
-      rw s (ap (λ (l : List Float). f k ∷ l) (row-more (k + 1) c xs))
+      rw s (ap (λ (l : List A). f k ∷ l) (row-more (k + 1) c xs))
 
-  pub filled-more : (k i : ℕ) (out : List Float) → i < length out → set (row f k i ++ drop i out) i (f (k + i)) ≡ row f k (i + 1) ++ drop (i + 1) out
-  filled-more k i out h =
-      rw (add-one i, drop-cons out i nan h, row-more) (set-at (row f k i) _ _ _ i (row-length k i))
+  pub filled-next : (z : A) (k i : ℕ) (out : List A) → i < length out → set (row f k i ++ drop i out) i (f (k + i)) ≡ row f k (i + 1) ++ drop (i + 1) out
+  filled-next z k i out h =
+      rw (add-one i, drop-cons out i z h, row-more) (set-at (row f k i) _ _ _ i (row-length k i))
+
+pub filled-more : (f : ℕ → Float) (k i : ℕ) (out : List Float) → i < length out → set (row f k i ++ drop i out) i (f (k + i)) ≡ row f k (i + 1) ++ drop (i + 1) out
+filled-more f = filled-next f nan

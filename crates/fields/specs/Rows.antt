@@ -18,7 +18,7 @@ allFinite [] = true
 allFinite (x ∷ xs) = finite x && allFinite xs
 
 -- c numbers from number k on
-unfoldable pub row : (ℕ → Float) → ℕ → ℕ → List Float
+unfoldable pub row : {A : Type 0} → (ℕ → A) → ℕ → ℕ → List A
 row f k zero = []
 row f k (suc c) = f k ∷ row f (k + 1) c
 

@@ -202,7 +202,7 @@ fn grid_of(mesh: &[f64], n: usize, r: f64) -> Grid
 }
 
 // Refusal 5.
-fn refusal_of_grid(columns: usize, rows: usize, lent: usize) -> u32
+pub fn refusal_of_grid(columns: usize, rows: usize, lent: usize) -> u32
     ensures { λ k. ⌜ k ≡ refusalOfGrid columns rows lent ⌝ }
 {
     if 65536 < columns {
@@ -222,7 +222,7 @@ fn refusal_of_grid(columns: usize, rows: usize, lent: usize) -> u32
 }
 
 // Refusal 6.
-fn refusal_of_members(k: usize, lent: usize) -> u32
+pub fn refusal_of_members(k: usize, lent: usize) -> u32
     ensures { λ q. ⌜ q ≡ refusalOfMembers k lent ⌝ }
 {
     if 16777216 < k {

@@ -1,3 +1,4 @@
+pub mod Heads
 pub mod Ladder
 pub mod Reading
 pub mod Apart

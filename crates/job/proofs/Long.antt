@@ -14,19 +14,21 @@ use Rattle.fields.proofs.Bytes.{value-cut}
 use Rattle.fields.proofs.Ladder.{room-for, refuse-same}
 use Rattle.fields.proofs.Lengths.{rung-surplus}
 use Rattle.job.specs.Layout.{mark, version, zeroByte, triangles, questions, bytesOf, shape, wide}
-use Rattle.job.specs.Reader.{refusalOfLength, refusalOfCounts, refusalOf, ended, refusedBy, readOf}
+use Rattle.job.specs.Head.{refusalOfLength, refusalOfCounts, refusalOfHead}
+use Rattle.job.specs.Reader.{refusalOf, ended, refusedBy, readOf}
 use Rattle.job.specs.declared.Read.{Read}
 use Rattle.job.proofs.Ladder.{sound, cut-only}
-use Rattle.job.proofs.Reading.{refused-is, none-told}
+use Rattle.job.proofs.Heads.{none-told}
+use Rattle.job.proofs.Reading.{refused-is}
 
 -- the refusal of a file that is too long for any job
 tooLong : ℕ → ℕ → ℕ → ℕ → ℕ
 tooLong n m nroom mroom = refuse (eqb n 0) 18 (refuse (tooMany n nroom) 18 (refuse (tooMany m mroom) 18 21))
 
 module _ (nroom mroom : ℕ) where
-  too-long : (xs : List ℕ) (n m : ℕ) → bytesOf wide nroom mroom < length xs → refusalOfCounts xs n m nroom mroom ≡ tooLong n m nroom mroom
+  too-long : (xs : List ℕ) (n m late : ℕ) → bytesOf wide nroom mroom < length xs → refusalOfCounts wide xs n m nroom mroom late ≡ tooLong n m nroom mroom
   unfolding refusalOfCounts refusalOfLength tooLong
-  too-long xs n m h =
+  too-long xs n m late h =
       refuse-same _ 18 _ _
       (λ _. refuse-same _ 18 _ _
       (λ p. refuse-same _ 18 _ _
@@ -35,12 +37,12 @@ module _ (nroom mroom : ℕ) where
       sym (rung-surplus (shape wide n m) (length xs) _ (omega (arith, a .1, b .1))))))
 
   cut-refusal : (xs : List ℕ) (k : ℕ) → bytesOf wide nroom mroom < k → k ≤ length xs → refusalOf (take k xs) nroom mroom ≡ refusalOf xs nroom mroom
-  unfolding refusalOf
+  unfolding refusalOf refusalOfHead
   cut-refusal xs k h l =
       let c : length (take k xs) ≡ k = length-take-le k xs l in
       rw (
-        too-long (take k xs) _ _ (omega (arith, c)),
-        too-long xs _ _ (omega arith),
+        too-long (take k xs) _ _ _ (omega (arith, c)),
+        too-long xs _ _ _ (omega arith),
         c,
         le-ltb k 30 (omega arith),
         le-ltb (length xs) 30 (omega arith),
@@ -59,7 +61,7 @@ module _ (nroom mroom : ℕ) where
 
 -- all refusals but 19 tell nothing of the bytes
 told-alike : (xs ys : List ℕ) (k : ℕ) → (k ≡ 19 → ⊥) → refusedBy k xs ≡ refusedBy k ys
-told-alike xs ys k h = rw (← none-told xs k h, ← none-told ys k h)
+told-alike xs ys k h = rw (← none-told wide xs k h, ← none-told wide ys k h)
 
 pub read-cut : (xs : List ℕ) (mesh qs : List Float) (k : ℕ) → bytesOf wide (length mesh / 9) (length qs / 5) < k → readOf (take k xs) mesh qs ≡ readOf xs mesh qs
 read-cut xs mesh qs k h =

@@ -17,28 +17,25 @@ use Rattle.fields.specs.declared.Length.the-variants.{Exact}
 use Rattle.fields.specs.Length.{wholeIn, lengthRule, refuseLength}
 use Rattle.fields.proofs.Lengths.{rung-told, exact-length}
 use Rattle.job.specs.Layout.{triangles, questions, numbers, meshFrom, questionsFrom, bytesOf, shape, wide}
-use Rattle.job.specs.Reader.{numberOf, refusalOfNumbers, refusalOfLength, refusalOf, Outcome, ended, toldWith, refusedBy, acceptedOf, readOf, SoundExactly}
+use Rattle.job.specs.Head.{refusalOfHead, Headed}
+use Rattle.job.specs.Reader.{numberOf, refusalOfNumbers, refusalOf, Outcome, ended, refusedBy, acceptedOf, readOf, SoundExactly}
 use Rattle.job.specs.declared.Read.{Read}
+use Rattle.job.proofs.Heads.{headed, head-refused, head-passes}
 use Rattle.job.proofs.Ladder.{sound, accepted, cut-only}
 
--- the count that is told
-module _ (bytes : List ℕ) (k : ℕ) where
-  pub none-told : (k ≡ 19 → ⊥) → 0 ≡ toldWith k bytes
-  unfolding toldWith
-  none-told h = left _ _ _ _ (ne-eqb k 19 h) refl
+-- ---- the refusal, in the code's two steps
+module _ (bytes : List ℕ) (nroom mroom k : ℕ) (e : k ≡ refusalOfHead wide 1 bytes nroom mroom 0) where
+  pub refused-first : (k ≡ 0 → ⊥) → k ≡ refusalOf bytes nroom mroom
+  unfolding refusalOf
+  refused-first h = head-refused wide 1 bytes nroom mroom _ k e h
 
-  pub whole-told : (c n m : ℕ) (s : Shape) → k ≡ 19 → n ≡ value triangles bytes → m ≡ value questions bytes → s ≡ shape wide n m → c ≡ wholeIn s (length bytes) → c ≡ toldWith k bytes
-  unfolding toldWith
-  whole-told c n m s z p q i e = taken _ _ _ _ (eq-eqb k 19 z) (e ∙ ap (λ (t : Shape). wholeIn t (length bytes)) (i ∙ rw (p, q)))
+  module _ (z : k ≡ 0) where
+    pub head-whole : Headed wide 1 bytes nroom mroom
+    head-whole = headed wide 1 bytes nroom mroom 0 (sym e ∙ z) .0
 
--- ---- what the length decides
-module _ (bytes : List ℕ) (n m : ℕ) (s : Shape) (i : s ≡ shape wide n m) where
-  pub length-refused : (r : Length) (k : ℕ) → r ≡ lengthRule s (length bytes) → k ≡ refuseLength r (refusalOfNumbers bytes (numbers n m)) → k ≡ refusalOfLength bytes n m
-  unfolding refusalOfLength
-  length-refused r k p e = rung-told r _ k _ (p ∙ ap (λ (t : Shape). lengthRule t (length bytes)) i) e
-
-  pub length-fits : Exact ≡ lengthRule s (length bytes) → length bytes ≡ bytesOf wide n m
-  length-fits p = exact-length (shape wide n m) (length bytes) (p ∙ ap (λ (t : Shape). lengthRule t (length bytes)) i)
+    pub refused-last : (n m r : ℕ) → n ≡ value triangles bytes → m ≡ value questions bytes → r ≡ refusalOfNumbers bytes (2 + 9 * n + 5 * m) → r ≡ refusalOf bytes nroom mroom
+    unfolding refusalOf
+    refused-last n m r p q f = f ∙ (rw (p, q) (head-passes wide 1 bytes nroom mroom head-whole _))
 
 module _ (bytes : List ℕ) (mesh qs : List Float) where
   pub decoded-is : (n m : ℕ) (f r : Float) (mesh′ qs′ : List Float) → f ≡ numberOf bytes 0 → r ≡ numberOf bytes 1 → mesh′ ≡ row (numberOf bytes) meshFrom (9 * n) ++ drop (9 * n) mesh → qs′ ≡ row (numberOf bytes) (questionsFrom n) (5 * m) ++ drop (5 * m) qs → ended (record { refusal = 0; n = n; m = m; floor = f; radius = r }) mesh′ qs′ ≡ acceptedOf bytes n m mesh qs

@@ -70,6 +70,20 @@ letters = 0x4d_54_46
 abbrev pub wide : ℕ
 wide = 8
 
+-- version 2: a number is an i32
+abbrev pub narrow : ℕ
+narrow = 4
+
+-- version 2 as document 02 gives it
+narrow-head-is : headBytes narrow ≡ 22
+narrow-head-is = refl
+
+narrow-triangle-is : triangleBytes narrow ≡ 36
+narrow-triangle-is = refl
+
+narrow-question-is : questionBytes narrow ≡ 20
+narrow-question-is = refl
+
 -- version 1 as document 01 gives it
 head-is : headBytes wide ≡ 30
 head-is = refl

@@ -1,20 +1,20 @@
 -- Document 01, "The job file": which jobs are refused, and what reading one answers and leaves in the lent tables.
-use mathlib.Core.Bool.{true, not, cond}
+use mathlib.Core.Bool.{true, cond}
 use mathlib.Core.Path.{_≡_}
 use mathlib.Core.List.{List, _++_}
 use Prim.Native.Nat.{ℕ, _*_, _/_, _≤_, _<_}
-use lib.Dec.{eqb, ltb}
+use lib.Dec.{eqb}
 use lib.Ieee.{Float, binary64, ofBits}
 use lib.ListN.{length, drop}
 use Rattle.numbers.specs.Reals.{f0}
 use Rattle.fields.specs.Little.{value}
 use Rattle.fields.specs.Rows.{finite, row, firstBad, somewhere}
-use Rattle.fields.specs.Ladder.{refuse, tooMany}
-use Rattle.fields.specs.Length.{wholeIn, lengthRule, refuseLength}
+use Rattle.fields.specs.Ladder.{refuse}
 use Rattle.fields.specs.Copies.{ToldApart}
 use Rattle.fields.specs.declared.Shape.{Shape}
 use Rattle.job.specs.Layout.{mark, version, zeroByte, triangles, questions, number, letters, wide}
-use Rattle.job.specs.Layout.{numbers, meshFrom, questionsFrom, headBytes, shape, bytesOf}
+use Rattle.job.specs.Layout.{numbers, meshFrom, questionsFrom, bytesOf}
+use Rattle.job.specs.Head.{refusalOfHead, shapeIn, toldIn}
 use Rattle.job.specs.declared.Read.{Read}
 
 -- number k of a job, from its bits
@@ -25,28 +25,11 @@ numberOf bytes k = ofBits binary64 (value (number wide k) bytes)
 unfoldable pub refusalOfNumbers : List ℕ → ℕ → ℕ
 refusalOfNumbers bytes count = refuse (somewhere (firstBad (numberOf bytes) 0 count)) 20 0
 
--- 19 length under 30 + 72n + 40m; 21 over it
-unfoldable pub refusalOfLength : List ℕ → ℕ → ℕ → ℕ
-refusalOfLength bytes n m =
-    refuseLength (lengthRule (shape wide n m) (length bytes))
-    (refusalOfNumbers bytes (numbers n m))
-
--- 18 n of 0, or n or m over 65,536 or over the lent room
-unfoldable pub refusalOfCounts : List ℕ → ℕ → ℕ → ℕ → ℕ → ℕ
-refusalOfCounts bytes n m nroom mroom =
-    refuse (eqb n 0) 18
-    (refuse (tooMany n nroom) 18
-    (refuse (tooMany m mroom) 18
-    (refusalOfLength bytes n m)))
-
--- 14 under 30 bytes; 15 mark; 16 version; 17 sixth byte not 0
+-- 14 to 19 and 21 as the head and the length decide, of version 1; then 20
 unfoldable pub refusalOf : List ℕ → ℕ → ℕ → ℕ
 refusalOf bytes nroom mroom =
-    refuse (ltb (length bytes) (headBytes wide)) 14
-    (refuse (not (eqb (value mark bytes) letters)) 15
-    (refuse (not (eqb (value version bytes) 1)) 16
-    (refuse (not (eqb (value zeroByte bytes) 0)) 17
-    (refusalOfCounts bytes (value triangles bytes) (value questions bytes) nroom mroom))))
+    refusalOfHead wide 1 bytes nroom mroom
+    (refusalOfNumbers bytes (numbers (value triangles bytes) (value questions bytes)))
 
 -- ---- reading
 
@@ -61,11 +44,11 @@ ended a ms qs = record { answer = a; mesh = ms; questions = qs }
 
 -- the shape of the job that these bytes begin
 abbrev pub shapeOf : List ℕ → Shape
-shapeOf bytes = shape wide (value triangles bytes) (value questions bytes)
+shapeOf bytes = shapeIn wide bytes
 
--- how many triangles are told with refusal k: with 19 those that stand whole before the cut, else none
-unfoldable pub toldWith : ℕ → List ℕ → ℕ
-toldWith k bytes = cond (eqb k 19) (wholeIn (shapeOf bytes) (length bytes)) 0
+-- how many triangles are told with refusal k
+abbrev pub toldWith : ℕ → List ℕ → ℕ
+toldWith k bytes = toldIn wide k bytes
 
 -- a refusal leaves both tables as they were, and all numbers but that count are zero
 abbrev pub refusedBy : ℕ → List ℕ → Read

@@ -8,9 +8,10 @@ ghost use Prim.Native.Nat.{ℕ, _+_, _*_, _/_, _≤_, _<_};
 ghost use lib.ListN.{length, drop};
 ghost use Rattle.fields.specs.Little.{value};
 ghost use Rattle.fields.specs.Rows.{finite, row, firstBad};
-ghost use Rattle.job.specs.Layout.{mark, number, numbers, bytesOf, shape as shapeOf, wide};
-ghost use Rattle.job.specs.Reader.{numberOf, refusalOfNumbers, refusalOfLength, refusalOfCounts, refusalOf};
-ghost use Rattle.job.specs.Reader.{ended, toldWith, refusedBy, acceptedOf, readOf, SoundExactly, NeverTakenForAPart};
+ghost use Rattle.job.specs.Layout.{mark, triangles, questions, number, numbers, bytesOf, shape as shapeOf, wide};
+ghost use Rattle.job.specs.Head.{refusalOfLength, refusalOfCounts, refusalOfHead, toldIn};
+ghost use Rattle.job.specs.Reader.{numberOf, refusalOfNumbers, refusalOf};
+ghost use Rattle.job.specs.Reader.{ended, refusedBy, acceptedOf, readOf, SoundExactly, NeverTakenForAPart};
 use fields::Length;
 use fields::Place;
 use fields::Shape;
@@ -24,9 +25,7 @@ pub struct Read {
     pub radius: f64,
 }
 
-// The bytes of the head, the place of the first number and the bytes of a number.
-const HEAD: usize = 30;
-
+// The place of the first number and the bytes of a number.
 const NUMBERS: usize = 14;
 
 const WIDE: usize = 8;
@@ -60,51 +59,66 @@ fn refused(bytes: &[u8], k: u32) -> Read
 {
     Read {
         refusal: k,
-        n: told_with(bytes, k),
+        n: told_with(bytes, 8, k),
         m: 0,
         floor: 0.0,
         radius: 0.0,
     }
 }
 
-// How many triangles are told with refusal k.
-fn told_with(bytes: &[u8], k: u32) -> u32
-    requires { ⌜ (k ≡ 19 → 14 ≤ length (now bytes)) ⌝ }
-    ensures { λ c. ⌜ c ≡ toldWith k (now (bytes .entry)) ⌝ }
+// 14 to 21 but 20 as the head and the length decide, then 20, or 0 for a job that is accepted.
+fn refusal(bytes: &[u8], nroom: usize, mroom: usize) -> u32
+    ensures { λ k. ⌜ k ≡ refusalOf (now (bytes .entry)) nroom mroom ⌝ }
+{
+    let k = refusal_of_head(bytes, 8, 1, nroom, mroom);
+    if k != 0 {
+        return k;
+    }
+    let n = fields::u32_at(bytes, 6);
+    let m = fields::u32_at(bytes, 10);
+    refusal_of_numbers(bytes, 2 + 9 * n as usize + 5 * m as usize)
+}
+
+// How many triangles are told with refusal k, where a number has w bytes.
+pub fn told_with(bytes: &[u8], w: u16, k: u32) -> u32
+    requires { ⌜ (w ≤ 8) × (k ≡ 19 → 14 ≤ length (now bytes)) ⌝ }
+    ensures { λ c. ⌜ c ≡ toldIn w k (now (bytes .entry)) ⌝ }
 {
     if k != 19 {
         return 0;
     }
     fields::whole_in(
-        shape(fields::u32_at(bytes, 6), fields::u32_at(bytes, 10)),
+        shape(w, fields::u32_at(bytes, 6), fields::u32_at(bytes, 10)),
         bytes.len(),
     )
 }
 
-// A job of n triangles and m questions, as the length rule sees it.
-fn shape(n: u32, m: u32) -> Shape
-    ensures { λ s. ⌜ s ≡ shapeOf wide n m ⌝ }
+// A job of n triangles and m questions whose numbers have w bytes, as the length rule sees it.
+fn shape(w: u16, n: u32, m: u32) -> Shape
+    requires { ⌜ w ≤ 8 ⌝ }
+    ensures { λ s. ⌜ s ≡ shapeOf w n m ⌝ }
 {
     Shape {
-        head: 30,
+        head: 14 + w * 2,
         n,
-        size: 72,
+        size: 9 * w,
         m,
-        other: 40,
+        other: 5 * w,
     }
 }
 
-// 14 to 17, which the first six bytes decide, else what the counts decide.
-fn refusal(bytes: &[u8], nroom: usize, mroom: usize) -> u32
-    ensures { λ k. ⌜ k ≡ refusalOf (now (bytes .entry)) nroom mroom ⌝ }
+// What the head and the length decide of a job of version v, whose numbers have w bytes: 14 to 17 by the first six bytes, else what the counts decide.
+pub fn refusal_of_head(bytes: &[u8], w: u16, v: u16, nroom: usize, mroom: usize) -> u32
+    requires { ⌜ w ≤ 8 ⌝ }
+    ensures { λ k. ⌜ k ≡ refusalOfHead w v (now (bytes .entry)) nroom mroom 0 ⌝ }
 {
-    if bytes.len() < HEAD {
+    if bytes.len() < 14 + w as usize * 2 {
         return 14;
     }
     if mark_of(bytes) != MARK {
         return 15;
     }
-    if fields::u16_at(bytes, 3) != 1 {
+    if fields::u16_at(bytes, 3) != v {
         return 16;
     }
     if bytes[5] != 0 {
@@ -112,6 +126,7 @@ fn refusal(bytes: &[u8], nroom: usize, mroom: usize) -> u32
     }
     refusal_of_counts(
         bytes,
+        w,
         fields::u32_at(bytes, 6),
         fields::u32_at(bytes, 10),
         nroom,
@@ -120,8 +135,9 @@ fn refusal(bytes: &[u8], nroom: usize, mroom: usize) -> u32
 }
 
 // 18, else what the length decides.
-fn refusal_of_counts(bytes: &[u8], n: u32, m: u32, nroom: usize, mroom: usize) -> u32
-    ensures { λ k. ⌜ k ≡ refusalOfCounts (now (bytes .entry)) n m nroom mroom ⌝ }
+fn refusal_of_counts(bytes: &[u8], w: u16, n: u32, m: u32, nroom: usize, mroom: usize) -> u32
+    requires { ⌜ w ≤ 8 ⌝ }
+    ensures { λ k. ⌜ k ≡ refusalOfCounts w (now (bytes .entry)) n m nroom mroom 0 ⌝ }
 {
     if n == 0 {
         return 18;
@@ -132,17 +148,18 @@ fn refusal_of_counts(bytes: &[u8], n: u32, m: u32, nroom: usize, mroom: usize) -
     if fields::too_many(m, mroom) {
         return 18;
     }
-    refusal_of_length(bytes, n, m)
+    refusal_of_length(bytes, w, n, m)
 }
 
-// 19 and 21, else what the numbers decide.
-fn refusal_of_length(bytes: &[u8], n: u32, m: u32) -> u32
-    ensures { λ k. ⌜ k ≡ refusalOfLength (now (bytes .entry)) n m ⌝ }
+// 19 and 21, else 0.
+fn refusal_of_length(bytes: &[u8], w: u16, n: u32, m: u32) -> u32
+    requires { ⌜ w ≤ 8 ⌝ }
+    ensures { λ k. ⌜ k ≡ refusalOfLength w (now (bytes .entry)) n m 0 ⌝ }
 {
-    match fields::length_rule(shape(n, m), bytes.len()) {
+    match fields::length_rule(shape(w, n, m), bytes.len()) {
         Length::Short(_) => 19,
         Length::Surplus => 21,
-        Length::Exact => refusal_of_numbers(bytes, 2 + 9 * n as usize + 5 * m as usize),
+        Length::Exact => 0,
     }
 }
 

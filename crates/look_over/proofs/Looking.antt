@@ -17,7 +17,7 @@ use Rattle.grid.specs.Index.{Index}
 use Rattle.grid.proofs.Ladder.{demanded}
 use Rattle.query.specs.Asked.{isMarked}
 use Rattle.query.specs.Usable.{every, usableWhole}
-use Rattle.query.proofs.Using.{every-at}
+use Rattle.query.proofs.Testing.{every-at}
 use Rattle.whole.proofs.Wholly.{whole-head}
 use Rattle.tool.specs.Tool.{isTool}
 use Rattle.runs.specs.declared.Run.{Run}

@@ -15,7 +15,7 @@ use Rattle.grid.specs.Boxes.{boxAt}
 use Rattle.grid.specs.Index.{Index}
 use Rattle.query.specs.Asked.{isPoint}
 use Rattle.query.specs.Usable.{every, cornersUsable, areCoordinates, boxUsable, triangleUsable}
-use Rattle.query.proofs.Using.{every-at}
+use Rattle.query.proofs.Testing.{every-at}
 use Rattle.height.specs.Height.{arePoints}
 use Rattle.fives.specs.Groups.{Each}
 use Rattle.levels.proofs.Boxes.{Sided, Boxed, levels-boxed}

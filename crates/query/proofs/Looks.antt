@@ -12,13 +12,13 @@ use lib.Ieee.{Float}
 use lib.ListN.{length, getD, set, length-set, length-replicate, getD-replicate}
 use lib.Seq.{getD-set-same, getD-set-other}
 use Rattle.numbers.proofs.Branches.{either, by-test}
-use Rattle.cells.specs.Cover.{times, weight}
+use Rattle.cells.specs.Cover.{Cover, membersOf, times, weight}
 use Rattle.cells.proofs.Reading.{once}
 use Rattle.walk.specs.Walk.{over, cell, row, block, looked, nextStamp, readyMarks}
 use Rattle.grid.specs.Index.{Index, coversOf, SoundIndex}
 use Rattle.query.specs.declared.Patch.{Patch}
 use Rattle.query.specs.Usable.{usable}
-use Rattle.query.specs.Looked.{within, lookedIn, Shares, LooksOnce, UsablePromise}
+use Rattle.query.specs.Looked.{lookedIn, SharesCell, Shares, EachOnce, LooksOnce, UsablePromise}
 use Rattle.query.proofs.Testing.{in-rows}
 use Rattle.query.proofs.Using.{usable-member}
 use Rattle.query.proofs.Passing.{sound-usable}
@@ -127,42 +127,47 @@ ready-fresh marks stamp i l h =
     (λ e. rw e (λ z. omega (arith, z, getD-replicate {A = ℕ} (length marks) i 0 0 l)))
     (λ e. rw e (λ z. omega (arith, z, h)))
 
--- ---- demand 3, first half
-module _ (ix : Index) (marks : List ℕ) (stamp : ℕ) (p : Patch) (d : SoundIndex ix) (u : usable ix marks stamp p ≡ true) (nine : length (ix .mesh) ≡ length marks * 9) (right : p .x1 ≤ ix .header .columns) (top : p .y1 ≤ ix .header .rows) where
+-- ---- demand 3, first half, over any cover: a cell's stretch holds the triangles that cover it, and each member of the question's cells has a mark that is not above
+-- the handed stamp
+module _ (on : Cover) (n columns rows : ℕ) (starts members marks : List ℕ) (stamp : ℕ) (p : Patch)
+    (is : (c : ℕ) → c < rows * columns → cell starts members c ≡ membersOf on n c)
+    (passes : (x y k : ℕ) → p .x0 ≤ x → x < p .x1 → p .y0 ≤ y → y < p .y1 → k < length (cell starts members (y * columns + x))
+        → (getD (cell starts members (y * columns + x)) k 0 < n) × (getD marks (getD (cell starts members (y * columns + x)) k 0) 0 ≤ stamp))
+    (marked : n ≤ length marks) (right : p .x1 ≤ columns) (top : p .y1 ≤ rows)
+  where
   abbrev numbers : List ℕ
-  numbers = within ix p
+  numbers = block starts members columns (p .x0) (p .x1) (p .y0) (p .y1)
 
-  in-cells : (x y : ℕ) → x < p .x1 → y < p .y1 → y * ix .header .columns + x < ix .header .rows * ix .header .columns
-  in-cells x y a b = omega (arith, in-rows (ix .header .columns) (x + 1) y (ix .header .rows) (omega arith) (omega arith))
+  in-cells : (x y : ℕ) → x < p .x1 → y < p .y1 → y * columns + x < rows * columns
+  in-cells x y a b = omega (arith, in-rows columns (x + 1) y rows (omega arith) (omega arith))
 
   -- in a cell of the question a triangle stands once if it covers the cell, and else not
-  in-cell : (i x y : ℕ) → x < p .x1 → y < p .y1 → i < ix .header .n → times i (cell (ix .starts) (ix .members) (y * ix .header .columns + x)) ≡ weight (coversOf ix i (y * ix .header .columns + x))
-  in-cell i x y a b l =
-      ap (times i) (d .cell (y * ix .header .columns + x) (in-cells x y a b)) ∙ once (coversOf ix) (y * ix .header .columns + x) (ix .header .n) i l
+  in-cell : (i x y : ℕ) → x < p .x1 → y < p .y1 → i < n → times i (cell starts members (y * columns + x)) ≡ weight (on i (y * columns + x))
+  in-cell i x y a b l = ap (times i) (is (y * columns + x) (in-cells x y a b)) ∙ once on (y * columns + x) n i l
 
-  stands : (i : ℕ) → Shares ix p i → 0 < times i numbers
+  stands : (i : ℕ) → SharesCell on n columns p i → 0 < times i numbers
   stands i s =
-      let t : times i (cell (ix .starts) (ix .members) (s .y * ix .header .columns + s .x)) ≡ 1 = rw (in-cell i (s .x) (s .y) (s .column .1) (s .row .1) (s .triangle), s .covers) in
-      over-has (row (ix .starts) (ix .members) (ix .header .columns) (p .x0) (p .x1)) (p .y0) (p .y1 - p .y0) i (s .y) (s .row .0) (omega arith)
-      (over-has (λ x. cell (ix .starts) (ix .members) (s .y * ix .header .columns + x)) (p .x0) (p .x1 - p .x0) i (s .x) (s .column .0) (omega arith) (omega arith))
+      let t : times i (cell starts members (s .y * columns + s .x)) ≡ 1 = rw (in-cell i (s .x) (s .y) (s .column .1) (s .row .1) (s .triangle), s .covers) in
+      over-has (row starts members columns (p .x0) (p .x1)) (p .y0) (p .y1 - p .y0) i (s .y) (s .row .0) (omega arith)
+      (over-has (λ x. cell starts members (s .y * columns + x)) (p .x0) (p .x1 - p .x0) i (s .x) (s .column .0) (omega arith) (omega arith))
 
   -- and where it stands, the two share that cell
-  shares : (i : ℕ) → 0 < times i numbers → Shares ix p i
+  shares : (i : ℕ) → 0 < times i numbers → SharesCell on n columns p i
   shares i t =
-      let b = over-in (row (ix .starts) (ix .members) (ix .header .columns) (p .x0) (p .x1)) (p .y0) (p .y1 - p .y0) i t in
-      let a = over-in (λ x. cell (ix .starts) (ix .members) (b .at * ix .header .columns + x)) (p .x0) (p .x1 - p .x0) i (b .stands) in
-      let k = place-of i (cell (ix .starts) (ix .members) (b .at * ix .header .columns + a .at)) (a .stands) in
+      let b = over-in (row starts members columns (p .x0) (p .x1)) (p .y0) (p .y1 - p .y0) i t in
+      let a = over-in (λ x. cell starts members (b .at * columns + x)) (p .x0) (p .x1 - p .x0) i (b .stands) in
+      let k = place-of i (cell starts members (b .at * columns + a .at)) (a .stands) in
       let x1 : a .at < p .x1 = omega arith in
       let y1 : b .at < p .y1 = omega arith in
-      let m = usable-member ix marks stamp p u (a .at) (b .at) (k .at) (a .from) x1 (b .from) y1 (k .inside) .below in
-      let l : i < ix .header .n = rw (k .is) at m in
+      let m = passes (a .at) (b .at) (k .at) (a .from) x1 (b .from) y1 (k .inside) .0 in
+      let l : i < n = rw (k .is) at m in
       record {
         triangle = l;
         x = a .at;
         y = b .at;
         column = (a .from, x1);
         row = (b .from, y1);
-        covers = some (coversOf ix i (b .at * ix .header .columns + a .at)) (rw (in-cell i (a .at) (b .at) x1 y1 l) at (a .stands));
+        covers = some (on i (b .at * columns + a .at)) (rw (in-cell i (a .at) (b .at) x1 y1 l) at (a .stands));
       }
     where
       some : (b : Bool) → 0 < weight b → b ≡ true
@@ -173,14 +178,13 @@ module _ (ix : Index) (marks : List ℕ) (stamp : ℕ) (p : Patch) (d : SoundInd
   not-marked : (i : ℕ) → 0 < times i numbers → (i < length marks) × (getD (readyMarks marks stamp) i 0 ≡ nextStamp stamp → ⊥)
   not-marked i t =
       let s = shares i t in
-      let k = place-of i (cell (ix .starts) (ix .members) (s .y * ix .header .columns + s .x)) (omega (arith, rw (s .covers) at (in-cell i (s .x) (s .y) (s .column .1) (s .row .1) (s .triangle)))) in
-      let m = usable-member ix marks stamp p u (s .x) (s .y) (k .at) (s .column .0) (s .column .1) (s .row .0) (s .row .1) (k .inside) .mark in
-      let l : i < length marks = omega (arith, s .triangle, d .nine) in
+      let k = place-of i (cell starts members (s .y * columns + s .x)) (omega (arith, rw (s .covers) at (in-cell i (s .x) (s .y) (s .column .1) (s .row .1) (s .triangle)))) in
+      let m = passes (s .x) (s .y) (k .at) (s .column .0) (s .column .1) (s .row .0) (s .row .1) (k .inside) .1 in
+      let l : i < length marks = omega (arith, s .triangle, marked) in
       (l, ready-fresh marks stamp i l (rw (k .is) at m))
 
-  pub looks-once : LooksOnce ix p (lookedIn ix marks stamp p)
-  unfolding lookedIn
-  looks-once =
+  pub each-once : EachOnce (SharesCell on n columns p) (looked (nextStamp stamp) (readyMarks marks stamp) numbers)
+  each-once =
       record {
         each = λ i s.
             let t = stands i s in
@@ -192,12 +196,28 @@ module _ (ix : Index) (marks : List ℕ) (stamp : ℕ) (p : Patch) (d : SoundInd
       }
 
   -- and one that stands in the list is one of those that share a cell
-  pub looks-shared : (i : ℕ) → 0 < times i (lookedIn ix marks stamp p) → Shares ix p i
-  unfolding lookedIn
-  looks-shared i t =
+  pub once-shared : (i : ℕ) → 0 < times i (looked (nextStamp stamp) (readyMarks marks stamp) numbers) → SharesCell on n columns p i
+  once-shared i t =
       by-test (eqb (times i numbers) 0)
       (λ e. absurd (omega (arith, t, looked-none (nextStamp stamp) i numbers (readyMarks marks stamp) (eqb-true _ _ e))))
       (λ e. shares i (positive (times i numbers) (eqb-false _ _ e)))
+
+-- ---- the same of an index
+module _ (ix : Index) (marks : List ℕ) (stamp : ℕ) (p : Patch) (d : SoundIndex ix) (u : usable ix marks stamp p ≡ true) (nine : length (ix .mesh) ≡ length marks * 9) (right : p .x1 ≤ ix .header .columns) (top : p .y1 ≤ ix .header .rows) where
+  member : (x y k : ℕ) → p .x0 ≤ x → x < p .x1 → p .y0 ≤ y → y < p .y1 → k < length (cell (ix .starts) (ix .members) (y * ix .header .columns + x))
+      → (getD (cell (ix .starts) (ix .members) (y * ix .header .columns + x)) k 0 < ix .header .n) × (getD marks (getD (cell (ix .starts) (ix .members) (y * ix .header .columns + x)) k 0) 0 ≤ stamp)
+  member x y k a b c e l = let m = usable-member ix marks stamp p u x y k a b c e l in (m .below, m .mark)
+
+  as-many : ix .header .n ≤ length marks
+  as-many = omega (arith, d .nine, nine)
+
+  pub looks-once : LooksOnce ix p (lookedIn ix marks stamp p)
+  unfolding lookedIn
+  looks-once = each-once (coversOf ix) (ix .header .n) (ix .header .columns) (ix .header .rows) (ix .starts) (ix .members) marks stamp p (d .cell) member as-many right top
+
+  pub looks-shared : (i : ℕ) → 0 < times i (lookedIn ix marks stamp p) → Shares ix p i
+  unfolding lookedIn
+  looks-shared = once-shared (coversOf ix) (ix .header .n) (ix .header .columns) (ix .header .rows) (ix .starts) (ix .members) marks stamp p (d .cell) member as-many right top
 
 -- what the test of a question found, and what it promises
 pub usable-told : (ix : Index) (marks : List ℕ) (stamp : ℕ) (p : Patch) (r : Bool) → r ≡ usable ix marks stamp p → length (ix .mesh) ≡ length marks * 9 → p .x1 ≤ ix .header .columns → p .y1 ≤ ix .header .rows → (r ≡ usable ix marks stamp p) × UsablePromise ix marks stamp p r

@@ -17,13 +17,14 @@ use Rattle.fields.specs.Little.{value, little}
 use Rattle.fields.specs.Rows.{finite, firstBad, somewhere}
 use Rattle.fields.specs.Ladder.{refuse, tooMany}
 use Rattle.fields.specs.Length.{wholeIn, lengthRule, refuseLength}
-use Rattle.job.specs.Reader.{readOf, acceptedOf, refusalOf, refusalOfCounts, refusalOfNumbers, refusalOfLength, toldWith, numberOf}
+use Rattle.job.specs.Head.{refusalOfHead, refusalOfCounts, refusalOfLength, toldIn}
+use Rattle.job.specs.Reader.{readOf, acceptedOf, refusalOf, refusalOfNumbers, numberOf}
 use Rattle.claims.specs.Examples.{worked, bytesIn, numbersIn}
 use Rattle.claims.proofs.proved_examples.Statement.{statement}
 use Rattle.claims.proofs.proved_examples.Tie as tie
 
 returns : tie.Need-returns
-unfolding worked bytesIn numbersIn readOf acceptedOf refusalOf refusalOfCounts refusalOfLength refusalOfNumbers refuse refuseLength lengthRule wholeIn toldWith tooMany somewhere firstBad finite numberOf value little rootOf rootOfUnits nearestRoot wholeRoot roundDownOf nextStamp readyMarks ofBits toBits round sub div lt le isNan toUnsigned ofInt maxOf minOf absOf triangleOf lowest highest boundsOf isFrom covers membersOf listed startOf spanOf sizeOf cellAt cellsAlong stretchOf isCoordinate isRadius badFrom firstBadIn boxOf widened extentOf refuseHere demand gridOf cellsOf totalOf isNowhere refusalOfCoordinates refusalOfMesh isBoxed refusalOfGrid refusalOfMembers refusedBy acceptedWith unless filledOf gridded buildOf
+unfolding worked bytesIn numbersIn readOf acceptedOf refusalOf refusalOfHead refusalOfCounts refusalOfLength refusalOfNumbers refuse refuseLength lengthRule wholeIn toldIn tooMany somewhere firstBad finite numberOf value little rootOf rootOfUnits nearestRoot wholeRoot roundDownOf nextStamp readyMarks ofBits toBits round sub div lt le isNan toUnsigned ofInt maxOf minOf absOf triangleOf lowest highest boundsOf isFrom covers membersOf listed startOf spanOf sizeOf cellAt cellsAlong stretchOf isCoordinate isRadius badFrom firstBadIn boxOf widened extentOf refuseHere demand gridOf cellsOf totalOf isNowhere refusalOfCoordinates refusalOfMesh isBoxed refusalOfGrid refusalOfMembers refusedBy acceptedWith unless filledOf gridded buildOf
 returns c = (refl, refl)
 
 pub proved-examples-spec : {M : Type 1} → statement M

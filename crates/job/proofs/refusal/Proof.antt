@@ -1,43 +1,31 @@
-use mathlib.Core.Path.{sym}
-use borrow.Author.Needs.{needs}
 use native.Mathlib.Omega.{arith}
-use borrow.Author.Tests.{le-ltb}
-use denote.Ref.{now}
-use Rattle.job.specs.Reader.{refusalOf}
-use Rattle.fields.proofs.Bytes.{value-byte}
-use Rattle.fields.proofs.Ladder.{ladder, refuse-next, differs, agrees}
+use borrow.Author.Needs.{needs}
+use Rattle.job.proofs.Reading.{refused-first, refused-last, head-whole}
 use Rattle.job.proofs.refusal.Statement.{statement}
 use Rattle.job.proofs.refusal.Tie as tie
 
 returns : tie.Need-returns
-unfolding refusalOf
-returns c = search ladder depth 12
+returns c = refused-first _ _ _ _ (c .before .refusal-of-head .ensures) (c .if1 .taken)
+
+u32-at-requires : tie.Need-u32-at-requires
+u32-at-requires c κs = omega (arith, head-whole _ _ _ _ (c .before .refusal-of-head .ensures) (c .if1 .left) .whole)
+
+u32-at-requires-2 : tie.Need-u32-at-requires-2
+u32-at-requires-2 c κs = omega (arith, head-whole _ _ _ _ (c .before .before .refusal-of-head .ensures) (c .before .if1 .left) .whole)
+
+refusal-of-numbers-requires : tie.Need-refusal-of-numbers-requires
+refusal-of-numbers-requires c κs =
+    let d = c .before .before in
+    omega (arith, head-whole _ _ _ _ (d .before .refusal-of-head .ensures) (d .if1 .left) .whole, c .before .u32-at .ensures, c .u32-at2 .ensures)
 
 returns-2 : tie.Need-returns-2
-unfolding refusalOf
-returns-2 c = search ladder depth 12
-
-returns-3 : tie.Need-returns-3
-unfolding refusalOf
-returns-3 c = search ladder depth 12
-
-returns-4 : tie.Need-returns-4
-unfolding refusalOf
-returns-4 c =
-    let s = c .before .before .before .before .before .before .before .before in
-    let e = differs _ _ 0 (sym (value-byte (now (s .args .bytes)) 5 (omega arith))) (c .if4 .taken) in
-    search (ladder, e) depth 12
-
-returns-5 : tie.Need-returns-5
-unfolding refusalOf
-returns-5 c =
-    let d = c .before .before .before in
-    let xs = now (d .before .before .before .before .before .before .before .before .args .bytes) in
-    refuse-next _ 14 _ _ (le-ltb _ _ (d .before .before .before .before .before .before .if1 .left))
-    (refuse-next _ 15 _ _ (agrees _ _ _ (d .before .before .before .before .before .mark-of .ensures) (d .before .before .before .before .if2 .left))
-    (refuse-next _ 16 _ _ (agrees _ _ _ (d .before .before .before .u16-at .ensures) (d .before .before .if3 .left))
-    (refuse-next _ 17 _ _ (agrees _ _ 0 (sym (value-byte xs 5 (omega arith))) (d .if4 .left))
-    (rw (← c .before .before .u32-at .ensures, ← c .before .u32-at2 .ensures) (c .refusal-of-counts .ensures)))))
+returns-2 c =
+    let m = c .before in
+    let d = m .before .before in
+    refused-last _ _ _ _ (d .before .refusal-of-head .ensures) (d .if1 .left) _ _ _ (m .before .u32-at .ensures) (m .u32-at2 .ensures) (c .refusal-of-numbers .ensures)
 
 pub refusal-spec : {M : Type 1} → statement M
-refusal-spec = tie.close (tie.spec returns (λ c κs. search needs) returns-2 (λ c κs. search needs) returns-3 (λ c. search needs) returns-4 (λ c κs. search needs) (λ c κs. search needs) (λ c κs. tt) returns-5)
+refusal-spec =
+    tie.close
+    (tie.spec (λ c κs. search needs) returns u32-at-requires u32-at-requires-2 (λ c. search needs) (λ c. search needs) (λ c. search needs) (λ c. search needs)
+    (λ c. search needs) (λ c. search needs) refusal-of-numbers-requires returns-2)

@@ -1,4 +1,5 @@
-use Rattle.job.specs.Reader.{refusalOfCounts}
+use borrow.Author.Needs.{needs}
+use Rattle.job.specs.Head.{refusalOfCounts}
 use Rattle.fields.proofs.Ladder.{ladder}
 use Rattle.job.proofs.refusal_of_counts.Statement.{statement}
 use Rattle.job.proofs.refusal_of_counts.Tie as tie
@@ -20,4 +21,4 @@ unfolding refusalOfCounts
 returns-4 c = search ladder depth 12
 
 pub refusal-of-counts-spec : {M : Type 1} → statement M
-refusal-of-counts-spec = tie.close (tie.spec returns (λ c κs. tt) returns-2 (λ c κs. tt) returns-3 (λ c κs. tt) returns-4)
+refusal-of-counts-spec = tie.close (tie.spec returns (λ c κs. tt) returns-2 (λ c κs. tt) returns-3 (λ c κs. search needs) returns-4)

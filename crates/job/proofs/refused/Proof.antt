@@ -1,8 +1,9 @@
+use native.Mathlib.Omega.{arith}
 use Rattle.job.proofs.refused.Statement.{statement}
 use Rattle.job.proofs.refused.Tie as tie
 
 told-with-requires : tie.Need-told-with-requires
-told-with-requires c κs = c .before .pre
+told-with-requires c κs = (omega arith, c .before .pre)
 
 returns : tie.Need-returns
 returns c = rw (c .told-with .ensures)

@@ -1,0 +1,4 @@
+pub mod Grid
+pub mod Build
+pub mod Index
+pub mod Inside
