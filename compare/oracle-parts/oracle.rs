@@ -48,7 +48,7 @@ pub mod numbers {
 /// the place of `check_memory`.
 pub mod tap {
     use crate::{facing::TraverseAxis, flat::FlatOperation};
-    use std::cell::RefCell;
+    use std::cell::{Cell, RefCell};
 
     pub type Level = (f64, [f64; 2], [f64; 2]);
     /// A stretch or a piece: its ends and z.
@@ -88,7 +88,7 @@ pub mod tap {
     }
 
     thread_local! {
-        static RECORD: std::cell::Cell<Record> = const { std::cell::Cell::new(Record { offered: [0; 2], corner: 0, won: [0; 2], triangle: 0, raised: [0; 3] }) };
+        static RECORD: Cell<Record> = const { Cell::new(Record { offered: [0; 2], corner: 0, won: [0; 2], triangle: 0, raised: [0; 3] }) };
     }
 
     fn record(change: impl FnOnce(&mut Record)) {

@@ -104,12 +104,15 @@ fn compare_contacts(case: &Case, tally: &mut Tally) -> Verdict {
         let (p, q, r, rc, floor, eps) = ([a[9], a[10]], [a[11], a[12]], a[13], a[14], a[15], a[16]);
         let (their, plain) = (Triangle::new(&t), plain::Triangle::new(&t));
         tally.unit();
+        let ours = doors::max_in_capsule(&t, &[p[0], p[1], q[0], q[1], r, eps]);
         let z = their.max_in_capsule(p, q, r, eps);
-        agree_contact("max_in_capsule", tally, doors::max_in_capsule(&t, &[p[0], p[1], q[0], q[1], r, eps]), z, tap::won(), plain.max_in_capsule(p, q, r, eps))?;
+        agree_contact("max_in_capsule", tally, ours, z, tap::won(), plain.max_in_capsule(p, q, r, eps))?;
+        let ours = doors::bull_contact(&t, &[p[0], p[1], r, rc, floor]);
         let z = their.bull_contact(p, r, rc, floor);
-        agree_contact("bull_contact", tally, doors::bull_contact(&t, &[p[0], p[1], r, rc, floor]), z, tap::won(), plain.bull_contact(p, r, rc, floor))?;
+        agree_contact("bull_contact", tally, ours, z, tap::won(), plain.bull_contact(p, r, rc, floor))?;
+        let ours = doors::section_contact(&t, &p, &s);
         let z = their.section_contact(p, s);
-        agree_contact("section_contact", tally, doors::section_contact(&t, &p, &s), z, tap::won(), plain.section_contact(p, s))?;
+        agree_contact("section_contact", tally, ours, z, tap::won(), plain.section_contact(p, s))?;
     }
     Ok(())
 }
