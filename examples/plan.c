@@ -111,9 +111,10 @@ int main(int argc, char **argv)
     rows("triangle", mesh, n, 9);
 
     uint32_t *starts = room(CELLS + 1, sizeof *starts), *members = room(MEMBERS, sizeof *members);
-    double measures[6];
+    double *boxes = room(5 * (size_t)n, sizeof *boxes), measures[6];
     uint32_t sizes[3], bad[2];
-    passed("build", mandrikelo_build(mesh, 9 * (size_t)n, place[0], place[1], starts, CELLS + 1, members, MEMBERS, measures, sizes, bad));
+    passed("build", mandrikelo_build(mesh, 9 * (size_t)n, place[0], place[1], starts, CELLS + 1, members, MEMBERS, boxes, 5 * (size_t)n,
+        measures, sizes, bad));
 
     uint32_t *marks = room(n, sizeof *marks), counts[3], refusal;
     double *levels = room(5 * (size_t)n, sizeof *levels), *runs = NULL, lengths[2];
@@ -121,8 +122,8 @@ int main(int argc, char **argv)
     do { /* the plan writes zeros over the whole table, so it grows only as far as is asked for */
         free(runs);
         runs = room(5 * (most *= 2), sizeof *runs);
-        refusal = mandrikelo_plan(mesh, 9 * (size_t)n, measures, sizes, starts, CELLS + 1, members, MEMBERS, marks, n, parameters, axis,
-            levels, 5 * (size_t)n, runs, 5 * most, lengths, counts);
+        refusal = mandrikelo_plan(mesh, 9 * (size_t)n, measures, sizes, starts, CELLS + 1, members, MEMBERS, boxes, 5 * (size_t)n, marks, n,
+            parameters, axis, levels, 5 * (size_t)n, runs, 5 * most, lengths, counts);
     } while (refusal == MANDRIKELO_REFUSED_RUNS);
     passed("plan", refusal);
     rows("level", levels, counts[0], 5);

@@ -61,14 +61,14 @@ static void length(const char *name, size_t *place, size_t good, uint32_t under,
 /* ---- the index: two triangles, a square of 8 at the height 10 */
 
 static const double SQUARE[18] = {0, 0, 10, 8, 0, 10, 8, 8, 10, 0, 0, 10, 8, 8, 10, 0, 8, 10};
-static double *mesh, measures[6];
-static size_t mesh_len = 18, starts_len = ROOM, members_len = ROOM, marks_len = 2;
+static double *mesh, *boxes, measures[6];
+static size_t mesh_len = 18, starts_len = ROOM, members_len = ROOM, boxes_len = 10, marks_len = 2;
 static uint32_t *starts, *members, *marks, sizes[3], bad[2], stamp;
 static double ground, reach = 2;
 
 static uint32_t build(void)
 {
-    return mandrikelo_build(mesh, mesh_len, ground, reach, starts, starts_len, members, members_len, measures, sizes, bad);
+    return mandrikelo_build(mesh, mesh_len, ground, reach, starts, starts_len, members, members_len, boxes, boxes_len, measures, sizes, bad);
 }
 
 static void the_build(void)
@@ -85,10 +85,14 @@ static void the_build(void)
         expect("bad tells the number", (uint32_t)k, bad[1]);
         mesh[9 + k] = SQUARE[9 + k];
     }
+    boxes_len = 5;
     length("mesh_len", &mesh_len, 9, 1, 1, build);
     mesh_len = 0;
+    expect("an empty mesh with a box", 23, build());
+    boxes_len = 0;
     expect("an empty mesh", 3, build());
-    mesh_len = 18;
+    mesh_len = 18, boxes_len = 10;
+    length("boxes_len", &boxes_len, 10, 23, 23, build);
     expect("good", 0, build());
     size_t cells = (size_t)sizes[1] * sizes[2], listed = starts[cells];
     length("starts_len", &starts_len, cells + 1, 5, 0, build);
@@ -98,10 +102,10 @@ static void the_build(void)
         memcpy(mesh + 9 * i, SQUARE, 9 * sizeof *mesh);
     starts_len = CELLS + 1;
     members_len = MEMBERS;
-    mesh_len = 9 * ((size_t)MOST + 1);
+    mesh_len = 9 * ((size_t)MOST + 1), boxes_len = 5 * ((size_t)MOST + 1);
     expect("65,537 triangles", 1, build());
     /* Each of them covers all 16 by 16 cells: the most members there may be; with 17 by 17 there are too many for any room. */
-    mesh_len = 9 * (size_t)MOST;
+    mesh_len = 9 * (size_t)MOST, boxes_len = 5 * (size_t)MOST;
     reach = 4 * 8 / 15.5;
     expect("16,777,216 members", 0, build());
     expect("its columns", 16, sizes[1]);
@@ -118,11 +122,11 @@ static void the_build(void)
     for (size_t i = 0; i < sizeof ROOTS / sizeof *ROOTS; i++)
         for (size_t n = ROOTS[i] * ROOTS[i] - (i > 1); n <= ROOTS[i] * ROOTS[i] + 1 && n <= MOST; n++) {
             size_t k = (size_t)mandrikelo_root((double)n);
-            mesh_len = 9 * n;
+            mesh_len = 9 * n, boxes_len = 5 * n;
             starts_len = (k + 1) * (k + 1) + 1;
             expect("starts by the page's rule", 0, build());
         }
-    mesh_len = 18, starts_len = members_len = ROOM, reach = 2;
+    mesh_len = 18, boxes_len = 10, starts_len = members_len = ROOM, reach = 2;
     expect("good again", 0, build());
 }
 
@@ -143,7 +147,7 @@ static void begun(void)
     }
 }
 
-#define INDEX mesh, mesh_len, measures, sizes, starts, starts_len, members, members_len, marks, marks_len
+#define INDEX mesh, mesh_len, measures, sizes, starts, starts_len, members, members_len, boxes, boxes_len, marks, marks_len
 
 static uint32_t max_height(void)
 {
@@ -737,6 +741,7 @@ static void the_names(void)
 int main(void)
 {
     mesh = calloc(9 * ((size_t)MOST + 2), sizeof *mesh);
+    boxes = calloc(5 * ((size_t)MOST + 2), sizeof *boxes);
     starts = calloc(CELLS + 1, sizeof *starts);
     members = calloc((size_t)MEMBERS + 1, sizeof *members);
     marks = calloc(4, sizeof *marks);

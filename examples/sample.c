@@ -5,9 +5,9 @@
 #include "mandrikelo.h"
 
 /* What every question and the plan are handed: the mesh, its index, and the marks. */
-#define INDEX mesh, mesh_len, measures, sizes, starts, starts_len, members, members_len, marks, mesh_len / 9
+#define INDEX mesh, mesh_len, measures, sizes, starts, starts_len, members, members_len, boxes, mesh_len / 9 * 5, marks, mesh_len / 9
 
-static double mesh[9 * 64], measures[6];
+static double mesh[9 * 64], boxes[5 * 64], measures[6];
 static size_t mesh_len, starts_len, members_len;
 static uint32_t sizes[3], *starts, *members, *marks;
 
@@ -54,7 +54,8 @@ int main(void)
     do {
         members_len *= 2;
         members = realloc(members, members_len * sizeof *members);
-        refusal = mandrikelo_build(mesh, mesh_len, 0, 3, starts, starts_len, members, members_len, measures, sizes, bad);
+        refusal = mandrikelo_build(mesh, mesh_len, 0, 3, starts, starts_len, members, members_len, boxes, 5 * n, measures, sizes,
+            bad);
     } while (refusal == MANDRIKELO_REFUSED_MEMBERS);
     passed("build", refusal);
     size_t cells = (size_t)sizes[1] * sizes[2];

@@ -16,7 +16,7 @@ static void passed(std::uint32_t refusal)
 }
 
 struct Part {
-    std::vector<double> mesh;
+    std::vector<double> mesh, boxes;
     std::vector<std::uint32_t> starts, members, marks; // of these only the marks are written by questions
     double measures[6];
     std::uint32_t sizes[3];
@@ -46,19 +46,20 @@ struct Part {
         starts.resize((k + 1) * (k + 1) + 1);
         members.resize(n());
         marks.resize(n());
+        boxes.resize(5 * n());
         std::uint32_t bad[2], refusal;
         do {
             members.resize(2 * members.size());
             refusal = mandrikelo_build(mesh.data(), mesh.size(), floor, r, starts.data(), starts.size(), members.data(), members.size(),
-                measures, sizes, bad);
+                boxes.data(), boxes.size(), measures, sizes, bad);
         } while (refusal == MANDRIKELO_REFUSED_MEMBERS);
         passed(refusal);
     }
     // Calls a question or the plan: what all of them are handed comes first.
     template <class Door, class... Rest> std::uint32_t ask(Door door, Rest... rest)
     {
-        return door(mesh.data(), mesh.size(), measures, sizes, starts.data(), starts.size(), members.data(), members.size(), marks.data(),
-            marks.size(), rest...);
+        return door(mesh.data(), mesh.size(), measures, sizes, starts.data(), starts.size(), members.data(), members.size(), boxes.data(),
+            boxes.size(), marks.data(), marks.size(), rest...);
     }
 };
 

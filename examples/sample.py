@@ -59,12 +59,13 @@ def main():
     # The index: lend more members for as long as it is refused for them.
     n = len(mesh) // 9
     starts, members, marks = words((isqrt(n) + 1) ** 2 + 1), words(2 * n), words(n)
+    boxes = doubles(5 * n)
     measures, sizes, bad = doubles(6), words(3), words(2)
-    while (refusal := call("build", *table(mesh), 0.0, 3.0, *table(starts), *table(members), measures, sizes, bad)) == REFUSED_MEMBERS:
+    while (refusal := call("build", *table(mesh), 0.0, 3.0, *table(starts), *table(members), *table(boxes), measures, sizes, bad)) == REFUSED_MEMBERS:
         members = words(2 * len(members))
     assert refusal == 0
     print(f"{sizes[0]} triangles in {sizes[1]} by {sizes[2]} cells, {starts[sizes[1] * sizes[2]]} members")
-    index = (*table(mesh), measures, sizes, *table(starts), *table(members), *table(marks))
+    index = (*table(mesh), measures, sizes, *table(starts), *table(members), *table(boxes), *table(marks))
 
     # The stamp that comes back goes into the next question.
     high, tip, counts, on, lengths = doubles(1), doubles(1), words(3), words(3), doubles(2)

@@ -153,9 +153,10 @@ static inline const char *mandrikelo_refusal_text(uint32_t refusal)
  * r: 0 to 1e6; the radius of the plan's tool, and a hint at the size of cells, while a question may ask with any radius. `starts` gets
  * cells + 1 entries and `members` the triangle numbers of cell after cell; entries beyond those keep what they held. What suffices:
  * starts_len of (k + 1) * (k + 1) + 1, where k is the root of n rounded down; members_len by trial, 22 n for nine parts of ten and never
- * more than 16,777,216. Refusals in their order: 1, 3, 2, 4, 5, 6. An index is good as long as its mesh is not changed in any number. */
+ * more than 16,777,216. `boxes` is five numbers a triangle, no more and no less, and gets the box of each: low x, low y, high x, high y,
+ * high z. Refusals in their order: 1, 23, 3, 2, 4, 5, 6. An index is good as long as its mesh is not changed in any number. */
 uint32_t mandrikelo_build(const double *mesh, size_t mesh_len, double floor, double r,
-    uint32_t *starts, size_t starts_len, uint32_t *members, size_t members_len,
+    uint32_t *starts, size_t starts_len, uint32_t *members, size_t members_len, double *boxes, size_t boxes_len,
     double measures[6] /* origin x, origin y, cell, floor, eps, r */, uint32_t sizes[3] /* n, columns, rows */,
     uint32_t bad[2] /* after 4: the triangle, which of its nine numbers; else 0, 0 */);
 
@@ -167,17 +168,18 @@ uint32_t mandrikelo_build(const double *mesh, size_t mesh_len, double floor, dou
  * strictly higher contact raises it, so of several equally high the first in the order of the walk is told. All 0 where the height is
  * the floor, and after a refusal; touched[1] tells the floor from triangle 0.
  *
- * Points are of magnitude at most 3e6, radii 0 to 1e6, lift of magnitude at most 1e6: else 2. Refusals in their order: 1, 2, 8, 7.
+ * Points are of magnitude at most 3e6, radii 0 to 1e6, lift of magnitude at most 1e6: else 2. Refusals in their order: 1, 23, 2, 8, 7.
  *
  * 7 looks at the header (its ranges, its n, cells + 1 within starts_len) and, in the cells of this question alone, at the stretches of
- * `members`, at each member's number, coordinates and mark. It does not compare index and mesh: the index of another mesh with as many
+ * `members`, at each member's number, coordinates, box numbers and mark. Boxes are taken as they stand in the table. It does not compare
+ * index and mesh: the index of another mesh with as many
  * triangles passes, also that of the same part before it was moved, and then a height may be that of bare floor. So mesh and index are
  * kept together, and a changed mesh is built anew. */
 
 /* The highest point under the disk of radius r swept from (px, py) to (qx, qy), at least the floor. r need not be the index's. */
 uint32_t mandrikelo_max_height(const double *mesh, size_t mesh_len, const double measures[6], const uint32_t sizes[3],
     const uint32_t *starts, size_t starts_len, const uint32_t *members, size_t members_len,
-    uint32_t *marks, size_t marks_len, uint32_t stamp,
+    const double *boxes, size_t boxes_len, uint32_t *marks, size_t marks_len, uint32_t stamp,
     double px, double py, double qx, double qy, double r,
     double found[1] /* the height */, uint32_t counts[2] /* count, stamp afterwards */,
     uint32_t touched[3] /* triangle; 0 the floor, 1 corner, 2 edge, 3 face; which of three, else 0 */);
@@ -186,7 +188,7 @@ uint32_t mandrikelo_max_height(const double *mesh, size_t mesh_len, const double
  * touches. 0 <= rc <= r, else 8: rc 0 is a flat end, rc = r a ball. */
 uint32_t mandrikelo_max_bull(const double *mesh, size_t mesh_len, const double measures[6], const uint32_t sizes[3],
     const uint32_t *starts, size_t starts_len, const uint32_t *members, size_t members_len,
-    uint32_t *marks, size_t marks_len, uint32_t stamp,
+    const double *boxes, size_t boxes_len, uint32_t *marks, size_t marks_len, uint32_t stamp,
     double px, double py, double r, double rc,
     double found[1], uint32_t counts[2], uint32_t touched[3]);
 
@@ -194,7 +196,7 @@ uint32_t mandrikelo_max_bull(const double *mesh, size_t mesh_len, const double m
  * above, in any order, and they may overlap: else 8. */
 uint32_t mandrikelo_max_sections(const double *mesh, size_t mesh_len, const double measures[6], const uint32_t sizes[3],
     const uint32_t *starts, size_t starts_len, const uint32_t *members, size_t members_len,
-    uint32_t *marks, size_t marks_len, uint32_t stamp,
+    const double *boxes, size_t boxes_len, uint32_t *marks, size_t marks_len, uint32_t stamp,
     double px, double py, const double *sections, size_t sections_len,
     double found[1], uint32_t counts[2], uint32_t touched[3]);
 
@@ -205,14 +207,14 @@ uint32_t mandrikelo_max_sections(const double *mesh, size_t mesh_len, const doub
  * 0 <= rc <= r. */
 uint32_t mandrikelo_bull_chord_clear(const double *mesh, size_t mesh_len, const double measures[6], const uint32_t sizes[3],
     const uint32_t *starts, size_t starts_len, const uint32_t *members, size_t members_len,
-    uint32_t *marks, size_t marks_len, uint32_t stamp,
+    const double *boxes, size_t boxes_len, uint32_t *marks, size_t marks_len, uint32_t stamp,
     double ax, double ay, double az, double bx, double by, double bz, double r, double rc, double lift,
     uint32_t counts[3] /* 0 none, 1 clear, 2 blocked; count; stamp afterwards */);
 
 /* The same for a tool of sections, as in mandrikelo_max_sections. */
 uint32_t mandrikelo_sections_chord_clear(const double *mesh, size_t mesh_len, const double measures[6], const uint32_t sizes[3],
     const uint32_t *starts, size_t starts_len, const uint32_t *members, size_t members_len,
-    uint32_t *marks, size_t marks_len, uint32_t stamp,
+    const double *boxes, size_t boxes_len, uint32_t *marks, size_t marks_len, uint32_t stamp,
     double ax, double ay, double az, double bx, double by, double bz, double lift,
     const double *sections, size_t sections_len,
     uint32_t counts[3]);
@@ -241,11 +243,11 @@ uint32_t mandrikelo_sections_chord_clear(const double *mesh, size_t mesh_len, co
  * the runs. Runs that meet at one z are joined. What suffices for levels is 5 n; for runs begin with 50,000 and double it after 13.
  * Levels and runs are zeroed over their whole length, so far too large a table can cost more than the plan.
  *
- * Refusals in their order: 1, 9, 7 (every cell and every triangle, no mark), 11, 10, 12, 13. A count over 4,294,967,295 is told as
+ * Refusals in their order: 1, 23, 9, 7 (every cell and every triangle, no mark), 11, 10, 12, 13. A count over 4,294,967,295 is told as
  * 4,294,967,295; only the rows of 65,536 levels of 65,536 rows each, or runs in a table of 172 GB, could come to it. */
 uint32_t mandrikelo_plan(const double *mesh, size_t mesh_len, const double measures[6], const uint32_t sizes[3],
     const uint32_t *starts, size_t starts_len, const uint32_t *members, size_t members_len,
-    uint32_t *marks, size_t marks_len,
+    const double *boxes, size_t boxes_len, uint32_t *marks, size_t marks_len,
     const double parameters[7] /* tolerance, level tolerance, stepover, stock to leave, stock bottom, stock top, cutting length */,
     uint32_t axis /* 0 X, 1 Y, else 9 */,
     double *levels, size_t levels_len, double *runs, size_t runs_len,

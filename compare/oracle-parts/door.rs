@@ -79,17 +79,17 @@ impl Grid {
     }
     /// The same from tables that were handed over. A cell whose stretch does not stand is left empty: no accepted question
     /// reaches it.
-    pub fn from_tables(mesh: &SurfaceMesh, measures: &[f64; 6], sizes: &[u32; 3], starts: &[u32], members: &[u32]) -> Self {
-        let least = |t: &[Vec3; 3], k: usize| first(first(t[0][k], t[1][k], |a, b| b < a), t[2][k], |a, b| b < a);
-        let most = |t: &[Vec3; 3], k: usize| first(first(t[0][k], t[1][k], |a, b| a < b), t[2][k], |a, b| a < b);
-        let boxed = |t: &[Vec3; 3]| Tri { p: *t, min: [0, 1].map(|k| least(t, k)), max: [0, 1, 2].map(|k| most(t, k)) };
+    pub fn from_tables(
+        mesh: &SurfaceMesh, measures: &[f64; 6], sizes: &[u32; 3], starts: &[u32], members: &[u32], boxes: &[f64],
+    ) -> Self {
+        let boxed = |(t, b): (&[Vec3; 3], &[f64])| Tri { p: *t, min: [b[0], b[1]], max: [b[2], b[3], b[4]] };
         let stretch = |c: usize| {
             let (from, to) = (starts[c] as usize, starts[c + 1] as usize);
             if from <= to && to <= members.len() { members[from..to].to_vec() } else { vec![] }
         };
         let dims = [sizes[1] as usize, sizes[2] as usize];
         Grid(Index {
-            tris: mesh.triangles.iter().map(boxed).collect(),
+            tris: mesh.triangles.iter().zip(boxes.chunks_exact(5)).map(boxed).collect(),
             origin: [measures[0], measures[1]],
             cell: measures[2],
             dims,
@@ -101,6 +101,10 @@ impl Grid {
     /// Origin x, origin y, cell, floor, eps.
     pub fn measures(&self) -> [f64; 5] {
         [self.0.origin[0], self.0.origin[1], self.0.cell, self.0.floor, self.0.eps]
+    }
+    /// Low x, low y, high x, high y and high z of each triangle, as the index keeps them.
+    pub fn boxes(&self) -> Vec<f64> {
+        self.0.tris.iter().flat_map(|t| [t.min[0], t.min[1], t.max[0], t.max[1], t.max[2]]).collect()
     }
     /// Columns, rows.
     pub fn dims(&self) -> [usize; 2] {

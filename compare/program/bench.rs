@@ -111,7 +111,7 @@ macro_rules! ask {
         unsafe {
             raw::$door(
                 $bed.mesh.as_ptr(), $bed.mesh.len(), h.measures.as_ptr(), h.sizes.as_ptr(), h.starts.as_ptr(), h.starts.len(),
-                h.members.as_ptr(), h.members.len(), $marks.as_mut_ptr(), $marks.len(), $stamp, $($more,)* counts.as_mut_ptr(), $($touched,)?
+                h.members.as_ptr(), h.members.len(), h.boxes.as_ptr(), h.boxes.len(), $marks.as_mut_ptr(), $marks.len(), $stamp, $($more,)* counts.as_mut_ptr(), $($touched,)?
             )
         };
         counts
@@ -248,6 +248,7 @@ fn readers() {
 fn build(bed: &Bed) {
     let (as_shipped, as_doc) = (shipped::surface(&bed.mesh), doc::surface(&bed.mesh));
     let (mut starts, mut members) = (vec![0; bed.handed.starts.len()], vec![0; bed.handed.members.len()]);
+    let mut boxes = vec![0.; bed.handed.boxes.len()];
     let (mut measures, mut sizes, mut bad) = ([0.; 6], [0; 3], [0; 2]);
     let (mut kept, mut kept_doc) = (None, None);
     row(
@@ -257,7 +258,7 @@ fn build(bed: &Bed) {
                 black_box(unsafe {
                     raw::mandrikelo_build(
                         bed.mesh.as_ptr(), bed.mesh.len(), FLOOR, RADIUS, starts.as_mut_ptr(), starts.len(),
-                        members.as_mut_ptr(), members.len(), measures.as_mut_ptr(), sizes.as_mut_ptr(), bad.as_mut_ptr(),
+                        members.as_mut_ptr(), members.len(), boxes.as_mut_ptr(), boxes.len(), measures.as_mut_ptr(), sizes.as_mut_ptr(), bad.as_mut_ptr(),
                     )
                 });
             },
@@ -463,6 +464,7 @@ fn plans() {
         let (mut levels, mut runs) = (vec![0.; 500], vec![0.; 100_000]);
         let mut lengths = [0.; 2];
         let (mut starts, mut members) = (bed.handed.starts.clone(), bed.handed.members.clone());
+        let mut boxes = bed.handed.boxes.clone();
         let (mut measures, mut sizes) = ([0.; 6], [0; 3]);
         let name = format!("build and plan, {} triangles, stepover {stepover}", bed.mesh.len() / 9);
         row(
@@ -475,11 +477,11 @@ fn plans() {
                     black_box(unsafe {
                         raw::mandrikelo_build(
                             bed.mesh.as_ptr(), bed.mesh.len(), FLOOR, RADIUS, starts.as_mut_ptr(), starts.len(),
-                            members.as_mut_ptr(), members.len(), measures.as_mut_ptr(), sizes.as_mut_ptr(), bad.as_mut_ptr(),
+                            members.as_mut_ptr(), members.len(), boxes.as_mut_ptr(), boxes.len(), measures.as_mut_ptr(), sizes.as_mut_ptr(), bad.as_mut_ptr(),
                         );
                         raw::mandrikelo_plan(
                             bed.mesh.as_ptr(), bed.mesh.len(), measures.as_ptr(), sizes.as_ptr(), starts.as_ptr(),
-                            starts.len(), members.as_ptr(), members.len(), marks.as_mut_ptr(), marks.len(),
+                            starts.len(), members.as_ptr(), members.len(), boxes.as_ptr(), boxes.len(), marks.as_mut_ptr(), marks.len(),
                             parameters.as_ptr(), 0, l, 500, r, 100_000, lengths.as_mut_ptr(), counts.as_mut_ptr(),
                         )
                     });

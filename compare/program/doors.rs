@@ -25,36 +25,36 @@ pub mod raw {
         ) -> bool;
         pub fn mandrikelo_build(
             mesh: *const f64, mesh_len: usize, floor: f64, r: f64, starts: *mut u32, starts_len: usize, members: *mut u32,
-            members_len: usize, measures: *mut f64, sizes: *mut u32, bad: *mut u32,
+            members_len: usize, boxes: *mut f64, boxes_len: usize, measures: *mut f64, sizes: *mut u32, bad: *mut u32,
         ) -> u32;
         pub fn mandrikelo_max_height(
             mesh: *const f64, mesh_len: usize, measures: *const f64, sizes: *const u32, starts: *const u32, starts_len: usize,
-            members: *const u32, members_len: usize, marks: *mut u32, marks_len: usize, stamp: u32, px: f64, py: f64, qx: f64,
+            members: *const u32, members_len: usize, boxes: *const f64, boxes_len: usize, marks: *mut u32, marks_len: usize, stamp: u32, px: f64, py: f64, qx: f64,
             qy: f64, r: f64, found: *mut f64, counts: *mut u32, touched: *mut u32,
         ) -> u32;
         pub fn mandrikelo_max_bull(
             mesh: *const f64, mesh_len: usize, measures: *const f64, sizes: *const u32, starts: *const u32, starts_len: usize,
-            members: *const u32, members_len: usize, marks: *mut u32, marks_len: usize, stamp: u32, px: f64, py: f64, r: f64,
+            members: *const u32, members_len: usize, boxes: *const f64, boxes_len: usize, marks: *mut u32, marks_len: usize, stamp: u32, px: f64, py: f64, r: f64,
             rc: f64, found: *mut f64, counts: *mut u32, touched: *mut u32,
         ) -> u32;
         pub fn mandrikelo_max_sections(
             mesh: *const f64, mesh_len: usize, measures: *const f64, sizes: *const u32, starts: *const u32, starts_len: usize,
-            members: *const u32, members_len: usize, marks: *mut u32, marks_len: usize, stamp: u32, px: f64, py: f64,
+            members: *const u32, members_len: usize, boxes: *const f64, boxes_len: usize, marks: *mut u32, marks_len: usize, stamp: u32, px: f64, py: f64,
             sections: *const f64, sections_len: usize, found: *mut f64, counts: *mut u32, touched: *mut u32,
         ) -> u32;
         pub fn mandrikelo_bull_chord_clear(
             mesh: *const f64, mesh_len: usize, measures: *const f64, sizes: *const u32, starts: *const u32, starts_len: usize,
-            members: *const u32, members_len: usize, marks: *mut u32, marks_len: usize, stamp: u32, ax: f64, ay: f64, az: f64,
+            members: *const u32, members_len: usize, boxes: *const f64, boxes_len: usize, marks: *mut u32, marks_len: usize, stamp: u32, ax: f64, ay: f64, az: f64,
             bx: f64, by: f64, bz: f64, r: f64, rc: f64, lift: f64, counts: *mut u32,
         ) -> u32;
         pub fn mandrikelo_sections_chord_clear(
             mesh: *const f64, mesh_len: usize, measures: *const f64, sizes: *const u32, starts: *const u32, starts_len: usize,
-            members: *const u32, members_len: usize, marks: *mut u32, marks_len: usize, stamp: u32, ax: f64, ay: f64, az: f64,
+            members: *const u32, members_len: usize, boxes: *const f64, boxes_len: usize, marks: *mut u32, marks_len: usize, stamp: u32, ax: f64, ay: f64, az: f64,
             bx: f64, by: f64, bz: f64, lift: f64, sections: *const f64, sections_len: usize, counts: *mut u32,
         ) -> u32;
         pub fn mandrikelo_plan(
             mesh: *const f64, mesh_len: usize, measures: *const f64, sizes: *const u32, starts: *const u32, starts_len: usize,
-            members: *const u32, members_len: usize, marks: *mut u32, marks_len: usize, parameters: *const f64, axis: u32,
+            members: *const u32, members_len: usize, boxes: *const f64, boxes_len: usize, marks: *mut u32, marks_len: usize, parameters: *const f64, axis: u32,
             levels: *mut f64, levels_len: usize, runs: *mut f64, runs_len: usize, lengths: *mut f64, counts: *mut u32,
         ) -> u32;
         pub fn mandrikelo_read_job(
@@ -138,6 +138,7 @@ pub struct Handed {
     pub sizes: [u32; 3],
     pub starts: Vec<u32>,
     pub members: Vec<u32>,
+    pub boxes: Vec<f64>,
 }
 
 pub struct Built {
@@ -148,13 +149,15 @@ pub struct Built {
     pub bad: Lent<u32>,
 }
 
-pub fn build(mesh: &[f64], floor: f64, r: f64, starts: &mut Lent<u32>, members: &mut Lent<u32>) -> Built {
+pub fn build(
+    mesh: &[f64], floor: f64, r: f64, starts: &mut Lent<u32>, members: &mut Lent<u32>, boxes: &mut Lent<f64>,
+) -> Built {
     let mut measures = Lent::room(6, f64::GUARD);
     let (mut sizes, mut bad) = (Lent::room(3, u32::GUARD), Lent::room(2, u32::GUARD));
     let refusal = unsafe {
         mandrikelo_build(
-            mesh.as_ptr(), mesh.len(), floor, r, starts.at(), starts.len(), members.at(), members.len(), measures.at(), sizes.at(),
-            bad.at(),
+            mesh.as_ptr(), mesh.len(), floor, r, starts.at(), starts.len(), members.at(), members.len(), boxes.at(), boxes.len(),
+            measures.at(), sizes.at(), bad.at(),
         )
     };
     Built { refusal, measures, sizes, bad }
@@ -203,7 +206,7 @@ pub fn max_height(mesh: &[f64], h: &Handed, marks: &mut Lent<u32>, stamp: u32, q
     let refusal = unsafe {
         mandrikelo_max_height(
             mesh.as_ptr(), mesh.len(), h.measures.as_ptr(), h.sizes.as_ptr(), h.starts.as_ptr(), h.starts.len(),
-            h.members.as_ptr(), h.members.len(), marks.at(), marks.len(), stamp, q[0], q[1], q[2], q[3], q[4], room.height.at(), room.counts.at(),
+            h.members.as_ptr(), h.members.len(), h.boxes.as_ptr(), h.boxes.len(), marks.at(), marks.len(), stamp, q[0], q[1], q[2], q[3], q[4], room.height.at(), room.counts.at(),
             room.touched.at(),
         )
     };
@@ -215,7 +218,7 @@ pub fn max_bull(mesh: &[f64], h: &Handed, marks: &mut Lent<u32>, stamp: u32, q: 
     let refusal = unsafe {
         mandrikelo_max_bull(
             mesh.as_ptr(), mesh.len(), h.measures.as_ptr(), h.sizes.as_ptr(), h.starts.as_ptr(), h.starts.len(),
-            h.members.as_ptr(), h.members.len(), marks.at(), marks.len(), stamp, q[0], q[1], q[2], q[3], room.height.at(), room.counts.at(),
+            h.members.as_ptr(), h.members.len(), h.boxes.as_ptr(), h.boxes.len(), marks.at(), marks.len(), stamp, q[0], q[1], q[2], q[3], room.height.at(), room.counts.at(),
             room.touched.at(),
         )
     };
@@ -227,7 +230,7 @@ pub fn max_sections(mesh: &[f64], h: &Handed, marks: &mut Lent<u32>, stamp: u32,
     let refusal = unsafe {
         mandrikelo_max_sections(
             mesh.as_ptr(), mesh.len(), h.measures.as_ptr(), h.sizes.as_ptr(), h.starts.as_ptr(), h.starts.len(),
-            h.members.as_ptr(), h.members.len(), marks.at(), marks.len(), stamp, q[0], q[1], sections.as_ptr(), sections.len(),
+            h.members.as_ptr(), h.members.len(), h.boxes.as_ptr(), h.boxes.len(), marks.at(), marks.len(), stamp, q[0], q[1], sections.as_ptr(), sections.len(),
             room.height.at(), room.counts.at(),
             room.touched.at(),
         )
@@ -240,7 +243,7 @@ pub fn bull_chord_clear(mesh: &[f64], h: &Handed, marks: &mut Lent<u32>, stamp: 
     let refusal = unsafe {
         mandrikelo_bull_chord_clear(
             mesh.as_ptr(), mesh.len(), h.measures.as_ptr(), h.sizes.as_ptr(), h.starts.as_ptr(), h.starts.len(),
-            h.members.as_ptr(), h.members.len(), marks.at(), marks.len(), stamp, q[0], q[1], q[2], q[3], q[4], q[5], q[6], q[7],
+            h.members.as_ptr(), h.members.len(), h.boxes.as_ptr(), h.boxes.len(), marks.at(), marks.len(), stamp, q[0], q[1], q[2], q[3], q[4], q[5], q[6], q[7],
             q[8], counts.at(),
         )
     };
@@ -252,7 +255,7 @@ pub fn sections_chord_clear(mesh: &[f64], h: &Handed, marks: &mut Lent<u32>, sta
     let refusal = unsafe {
         mandrikelo_sections_chord_clear(
             mesh.as_ptr(), mesh.len(), h.measures.as_ptr(), h.sizes.as_ptr(), h.starts.as_ptr(), h.starts.len(),
-            h.members.as_ptr(), h.members.len(), marks.at(), marks.len(), stamp, q[0], q[1], q[2], q[3], q[4], q[5], q[6],
+            h.members.as_ptr(), h.members.len(), h.boxes.as_ptr(), h.boxes.len(), marks.at(), marks.len(), stamp, q[0], q[1], q[2], q[3], q[4], q[5], q[6],
             sections.as_ptr(), sections.len(), counts.at(),
         )
     };
@@ -275,7 +278,7 @@ pub fn plan(
     let refusal = unsafe {
         mandrikelo_plan(
             mesh.as_ptr(), mesh.len(), h.measures.as_ptr(), h.sizes.as_ptr(), h.starts.as_ptr(), h.starts.len(),
-            h.members.as_ptr(), h.members.len(), marks.at(), marks.len(), parameters.as_ptr(), axis, levels.at(), levels.len(),
+            h.members.as_ptr(), h.members.len(), h.boxes.as_ptr(), h.boxes.len(), marks.at(), marks.len(), parameters.as_ptr(), axis, levels.at(), levels.len(),
             runs.at(), runs.len(), lengths.at(), counts.at(),
         )
     };

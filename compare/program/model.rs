@@ -56,10 +56,13 @@ pub fn frame(mesh: &[f64], floor: f64, r: f64) -> Frame {
 }
 
 /// The builder's refusal, or 0 and the frame.
-pub fn build(mesh: &[f64], floor: f64, r: f64, starts: usize, members: usize) -> Result<Frame, u32> {
+pub fn build(mesh: &[f64], floor: f64, r: f64, starts: usize, members: usize, boxes: usize) -> Result<Frame, u32> {
     let n = mesh.len() / 9;
     if mesh.len() % 9 != 0 || n > MOST {
         return Err(1);
+    }
+    if boxes != 5 * n {
+        return Err(23);
     }
     if n == 0 {
         return Err(3);
@@ -121,7 +124,7 @@ fn cells(h: &Handed, a: &Asked) -> Vec<usize> {
     span(1).flat_map(|y| span(0).map(move |x| y * columns + x)).collect()
 }
 
-/// Refusal 7 for these cells: stretches, members, coordinates and, where a stamp is handed, marks.
+/// Refusal 7 for these cells: stretches, members, coordinates, box numbers and, where a stamp is handed, marks.
 fn stretches_stand(mesh: &[f64], h: &Handed, cells: &[usize], marks: Option<(&[u32], u32)>) -> bool {
     cells.iter().all(|c| {
         let (from, to) = (h.starts[*c] as usize, h.starts[*c + 1] as usize);
@@ -130,7 +133,7 @@ fn stretches_stand(mesh: &[f64], h: &Handed, cells: &[usize], marks: Option<(&[u
             && h.members[from..to].iter().all(|i| {
                 let i = *i as usize;
                 i < mesh.len() / 9
-                    && mesh[9 * i..9 * i + 9].iter().all(|v| within(*v, 1e6))
+                    && mesh[9 * i..9 * i + 9].iter().chain(&h.boxes[5 * i..5 * i + 5]).all(|v| within(*v, 1e6))
                     && marks.is_none_or(|(marks, stamp)| marks[i] <= stamp)
             })
     })
@@ -163,6 +166,9 @@ pub fn question(mesh: &[f64], h: &Handed, marks: &[u32], stamp: u32, a: &Asked) 
     if mesh.len() % 9 != 0 || n > MOST || marks.len() != n {
         return 1;
     }
+    if h.boxes.len() != 5 * n {
+        return 23;
+    }
     if a.p.iter().chain(&a.q).any(|v| !within(*v, 3e6)) || !radius(a.radius) || !within(a.lift, 1e6) {
         return 2;
     }
@@ -183,11 +189,14 @@ fn reach(a: &Asked) -> f64 {
     }
 }
 
-/// A plan's refusal before it begins (1, 9, 7), or 0.
+/// A plan's refusal before it begins (1, 23, 9, 7), or 0.
 pub fn plan(mesh: &[f64], h: &Handed, marks: &[u32], parameters: &[f64; 7], axis: u32) -> u32 {
     let n = mesh.len() / 9;
     if mesh.len() % 9 != 0 || n > MOST || marks.len() != n {
         return 1;
+    }
+    if h.boxes.len() != 5 * n {
+        return 23;
     }
     let [tolerance, level, stepover, leave, bottom, top, cutting] = *parameters;
     let (floor, r) = (h.measures[3], h.measures[5]);
@@ -210,7 +219,7 @@ pub fn plan(mesh: &[f64], h: &Handed, marks: &[u32], parameters: &[f64; 7], axis
 /// What refusal 7 tests of a plan and of a list of moves: every cell and every triangle, and no mark.
 pub fn whole(mesh: &[f64], h: &Handed) -> bool {
     let all = || (0..(h.sizes[1] * h.sizes[2]) as usize).collect::<Vec<_>>();
-    header_stands(mesh, h) && stretches_stand(mesh, h, &all(), None) && mesh.iter().all(|v| within(*v, 1e6))
+    header_stands(mesh, h) && stretches_stand(mesh, h, &all(), None) && mesh.iter().chain(&h.boxes).all(|v| within(*v, 1e6))
 }
 
 /// A job as document 01 lays it out: floor, radius, mesh, questions; or the reader's refusal with the count that it tells, 0 but

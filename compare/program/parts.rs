@@ -405,6 +405,7 @@ fn make_build(rng: &mut Rng, case: u64, damage: bool) -> Case {
             4 => mesh.clear(),
             5 => room = 2,
             6 => room = 3,
+            7 => room = 5 + rng.below(4) as u32,
             _ => room = 4,
         }
     }
@@ -419,7 +420,7 @@ fn before(length: usize) -> Vec<u32> {
 fn compare_build(case: &Case, tally: &mut Tally) -> Verdict {
     let (mesh, place, room) = (case.f("mesh"), case.f("place"), case.u("room")[0]);
     let (floor, r) = (place[0], place[1]);
-    let (starts_room, members_room) = match model::build(mesh, floor, r, usize::MAX, usize::MAX) {
+    let (starts_room, members_room) = match model::build(mesh, floor, r, usize::MAX, usize::MAX, mesh.len() / 9 * 5) {
         Err(_) => (50, 50),
         Ok(frame) => {
             let total: usize = model::covers(mesh, &frame).iter().map(|c| (c[1] + 1 - c[0]) * (c[3] + 1 - c[2])).sum();
@@ -433,13 +434,23 @@ fn compare_build(case: &Case, tally: &mut Tally) -> Verdict {
             }
         }
     };
+    let five = mesh.len() / 9 * 5;
+    let boxes_room = match room {
+        5 => five + 1,
+        6 => five.saturating_sub(1),
+        7 => 0,
+        8 => five + 5,
+        _ => five,
+    };
     let (starts_before, members_before) = (before(starts_room), before(members_room));
+    let boxes_before = vec![f64::GUARD; boxes_room];
     let (mut starts, mut members) = (Lent::new(&starts_before), Lent::new(&members_before));
-    let built = doors::build(mesh, floor, r, &mut starts, &mut members);
-    if !(starts.intact() && members.intact() && built.measures.intact() && built.sizes.intact() && built.bad.intact()) {
+    let mut boxes = Lent::new(&boxes_before);
+    let built = doors::build(mesh, floor, r, &mut starts, &mut members, &mut boxes);
+    if !(starts.intact() && members.intact() && boxes.intact() && built.measures.intact() && built.sizes.intact() && built.bad.intact()) {
         return Err("a guard word was changed".into());
     }
-    let expected = model::build(mesh, floor, r, starts_room, members_room);
+    let expected = model::build(mesh, floor, r, starts_room, members_room, boxes_room);
     let refusal = expected.as_ref().err().copied().unwrap_or(0);
     tally.note(&format!("refusal {refusal}"), 1);
     tally.add("builds", 1);
@@ -452,7 +463,7 @@ fn compare_build(case: &Case, tally: &mut Tally) -> Verdict {
         return Err(format!("build: refusal {refusal} tells {:?}, the first bad number is {bad:?}", built.bad.get()));
     }
     if refusal != 0 {
-        if !starts.holds(&starts_before) || !members.holds(&members_before) {
+        if !starts.holds(&starts_before) || !members.holds(&members_before) || !boxes.holds(&boxes_before) {
             return Err(format!("build: refusal {refusal} touched a table"));
         }
         if !built.measures.holds(&[0.; 6]) || !built.sizes.holds(&[0; 3]) {
@@ -481,6 +492,10 @@ fn compare_build(case: &Case, tally: &mut Tally) -> Verdict {
             return Err(format!("{what}[{i}]: ours {}, the Rust's {}", ours[i], theirs[i]));
         }
     }
+    tally.add("box numbers", boxes.len() as u64);
+    for (i, (ours, theirs)) in boxes.get().iter().zip(grid.boxes()).enumerate() {
+        agree(&format!("box of triangle {} number {}", i / 5, i % 5), *ours, theirs)?;
+    }
     Ok(())
 }
 
@@ -501,13 +516,14 @@ fn flattened(grid: &Grid, starts: &mut [u32], members: &mut [u32]) -> usize {
 
 /// An index as the oracle makes it, in document 01's form; nothing where the builder refuses.
 pub fn handed(mesh: &[f64], floor: f64, r: f64) -> Option<(Grid, Handed)> {
-    let frame = model::build(mesh, floor, r, usize::MAX, usize::MAX).ok()?;
+    let frame = model::build(mesh, floor, r, usize::MAX, usize::MAX, mesh.len() / 9 * 5).ok()?;
     let total: usize = model::covers(mesh, &frame).iter().map(|c| (c[1] + 1 - c[0]) * (c[3] + 1 - c[2])).sum();
     let grid = Grid::new(&door::surface(mesh), floor, r).ok()?;
     let (mut starts, mut members) = (vec![0; frame.columns * frame.rows + 1], vec![0; total]);
     flattened(&grid, &mut starts, &mut members);
     let sizes = [mesh.len() as u32 / 9, frame.columns as u32, frame.rows as u32];
-    Some((grid, Handed { measures: frame.measures, sizes, starts, members }))
+    let boxes = grid.boxes();
+    Some((grid, Handed { measures: frame.measures, sizes, starts, members, boxes }))
 }
 
 // Questions
@@ -523,7 +539,7 @@ pub fn damage_of(rng: &mut Rng, mesh: &[f64], h: &Handed) -> Vec<u32> {
             2 => rng.bits() as u32 as u64,
             _ => usual.saturating_sub(1),
         };
-        let kind = rng.below(9);
+        let kind = rng.below(11);
         let (at, value) = match kind {
             0 => {
                 let at = rng.below(6);
@@ -548,7 +564,18 @@ pub fn damage_of(rng: &mut Rng, mesh: &[f64], h: &Handed) -> Vec<u32> {
                 let at = rng.below(mesh.len() as u64);
                 (at, inputs::bad(rng, mesh[at as usize]).to_bits())
             }
-            _ => (0, mesh.len() as u64 - 1 - rng.below(9)),
+            8 => (0, mesh.len() as u64 - 1 - rng.below(9)),
+            9 => (0, rng.pick(&[0, 5 * n - 1, 5 * n + 1, 5 * n + 5, 5 * n - 5])),
+            _ => {
+                let at = rng.below(h.boxes.len() as u64);
+                let old = h.boxes[at as usize];
+                let new = match rng.below(3) {
+                    0 => inputs::neighbour(rng, old),
+                    1 => rng.pick(&[1e6, -1e6, 1_000_000.000_000_000_2, old + 1., old - 1., -0.]),
+                    _ => inputs::bad(rng, old),
+                };
+                (at, new.to_bits())
+            }
         };
         out.extend([kind as u32, at as u32, (value >> 32) as u32, value as u32]);
     }
@@ -570,6 +597,8 @@ pub fn damaged(damage: &[u32], mesh: &mut Vec<f64>, h: &mut Handed, marks: &mut 
             6 => marks.resize((value as usize).min(1 << 22), 0),
             7 if at < mesh.len() => mesh[at] = f64::from_bits(value),
             8 => mesh.truncate(value as usize),
+            9 => h.boxes.resize((value as usize).min(1 << 22), 0.),
+            10 if at < h.boxes.len() => h.boxes[at] = f64::from_bits(value),
             _ => {}
         }
     }
@@ -806,7 +835,7 @@ fn compare_questions(case: &Case, tally: &mut Tally, width: usize, asked: Questi
             continue;
         }
         if afresh {
-            grid = Grid::from_tables(&door::surface(&mesh), &h.measures, &h.sizes, &h.starts, &h.members);
+            grid = Grid::from_tables(&door::surface(&mesh), &h.measures, &h.sizes, &h.starts, &h.members, &h.boxes);
             afresh = false;
         }
         let (mut seen, mut now) = (marks.clone(), stamp);

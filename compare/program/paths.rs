@@ -335,7 +335,7 @@ fn compare(case: &Case, tally: &mut Tally) -> Verdict {
         return if kept { Ok(()) } else { Err(format!("look_over: refusal {wanted} touched the marks or has a verdict {:?}", finding.get())) };
     }
     if !damage.is_empty() {
-        grid = Grid::from_tables(&door::surface(&mesh), &h.measures, &h.sizes, &h.starts, &h.members);
+        grid = Grid::from_tables(&door::surface(&mesh), &h.measures, &h.sizes, &h.starts, &h.members, &h.boxes);
     }
     let (start, legs) = read(bytes).unwrap();
     let theirs = first_bad(&grid, marks.len(), h.measures[5], &Tool::new(tool), tolerance, start, &legs);

@@ -139,13 +139,13 @@ fn asked_over() -> &'static (Vec<f64>, Handed) {
     static OVER: std::sync::OnceLock<(Vec<f64>, Handed)> = std::sync::OnceLock::new();
     OVER.get_or_init(|| {
         let mesh = vec![0., 0., 2., 4., 0., 2., 0., 4., 2.];
-        let (mut starts, mut members) = (Lent::room(64, 0), Lent::room(64, 0));
-        let built = doors::build(&mesh, 0., 1., &mut starts, &mut members);
+        let (mut starts, mut members, mut boxes) = (Lent::room(64, 0), Lent::room(64, 0), Lent::room(5, 0.));
+        let built = doors::build(&mesh, 0., 1., &mut starts, &mut members, &mut boxes);
         assert_eq!(built.refusal, 0);
         let (m, s) = (built.measures.get(), built.sizes.get());
         let measures = std::array::from_fn(|k| m[k]);
-        let handed =
-            Handed { measures, sizes: [s[0], s[1], s[2]], starts: starts.get().to_vec(), members: members.get().to_vec() };
+        let (starts, members, boxes) = (starts.get().to_vec(), members.get().to_vec(), boxes.get().to_vec());
+        let handed = Handed { measures, sizes: [s[0], s[1], s[2]], starts, members, boxes };
         (mesh, handed)
     })
 }

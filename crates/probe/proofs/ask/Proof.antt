@@ -19,7 +19,7 @@ swept-height-requires c κs =
 
 returns : tie.Need-returns
 returns c =
-    let s = c .before .before .before .before .before .before .before .before .before in
+    let s = c .before .before .before .before .before .before .before .before .before .before in
     let e = c .before .before .before .swept-height .ensures in (
       ap (λ (w : Walk Best). w .value .height) (e .0) ∙ swept-value _ _ _ (s .pre .1) (s .args .r),
       marked-is _ _ _ _ _ (e .1) (ap (λ (w : Walk Best). w .marks) (e .0)) (swept-marks _ _ _ (s .pre .1) (s .args .r)),
