@@ -1,5 +1,5 @@
-/// hypot by document 02's request 6: the f64 nearest to the exact root of x*x + y*y, ties to even, plus infinity past the range and beside an infinity. libm's value is
-/// where the search begins; exact squares in 256 bits decide, so what comes out does not depend on it.
+/// hypot by document 02's request 6: the f64 nearest to the exact root of x*x + y*y, ties to even, plus infinity past the range and beside an infinity.
+/// libm's value is where the search begins; exact squares in 256 bits decide, so what comes out does not depend on it.
 pub fn exact_hypot(x: f64, y: f64) -> f64 {
     if x.is_infinite() || y.is_infinite() {
         return f64::INFINITY;
@@ -23,7 +23,7 @@ pub fn exact_hypot(x: f64, y: f64) -> f64 {
     while bits > a.to_bits() && (sum < middle(bits - 1) || sum == middle(bits - 1) && bits % 2 == 1) {
         bits -= 1;
     }
-    while sum > middle(bits) || sum == middle(bits) && bits % 2 == 1 {
+    while bits < f64::INFINITY.to_bits() && (sum > middle(bits) || sum == middle(bits) && bits % 2 == 1) {
         bits += 1;
     }
     f64::from_bits(bits)

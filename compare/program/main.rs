@@ -10,6 +10,7 @@
 mod bench;
 mod case;
 mod copies;
+mod distance;
 mod doors;
 mod halves;
 mod inputs;

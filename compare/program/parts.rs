@@ -158,6 +158,7 @@ pub const PARTS: &[Part] = &[
         unit: "plans",
         share: 20,
     },
+    crate::distance::PART,
     crate::halves::PART,
     crate::join::PART,
     crate::copies::PART,
