@@ -1,0 +1,104 @@
+//! A part as the questions and the plan want it: counted, in millimetres, with its floor and its radius.
+use crate::files::{examine, Content, Form, Seen, Verdict};
+use crate::trouble::Trouble;
+use crate::words::rounded;
+use clap::Args;
+use mandrikelo::{Index, Mesh, Question};
+use std::path::PathBuf;
+
+#[derive(Args)]
+pub struct Asked {
+    /// The part: an .stl file, binary or ASCII, or an .ftm job
+    #[arg(value_name = "PART")]
+    pub part: PathBuf,
+    /// Height of the floor, under which nothing is asked (of a job: the job's own if this is left out)
+    #[arg(long, value_name = "Z", allow_hyphen_values = true)]
+    pub floor: Option<f64>,
+    /// Radius of the tool (of a job: the job's own if this is left out)
+    #[arg(long, value_name = "R", allow_hyphen_values = true)]
+    pub radius: Option<f64>,
+    /// Multiply every coordinate: 1 as it stands, 25.4 for inches, 1000 for metres
+    #[arg(long, value_name = "FACTOR", allow_hyphen_values = true)]
+    pub scale: Option<f64>,
+}
+
+/// A part that was read and is whole.
+pub struct Part {
+    pub seen: Seen,
+    pub mesh: Mesh,
+    pub floor: f64,
+    pub radius: f64,
+    pub scale: f64,
+    pub questions: Vec<Question>,
+}
+
+pub fn open(asked: &Asked) -> Result<Part, Trouble> {
+    let (seen, content) = examine(&asked.part);
+    let shown = asked.part.display();
+    let (mesh, floor, radius, questions) = match content {
+        Content::Mesh(mesh) => (mesh, None, None, Vec::new()),
+        Content::Job(job) => (job.mesh, Some(job.floor), Some(job.radius), job.questions),
+        Content::Nothing => {
+            let what = format!("{shown}: {}", seen.verdict.words());
+            return Err(if matches!(seen.verdict, Verdict::Unreadable(_)) {
+                Trouble::use_of(what, seen.verdict.advice())
+            } else {
+                Trouble::refused(format!("{what}: it is not planned and not asked"), seen.verdict.advice())
+            });
+        }
+    };
+    if asked.scale.is_none() && seen.form != Some(Form::Job) {
+        unit(&mesh).map_or(Ok(()), |what| {
+            Err(Trouble::use_of(
+                format!("{shown}: {what}"),
+                "say --scale 1 if it is in millimetres, --scale 25.4 if in inches, --scale 1000 if in metres",
+            ))
+        })?;
+    }
+    let scale = asked.scale.unwrap_or(1.0);
+    if seen.form == Some(Form::Job) && scale != 1.0 {
+        let what = format!("{shown} is a job: its floor, radius and questions are in its own unit");
+        return Err(Trouble::use_of(what, "leave --scale out, or make the job anew from the part"));
+    }
+    if !(scale > 0.0 && scale.is_finite()) {
+        return Err(Trouble::use_of(format!("--scale {scale} is no factor"), "say 1, 25.4, 1000 or another number over 0"));
+    }
+    let mesh = if scale == 1.0 { mesh } else { Mesh::from_numbers(mesh.numbers().iter().map(|x| x * scale).collect()) };
+    let missing = |name: &str| Trouble::use_of(format!("{shown} is no job, so --{name} is needed"), "say it, or make a job of the part");
+    Ok(Part {
+        floor: asked.floor.or(floor).ok_or_else(|| missing("floor"))?,
+        radius: asked.radius.or(radius).ok_or_else(|| missing("radius"))?,
+        seen,
+        mesh,
+        scale,
+        questions,
+    })
+}
+
+/// What is said of a part whose size looks like metres or inches.
+fn unit(mesh: &Mesh) -> Option<String> {
+    let (low, high) = mesh.extent()?;
+    let size: Vec<f64> = (0..3).map(|k| high[k] - low[k]).collect();
+    let most = size.iter().copied().fold(0.0, f64::max);
+    let unit = match most {
+        most if most < 1.0 => "metres",
+        most if most < 10.0 => "inches",
+        _ => return None,
+    };
+    let size: Vec<String> = size.iter().map(|x| rounded(*x, 4)).collect();
+    Some(format!("it measures {}: that looks like {unit}", size.join(" by ")))
+}
+
+impl Part {
+    pub fn name(&self) -> String {
+        self.seen.path.file_name().map_or("?".into(), |name| crate::words::one_line(name.as_ref()))
+    }
+
+    pub fn index(&self) -> Result<Index<'_>, Trouble> {
+        Index::build(&self.mesh, self.floor, self.radius).map_err(|refusal| Trouble::planner(&self.name(), refusal))
+    }
+
+    pub fn extent(&self) -> ([f64; 3], [f64; 3]) {
+        self.mesh.extent().unwrap_or_default()
+    }
+}
