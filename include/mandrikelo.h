@@ -333,7 +333,7 @@ double mandrikelo_round_up(double x);
 double mandrikelo_max(double x, double y);        /* a NaN yields the other; if the two compare equal, the first */
 double mandrikelo_min(double x, double y);
 double mandrikelo_clamp_unit(double x);           /* held to 0..1; -0.0 and NaN stay */
-double mandrikelo_hypot(double x, double y);      /* the length of (x, y); infinite if either is */
+double mandrikelo_hypot(double x, double y);      /* the f64 nearest to the length of (x, y); infinite if either is */
 bool mandrikelo_total_less(double x, double y);   /* before in the total order */
 
 /* One triangle, as it stands, and any f64s: nothing is refused here, and what is no range of a question is worked out all the same. A
