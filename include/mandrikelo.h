@@ -311,6 +311,21 @@ uint32_t mandrikelo_read_job(const uint8_t *bytes, size_t bytes_len, double *mes
     double *questions, size_t questions_len, double measures[2] /* floor, radius */,
     uint32_t sizes[2] /* n, m; after 19 the whole triangles, 0 */);
 
+/* Whole micrometres: version 2 of the job file, the index of such a mesh and the set-up height. Every number is an i32; coordinates, points and floor of magnitude at
+ * most 1,000,000,000, radii 0 to 1,000,000,000 (2, 4 and 7 for these ranges; 5 only if no cell fits). The cell is the smallest power of two from 1 to 2^31 that
+ * `starts` and the limits of 5 have room for. The set-up height is the floor, or the highest top over it of any triangle whose box meets the question's box grown by
+ * r, touching included; over a built index it and the boxes that meet are those of a plain walk over the whole mesh. */
+uint32_t mandrikelo_read_job_um(const uint8_t *bytes, size_t bytes_len, int32_t *mesh, size_t mesh_len,
+    int32_t *questions, size_t questions_len, int32_t measures[2] /* floor, radius */,
+    uint32_t sizes[2] /* n, m; after 19 the whole triangles, 0 */);
+uint32_t mandrikelo_build_um(const int32_t *mesh, size_t mesh_len, int32_t floor, int32_t r, uint32_t *starts, size_t starts_len,
+    uint32_t *members, size_t members_len, int32_t measures[4] /* origin x, origin y, floor, r */,
+    uint32_t sizes[4] /* n, columns, rows, cell */, uint32_t bad[2] /* after 4 the triangle and which of its nine numbers */);
+uint32_t mandrikelo_setup_height(const int32_t *mesh, size_t mesh_len, const int32_t measures[4], const uint32_t sizes[4],
+    const uint32_t *starts, size_t starts_len, const uint32_t *members, size_t members_len, uint32_t *marks, size_t marks_len,
+    uint32_t stamp, int32_t px, int32_t py, int32_t qx, int32_t qy, int32_t r, int32_t height[1],
+    uint32_t counts[3] /* looked at, stamp afterwards, boxes that meet */);
+
 /* Writes such a file from a mesh, 9 numbers a triangle, and questions, 5 each. The job's bytes stand first in `bytes`, those beyond it
  * keep what they held, and `size` gets the number of its bytes, 30 + 72 n + 40 m. Numbers may be of any magnitude, but finite. Refusals
  * in their order: 1 (also: questions_len is no multiple of 5), 18 (no triangle, or over 65,536 questions), 20 (floor, radius, mesh or

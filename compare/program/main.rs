@@ -24,6 +24,7 @@ mod sheet;
 mod shipped;
 mod stl;
 mod touched;
+mod um;
 mod writer;
 include!(concat!(env!("OUT"), "/missing.rs"));
 

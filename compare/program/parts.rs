@@ -178,6 +178,7 @@ pub const PARTS: &[Part] = &[
     crate::stl::PART,
     crate::touched::CONTACTS,
     crate::touched::QUESTIONS,
+    crate::um::PART,
 ];
 
 /// Questions asked of one mesh.
