@@ -1,0 +1,3 @@
+pub mod Lifting
+pub mod Topping
+pub mod Afresh
