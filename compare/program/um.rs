@@ -31,7 +31,7 @@ pub const PART: Part = Part {
     compare,
     widths: &[("mesh", 9), ("questions", 5), ("damage", 3)],
     unit: "meshes in micrometres",
-    share: 500,
+    share: 100,
 };
 
 impl Word for i32 {

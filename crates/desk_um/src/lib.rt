@@ -129,6 +129,13 @@ fn wide(x: u32) -> usize
     x as usize
 }
 
+// A cell from C, as the header has it.
+fn long(x: u32) -> u64
+    ensures { λ n. ⌜ n ≡ x ⌝ }
+{
+    x as u64
+}
+
 // The header that C hands over in two arrays.
 fn header_from(measures: &[i32; 4], sizes: &[u32; 4]) -> Header
     ensures { λ h. ⌜ h ≡ headerFrom (now (measures .entry)) (now (sizes .entry)) ⌝ }
@@ -145,7 +152,7 @@ fn header_from(measures: &[i32; 4], sizes: &[u32; 4]) -> Header
         r: micro::count(r),
         columns: wide(sizes[1]),
         rows: wide(sizes[2]),
-        cell: sizes[3] as u64,
+        cell: long(sizes[3]),
     }
 }
 

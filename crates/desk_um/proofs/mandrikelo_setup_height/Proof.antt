@@ -21,4 +21,4 @@ returns c =
 pub mandrikelo-setup-height-spec : {M : Type 1} → statement M
 mandrikelo-setup-height-spec =
     tie.close
-    (tie.spec (λ c κs. tt) (λ c κs. tt) (λ c κs. tt) (λ c. search needs) number-requires returns)
+    (tie.spec (λ c κs. tt) (λ c κs. tt) (λ c κs. tt) number-requires (λ c. search needs) returns)
