@@ -160,6 +160,15 @@ uint32_t mandrikelo_build(const double *mesh, size_t mesh_len, double floor, dou
     double measures[6] /* origin x, origin y, cell, floor, eps, r */, uint32_t sizes[3] /* n, columns, rows */,
     uint32_t bad[2] /* after 4: the triangle, which of its nine numbers; else 0, 0 */);
 
+/* A part goes up on parallels: `amount`, of magnitude at most 1e6, is added to every z of the mesh, and the index stays an index of it, the
+ * same that mandrikelo_build would make of the raised mesh with the same floor and r: `boxes` gets the new high z of each triangle, `raised`
+ * and `raised_sizes` the new header, and starts and members stay as they are. A refused call changes neither mesh nor boxes and leaves
+ * zeros in the header. Refusals in their order: 1, 23, 2 (amount), 7 (measures and sizes, or a mesh that 4 refuses), 4 (a new z). */
+uint32_t mandrikelo_raise(double *mesh, size_t mesh_len, double *boxes, size_t boxes_len,
+    const double measures[6], const uint32_t sizes[3], double amount,
+    double raised[6] /* as measures */, uint32_t raised_sizes[3] /* as sizes */,
+    uint32_t bad[2] /* after 4: the triangle, which of its nine numbers; else 0, 0 */);
+
 /* Questions to an index that mandrikelo_build made of the same mesh. `marks` has one entry a triangle (marks_len is n), all 0 before the
  * first question, and is carried with the stamp (0 at first) from question to question; a call sets the marks of the triangles that it
  * looked at to the new stamp, one more than the one handed; after 4,294,967,295 all marks are wiped and it is 1. Threads that ask at
