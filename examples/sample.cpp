@@ -20,7 +20,6 @@ struct Part {
     std::vector<std::uint32_t> starts, members, marks; // of these only the marks are written by questions
     double measures[6];
     std::uint32_t sizes[3];
-
     std::size_t n() const { return mesh.size() / 9; }
 
     // A face of four corners, as two triangles.

@@ -19,6 +19,7 @@ mod model;
 mod moves;
 mod parts;
 mod paths;
+mod raised;
 mod rng;
 mod sheet;
 mod shipped;

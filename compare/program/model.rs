@@ -91,8 +91,8 @@ pub fn first_bad(mesh: &[f64]) -> [u32; 2] {
     [k / 9, k % 9]
 }
 
-/// Whether the header and starts stand: refusal 7's first part.
-fn header_stands(mesh: &[f64], h: &Handed) -> bool {
+/// Whether a header is in its ranges.
+pub fn header_in_ranges(h: &Handed) -> bool {
     let [x, y, cell, floor, eps, r] = h.measures;
     let [n, columns, rows] = h.sizes.map(|s| s as usize);
     (1..=MOST).contains(&n)
@@ -104,8 +104,12 @@ fn header_stands(mesh: &[f64], h: &Handed) -> bool {
         && (1..=65_536).contains(&columns)
         && (1..=65_536).contains(&rows)
         && columns * rows <= 1_048_576
-        && n == mesh.len() / 9
-        && h.starts.len() > columns * rows
+}
+
+/// Whether the header and starts stand: refusal 7's first part.
+fn header_stands(mesh: &[f64], h: &Handed) -> bool {
+    let [n, columns, rows] = h.sizes.map(|s| s as usize);
+    header_in_ranges(h) && n == mesh.len() / 9 && h.starts.len() > columns * rows
 }
 
 /// The cells of a question, row by row; none if it lies outside.

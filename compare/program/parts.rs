@@ -179,6 +179,7 @@ pub const PARTS: &[Part] = &[
     crate::touched::CONTACTS,
     crate::touched::QUESTIONS,
     crate::um::PART,
+    crate::raised::PART,
 ];
 
 /// Questions asked of one mesh.
