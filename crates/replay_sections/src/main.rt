@@ -377,6 +377,13 @@ fn heights_part(a: Answer, b: Answer) -> u64 {
         vectors::bits_of(b.height),
     )
         | unlike(wide(a.count), wide(b.count), wide(a.stamp), wide(b.stamp))
+        | touched_part(a, b)
+}
+
+// What was touched: the triangle, the kind, and which of three.
+fn touched_part(a: Answer, b: Answer) -> u64 {
+    vectors::unlike(wide(a.triangle), wide(b.triangle))
+        | unlike(wide(a.kind), wide(b.kind), wide(a.which), wide(b.which))
 }
 
 fn rulings_part(a: Ruling, b: Ruling) -> u64 {
