@@ -1,34 +1,22 @@
-//! One table: nanoseconds a call and how many times the Rust's as shipped. Ours, camlib as shipped and camlib with document 01's
-//! numbers take the same inputs in the same process, in turn, round after round; a cell is the median of the rounds.
+//! The first table: nanoseconds a call and how many times the Rust's as shipped. Ours, camlib as shipped and camlib with document 01's
+//! numbers take the same inputs in the same process, in turn, round after round; a cell is the median of the rounds. The others stand in
+//! bench_parts.rs.
 
 use crate::MISSING;
-use crate::doors::{Handed, raw};
+use crate::ask;
+use crate::bed::{Asked, Bed, Kind, Room, medians, now};
+use crate::bench_parts;
+use crate::doors::raw;
 use crate::inputs;
 use crate::rng::Rng;
+use crate::solids::plate;
 use crate::stl;
 use oracle_doc::flat::door as doc;
 use oracle_doc::numbers::Numbers;
 use oracle_shipped::flat::door as shipped;
 use std::hint::black_box;
 
-#[repr(C)]
-struct Timespec {
-    seconds: i64,
-    nanoseconds: i64,
-}
-
-unsafe extern "C" {
-    fn clock_gettime(clock: i32, time: *mut Timespec) -> i32;
-}
-
-/// Nanoseconds that this thread has had of a processor: what else runs on the machine does not count.
-fn now() -> f64 {
-    let mut time = Timespec { seconds: 0, nanoseconds: 0 };
-    unsafe { clock_gettime(3, &mut time) };
-    time.seconds as f64 * 1e9 + time.nanoseconds as f64
-}
-
-fn used<T>(answer: T) {
+pub fn used<T>(answer: T) {
     black_box(answer);
 }
 
@@ -38,87 +26,59 @@ fn wanted(name: &str) -> bool {
     words.is_empty() || words.iter().any(|w| name.contains(w.as_str()))
 }
 
+/// `bench`, `bench WORD..` for rows of the first table, `bench parts ..` and `bench growth` for the others.
+pub fn run() {
+    let words: Vec<String> = std::env::args().skip(2).collect();
+    match words.first().map(String::as_str) {
+        Some("parts") => bench_parts::run(&words[1..]),
+        Some("growth") => bench_parts::growth(),
+        Some(_) => plates(),
+        None => {
+            plates();
+            bench_parts::run(&[]);
+            bench_parts::growth();
+        }
+    }
+}
+
 /// One row: each closure makes `calls` calls. Rounds go on until `rounds` are done and a quarter of a second is spent.
 fn row(name: &str, doors: &[&str], rounds: usize, calls: usize, each: [&mut dyn FnMut(); 3]) {
     if doors.iter().any(|d| MISSING.contains(d)) || !wanted(name) {
         return;
     }
-    let mut times = [vec![], vec![], vec![]];
-    let first = now();
-    let mut round = 0;
-    while round <= rounds || now() - first < 2.5e8 {
-        for k in 0..3 {
-            let begun = now();
-            each[k]();
-            // The first round warms up.
-            if round > 0 {
-                times[k].push((now() - begun) / calls as f64);
-            }
-        }
-        round += 1;
-    }
-    let [ours, as_shipped, doc] = times.map(|mut t| {
-        t.sort_by(f64::total_cmp);
-        t[t.len() / 2]
-    });
-    let shown = |ns: f64| if ns < 1e4 { format!("{ns:.1}") } else { format!("{ns:.0}") };
-    println!(
-        "| {name} | {} | {} | {} | {:.2} | {:.2} |",
-        shown(ours), shown(as_shipped), shown(doc), ours / as_shipped, ours / doc
-    );
+    let [ours, as_shipped, doc] = medians(rounds, 2.5e8, calls, each);
+    println!("{}", line(name, ours, as_shipped, Some(doc)));
 }
 
-/// A plate of 20,000 triangles with bosses on it, and what lies on each side of it.
-struct Bed {
-    mesh: Vec<f64>,
-    handed: Handed,
-    shipped: shipped::Grid,
-    doc: doc::Grid,
+/// A line of the table; `compare/turns` reads it.
+pub fn line(name: &str, ours: f64, as_shipped: f64, doc: Option<f64>) -> String {
+    let shown = |ns: f64| if ns < 1e4 { format!("{ns:.1}") } else { format!("{ns:.0}") };
+    let (ns, ratio) = doc.map_or(("-".into(), "-".into()), |doc| (shown(doc), format!("{:.2}", ours / doc)));
+    format!("| {name} | {} | {} | {ns} | {:.2} | {ratio} |", shown(ours), shown(as_shipped), ours / as_shipped)
 }
 
 const FLOOR: f64 = -1.;
 const RADIUS: f64 = 3.;
 
-/// Squares of side 1, two triangles each, `side` to an axis; every so often a square lies higher, with walls around it.
-fn plate(side: usize, walls: usize) -> Vec<f64> {
-    let mut rng = Rng::new(7, "plate", side as u64);
-    let mut mesh = vec![];
-    for i in 0..side {
-        for j in 0..side {
-            let (x, y, z) = (i as f64, j as f64, if rng.one_in(40) { 1.5 } else { 1. });
-            mesh.extend([x, y, z, x + 1., y, z, x + 1., y + 1., z, x, y, z, x + 1., y + 1., z, x, y + 1., z]);
-        }
-    }
-    for _ in 0..walls {
-        let (x, y) = (rng.below(side as u64) as f64, rng.below(side as u64) as f64);
-        mesh.extend([x, y, 1., x + 1., y, 1., x + 1., y, 1.5, x, y, 1., x, y + 1., 1., x, y + 1., 1.5]);
-    }
-    mesh
-}
-
+/// A plate and its index.
 fn bed(mesh: Vec<f64>) -> Bed {
-    let (_, handed) = crate::parts::handed(&mesh, FLOOR, RADIUS).unwrap();
-    let shipped = shipped::Grid::new(&shipped::surface(&mesh), FLOOR, RADIUS).unwrap();
-    let doc = doc::Grid::new(&doc::surface(&mesh), FLOOR, RADIUS).unwrap();
-    Bed { mesh, handed, shipped, doc }
+    Bed::new(mesh, FLOOR, RADIUS)
 }
 
-/// One question of ours over the bed; `$more` are the question's own arguments.
-macro_rules! ask {
-    ($bed:expr, $door:ident, $marks:expr, $stamp:expr, $($more:expr),* $(; $touched:expr)?) => {{
-        let h = &$bed.handed;
-        let mut counts = [0u32; 3];
-        unsafe {
-            raw::$door(
-                $bed.mesh.as_ptr(), $bed.mesh.len(), h.measures.as_ptr(), h.sizes.as_ptr(), h.starts.as_ptr(), h.starts.len(),
-                h.members.as_ptr(), h.members.len(), h.boxes.as_ptr(), h.boxes.len(), $marks.as_mut_ptr(), $marks.len(), $stamp, $($more,)* counts.as_mut_ptr(), $($touched,)?
-            )
-        };
-        counts
-    }};
+/// One kind of question, asked again and again.
+fn asked(name: &str, bed: &Bed, kind: Kind, rounds: usize, questions: &[Asked]) {
+    let (mut a, mut b, mut c) = (bed.seen(), bed.seen(), bed.seen());
+    row(
+        name, &[kind.door()], rounds, questions.len(),
+        [
+            &mut || questions.iter().for_each(|q| used(bed.ours(kind, q, &mut a))),
+            &mut || questions.iter().for_each(|q| used(bed.as_shipped(kind, q, &mut b))),
+            &mut || questions.iter().for_each(|q| used(bed.as_doc(kind, q, &mut c))),
+        ],
+    );
 }
 
-pub fn run() {
+fn plates() {
     println!("Medians of interleaved rounds, by the thread's processor clock. Lent tables are not cleared before a call; marks and stamp carry on from call to call.");
     println!("The height questions' results go to arrays on the stack. camlib's own allocation is in its times, its freeing is not.");
     println!();
@@ -247,21 +207,12 @@ fn readers() {
 
 fn build(bed: &Bed) {
     let (as_shipped, as_doc) = (shipped::surface(&bed.mesh), doc::surface(&bed.mesh));
-    let (mut starts, mut members) = (vec![0; bed.handed.starts.len()], vec![0; bed.handed.members.len()]);
-    let mut boxes = vec![0.; bed.handed.boxes.len()];
-    let (mut measures, mut sizes, mut bad) = ([0.; 6], [0; 3], [0; 2]);
+    let mut room = Room::new(bed);
     let (mut kept, mut kept_doc) = (None, None);
     row(
         "build, 20,040 triangles", &["build"], 40, 1,
         [
-            &mut || {
-                black_box(unsafe {
-                    raw::mandrikelo_build(
-                        bed.mesh.as_ptr(), bed.mesh.len(), FLOOR, RADIUS, starts.as_mut_ptr(), starts.len(),
-                        members.as_mut_ptr(), members.len(), boxes.as_mut_ptr(), boxes.len(), measures.as_mut_ptr(), sizes.as_mut_ptr(), bad.as_mut_ptr(),
-                    )
-                });
-            },
+            &mut || used(room.build(bed)),
             // What the round before built is freed by the next assignment; that is the price of keeping it out of this one.
             &mut || {
                 std::mem::forget(kept.take());
@@ -275,126 +226,30 @@ fn build(bed: &Bed) {
     );
 }
 
-fn heights(bed: &Bed) {
-    let mut rng = Rng::new(3, "bench", 0);
-    let n = 1000;
-    let mut marks = vec![0u32; bed.mesh.len() / 9];
-    let (mut seen, mut seen_doc) = (marks.clone(), marks.clone());
-    let (mut stamp, mut s1, mut s2) = (0, 0, 0);
+/// Questions over the plate at one height, from random points to ends near them.
+fn lines(stream: u64, n: usize) -> impl Fn(f64) -> Vec<Asked> {
+    let mut rng = Rng::new(stream, "bench", 0);
     let points: Vec<[f64; 2]> = (0..n).map(|_| [rng.between(0., 100.), rng.between(0., 100.)]).collect();
     let ends: Vec<[f64; 2]> = points.iter().map(|p| [p[0] + rng.between(-5., 5.), p[1] + rng.between(-5., 5.)]).collect();
-    for (name, ends) in [("height at a point", &points), ("height along a line", &ends)] {
-        row(
-            name, &["max_height"], 40, n,
-            [
-                &mut || {
-                    for i in 0..n {
-                        let (p, q, mut z, mut on) = (points[i], ends[i], 0., [0; 3]);
-                        let counts = ask!(bed, mandrikelo_max_height, marks, stamp, p[0], p[1], q[0], q[1], RADIUS, &mut z; on.as_mut_ptr());
-                        stamp = counts[1];
-                        black_box(z);
-                    }
-                },
-                &mut || (0..n).for_each(|i| used(bed.shipped.max_height(points[i], ends[i], RADIUS, &mut seen, &mut s1))),
-                &mut || (0..n).for_each(|i| used(bed.doc.max_height(points[i], ends[i], RADIUS, &mut seen_doc, &mut s2))),
-            ],
-        );
-    }
+    move |z| points.iter().zip(&ends).map(|(p, q)| Asked([p[0], p[1], z], [q[0], q[1], z])).collect()
+}
+
+fn heights(bed: &Bed) {
+    let along = lines(3, 1000)(0.);
+    let points: Vec<Asked> = along.iter().map(|q| Asked(q.0, q.0)).collect();
+    asked("height at a point", bed, Kind::Height, 40, &points);
+    asked("height along a line", bed, Kind::Height, 40, &along);
 }
 
 fn tools(bed: &Bed) {
-    let mut rng = Rng::new(4, "bench", 0);
-    let n = 200;
-    let mut marks = vec![0u32; bed.mesh.len() / 9];
-    let (mut seen, mut seen_doc) = (marks.clone(), marks.clone());
-    let (mut stamp, mut s1, mut s2) = (0, 0, 0);
-    let points: Vec<[f64; 2]> = (0..n).map(|_| [rng.between(0., 100.), rng.between(0., 100.)]).collect();
-    let ends: Vec<[f64; 2]> = points.iter().map(|p| [p[0] + rng.between(-5., 5.), p[1] + rng.between(-5., 5.)]).collect();
-    let table = [0., 1., 2., 1., 4., 2.5, 2.5, 0., 12., 3., 5., 2.];
-    let (tool, tool_doc) = (shipped::Tool::new(&table), doc::Tool::new(&table));
-    row(
-        "max_bull", &["max_bull"], 20, n,
-        [
-            &mut || {
-                for p in &points {
-                    let (mut z, mut on) = (0., [0; 3]);
-                    stamp = ask!(bed, mandrikelo_max_bull, marks, stamp, p[0], p[1], RADIUS, 1., &mut z; on.as_mut_ptr())[1];
-                    black_box(z);
-                }
-            },
-            &mut || points.iter().for_each(|p| used(bed.shipped.max_bull(*p, RADIUS, 1., &mut seen, &mut s1))),
-            &mut || points.iter().for_each(|p| used(bed.doc.max_bull(*p, RADIUS, 1., &mut seen_doc, &mut s2))),
-        ],
-    );
-    row(
-        "max_sections, three", &["max_sections"], 10, n,
-        [
-            &mut || {
-                for p in &points {
-                    let (mut z, mut on) = (0., [0; 3]);
-                    stamp = ask!(bed, mandrikelo_max_sections, marks, stamp, p[0], p[1], table.as_ptr(), table.len(), &mut z; on.as_mut_ptr())[1];
-                    black_box(z);
-                }
-            },
-            &mut || points.iter().for_each(|p| used(bed.shipped.max_sections(*p, &tool, &mut seen, &mut s1))),
-            &mut || points.iter().for_each(|p| used(bed.doc.max_sections(*p, &tool_doc, &mut seen_doc, &mut s2))),
-        ],
-    );
+    let over = lines(4, 200);
+    asked("max_bull", bed, Kind::Bull, 20, &over(0.));
+    asked("max_sections, three", bed, Kind::Sections, 10, &over(0.));
     // Just over the plate: blocked by a boss, or clear after a look at all of them; and high over it, where no triangle counts.
-    for (name, z) in [("bull_chord_clear, low", 1.25), ("bull_chord_clear, high", 3.)] {
-        let of = |i: usize| ([points[i][0], points[i][1], z], [ends[i][0], ends[i][1], z]);
-        row(
-            name, &["bull_chord_clear"], 8, n,
-            [
-                &mut || {
-                    for i in 0..n {
-                        let (a, b) = of(i);
-                        stamp = ask!(
-                            bed, mandrikelo_bull_chord_clear, marks, stamp, a[0], a[1], a[2], b[0], b[1], b[2], RADIUS, 1., 0.
-                        )[2];
-                    }
-                },
-                &mut || {
-                    (0..n).for_each(|i| {
-                        used(bed.shipped.bull_chord_clear(of(i).0, of(i).1, RADIUS, 1., 0., &mut seen, &mut s1))
-                    })
-                },
-                &mut || {
-                    (0..n).for_each(|i| {
-                        used(bed.doc.bull_chord_clear(of(i).0, of(i).1, RADIUS, 1., 0., &mut seen_doc, &mut s2))
-                    })
-                },
-            ],
-        );
-    }
-    for (name, z) in [("sections_chord_clear, low", 1.25), ("sections_chord_clear, high", 3.)] {
-        let n = 50;
-        let of = |i: usize| ([points[i][0], points[i][1], z], [ends[i][0], ends[i][1], z]);
-        row(
-            name, &["sections_chord_clear"], 6, n,
-            [
-                &mut || {
-                    for i in 0..n {
-                        let (a, b) = of(i);
-                        stamp = ask!(
-                            bed, mandrikelo_sections_chord_clear, marks, stamp, a[0], a[1], a[2], b[0], b[1], b[2], 0.,
-                            table.as_ptr(), table.len()
-                        )[2];
-                    }
-                },
-                &mut || {
-                    (0..n).for_each(|i| {
-                        used(bed.shipped.sections_chord_clear(of(i).0, of(i).1, &tool, 0., &mut seen, &mut s1))
-                    })
-                },
-                &mut || {
-                    (0..n).for_each(|i| {
-                        used(bed.doc.sections_chord_clear(of(i).0, of(i).1, &tool_doc, 0., &mut seen_doc, &mut s2))
-                    })
-                },
-            ],
-        );
-    }
+    asked("bull_chord_clear, low", bed, Kind::BullChord, 8, &over(1.25));
+    asked("bull_chord_clear, high", bed, Kind::BullChord, 8, &over(3.));
+    asked("sections_chord_clear, low", bed, Kind::SectionsChord, 6, &over(1.25)[..50]);
+    asked("sections_chord_clear, high", bed, Kind::SectionsChord, 6, &over(3.)[..50]);
 }
 
 /// A list of 10,000 moves that all pass, looked over in one call, beside the same questions one by one.
@@ -460,32 +315,12 @@ fn plans() {
         let bed = bed(plate(side, 4));
         let (as_shipped, as_doc) = (shipped::surface(&bed.mesh), doc::surface(&bed.mesh));
         let parameters = [1e-3, 1e-3, stepover, 0., FLOOR, 2., 10.];
-        let mut marks = vec![0u32; bed.mesh.len() / 9];
-        let (mut levels, mut runs) = (vec![0.; 500], vec![0.; 100_000]);
-        let mut lengths = [0.; 2];
-        let (mut starts, mut members) = (bed.handed.starts.clone(), bed.handed.members.clone());
-        let mut boxes = bed.handed.boxes.clone();
-        let (mut measures, mut sizes) = ([0.; 6], [0; 3]);
+        let mut room = Room::new(&bed);
         let name = format!("build and plan, {} triangles, stepover {stepover}", bed.mesh.len() / 9);
         row(
             &name, &["plan"], 5, 1,
             [
-                &mut || {
-                    let (l, r) = (levels.as_mut_ptr(), runs.as_mut_ptr());
-                    let (mut counts, mut bad) = ([0u32; 3], [0u32; 2]);
-                    // camlib's plan builds its index too
-                    black_box(unsafe {
-                        raw::mandrikelo_build(
-                            bed.mesh.as_ptr(), bed.mesh.len(), FLOOR, RADIUS, starts.as_mut_ptr(), starts.len(),
-                            members.as_mut_ptr(), members.len(), boxes.as_mut_ptr(), boxes.len(), measures.as_mut_ptr(), sizes.as_mut_ptr(), bad.as_mut_ptr(),
-                        );
-                        raw::mandrikelo_plan(
-                            bed.mesh.as_ptr(), bed.mesh.len(), measures.as_ptr(), sizes.as_ptr(), starts.as_ptr(),
-                            starts.len(), members.as_ptr(), members.len(), boxes.as_ptr(), boxes.len(), marks.as_mut_ptr(), marks.len(),
-                            parameters.as_ptr(), 0, l, 500, r, 100_000, lengths.as_mut_ptr(), counts.as_mut_ptr(),
-                        )
-                    });
-                },
+                &mut || used(room.build_and_plan(&bed, &parameters)),
                 &mut || used(shipped::plan(&as_shipped, FLOOR, RADIUS, &parameters, 0, 100).refusal),
                 &mut || used(doc::plan(&as_doc, FLOOR, RADIUS, &parameters, 0, 100).refusal),
             ],

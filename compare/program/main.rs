@@ -4,10 +4,14 @@
 //!     compare run  [--cases N] [--seed S] [--part NAME] [--case 'LINE']
 //!     compare fuzz [--cases N] [--seed S] [--part NAME]
 //!     compare bench [WORD..]
+//!     compare bench parts [WORD..] [--ns] [--lines]
+//!     compare bench growth
 //!     compare shipped [--cases N] [--seed S]
 //!     compare singles
 
+mod bed;
 mod bench;
+mod bench_parts;
 mod case;
 mod copies;
 mod distance;
@@ -23,6 +27,7 @@ mod raised;
 mod rng;
 mod sheet;
 mod shipped;
+mod solids;
 mod stl;
 mod touched;
 mod um;
