@@ -61,20 +61,32 @@ fn many(kind: Kind) -> usize {
     }
 }
 
-/// Questions within the part's box in plan, `margin` from its sides: points, lines of up to 5 mm along each axis, chords whose ends lie a tenth of a
-/// millimetre over where the cutter rests there, chords 2 mm over the whole part.
-fn questions(bed: &Bed, what: What, margin: f64) -> (Kind, Vec<Asked>) {
-    let (What::Point(kind) | What::Line(kind) | What::Low(kind) | What::High(kind)) = what else { unreachable!() };
+/// The two ends of a question in plan.
+type Ends = [[f64; 2]; 2];
+
+/// From anywhere within these bounds to up to 5 mm away along each axis.
+fn ends(rng: &mut Rng, low: [f64; 2], high: [f64; 2]) -> Ends {
+    let p = [0, 1].map(|k| rng.between(low[k], high[k]));
+    [p, [0, 1].map(|k| (p[k] + rng.between(-5., 5.)).clamp(low[k], high[k]))]
+}
+
+/// Ends within the part's box in plan.
+fn over(bed: &Bed) -> impl Fn(&mut Rng) -> Ends {
     let (low, high) = bed.reach();
+    move |rng| ends(rng, [low[0], low[1]], [high[0], high[1]])
+}
+
+/// Points, lines, chords whose ends lie a tenth of a millimetre over where the cutter rests there, chords 2 mm over the whole part.
+fn questions(bed: &Bed, what: What, places: &dyn Fn(&mut Rng) -> Ends) -> (Kind, Vec<Asked>) {
+    let (What::Point(kind) | What::Line(kind) | What::Low(kind) | What::High(kind)) = what else { unreachable!() };
+    let top = bed.reach().1[2];
     let mut rng = Rng::new(5, "parts", 0);
     let mut seen = bed.seen();
     let rests = if kind == Kind::BullChord { Kind::Bull } else { Kind::Sections };
     let all = (0..many(kind)).map(|_| {
-        let p = [0, 1].map(|k| rng.between(low[k] + margin, high[k] - margin));
-        let q = [0, 1].map(|k| (p[k] + rng.between(-5., 5.)).clamp(low[k] + margin, high[k] - margin));
-        let q = if let What::Point(_) = what { p } else { q };
-        let [a, b] = [p, q].map(|p| {
-            let at = [p[0], p[1], high[2] + 2.];
+        let [p, q] = places(&mut rng);
+        let [a, b] = [p, if let What::Point(_) = what { p } else { q }].map(|p| {
+            let at = [p[0], p[1], top + 2.];
             match what {
                 What::Low(_) => [p[0], p[1], bed.as_doc(rests, &Asked(at, at), &mut seen) + 0.1],
                 _ => at,
@@ -204,7 +216,7 @@ fn column(bed: &Bed, name: &str, rows: &[&(&str, What)], lines: bool, told: &mut
                 times
             }
             _ => {
-                let (kind, all) = questions(bed, *what, 0.);
+                let (kind, all) = questions(bed, *what, &over(bed));
                 asked(bed, kind, &all, 1e8, told)
             }
         };
@@ -233,26 +245,33 @@ fn table(title: &str, heads: &[String], rows: &[&(&str, What)], cells: &[Vec<Tim
     }
 }
 
-/// `bench growth`: the same questions over meshes of 1,024 to 65,536 triangles, once over a surface that grows while its triangles keep their size, once
-/// over one that stays while they get smaller.
+/// Ends at the same places of a die, far enough from its rim that all that is looked at belongs to it; which of the copies is left to chance.
+fn copy_of(count: usize) -> impl Fn(&mut Rng) -> Ends {
+    use solids::TILE;
+    move |rng| {
+        let place = ends(rng, [4.2, 4.2], [TILE[0] - 4.2, TILE[1] - 4.2]);
+        let copy = [rng.unit(), rng.unit()].map(|u| (u * count as f64).floor());
+        place.map(|p| [0, 1].map(|i| p[i] + copy[i] * TILE[i]))
+    }
+}
+
+/// `bench growth`: the same questions over meshes of 1,024 to 65,536 triangles, once over copies of one die side by side, asked at the same places of
+/// copies taken at random, once over one surface whose triangles get smaller. The cutter's radius is 2.
 pub fn growth() {
-    const QUADS: [[usize; 2]; 4] = [[32, 16], [64, 32], [128, 64], [256, 128]];
     let mut told = Told::default();
-    for (title, size) in [
-        ("triangles of one size", (|q: [usize; 2]| [0.8 * q[0] as f64, 0.8 * q[1] as f64]) as fn([usize; 2]) -> [f64; 2]),
-        ("one surface", |_| [102.4, 51.2]),
-    ] {
+    for (title, mesh) in [("copies of a die", solids::tiles as fn(usize) -> Vec<f64>), ("one surface, finer", |k| solids::waves(32 * k, 16 * k, [102.4, 51.2]))] {
         println!();
-        println!("| {title}, r 2 | triangles | looked at | ours, ns a question | ours, ns a triangle looked at | camlib as shipped, ns a triangle looked at |");
+        println!("| {title} | triangles | looked at | ours, ns a question | ours, ns a triangle looked at | camlib as shipped, ns a triangle looked at |");
         println!("|---|---|---|---|---|---|");
-        let beds: Vec<Bed> = QUADS.map(|q| bed(solids::waves(q[0], q[1], size(q)), 2.)).into();
+        let beds = [1, 2, 4, 8].map(|k| (k, bed(mesh(k), 2.)));
         for (name, what) in ROWS.iter().filter(|r| !r.1.doors().iter().any(|d| MISSING.contains(d)) && r.1 != What::Plan) {
-            for bed in &beds {
+            for (k, bed) in &beds {
                 let n = bed.mesh.len() / 9;
                 let (times, looked) = if *what == What::Build {
                     (built(bed, 1e8), n as f64)
                 } else {
-                    let (kind, all) = questions(bed, *what, 4.);
+                    let places: &dyn Fn(&mut Rng) -> Ends = if title.starts_with("copies") { &copy_of(*k) } else { &over(bed) };
+                    let (kind, all) = questions(bed, *what, places);
                     let before = told.looked;
                     let times = asked(bed, kind, &all, 1e8, &mut told);
                     (times, (told.looked - before) as f64 / all.len() as f64)

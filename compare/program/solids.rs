@@ -127,6 +127,19 @@ pub fn waves(along: usize, across: usize, size: [f64; 2]) -> Vec<f64> {
     mesh
 }
 
+/// Copies of one die of 1,024 triangles, 25.6 by 12.8 mm, so many to each direction.
+pub fn tiles(count: usize) -> Vec<f64> {
+    let tile = waves(32, 16, TILE);
+    let mut mesh = vec![];
+    for k in 0..count * count {
+        let at = [TILE[0] * (k % count) as f64, TILE[1] * (k / count) as f64, 0.];
+        mesh.extend(tile.iter().enumerate().map(|(i, x)| x + at[i % 3]));
+    }
+    mesh
+}
+
+pub const TILE: [f64; 2] = [25.6, 12.8];
+
 /// A sphere inside a torus, both sunk a little into a level sheet of two large triangles.
 fn balls(fine: Finer) -> Vec<f64> {
     let of = |steps| fine.of(steps);
