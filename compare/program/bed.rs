@@ -122,7 +122,7 @@ macro_rules! theirs {
 
 impl Bed {
     pub fn new(mesh: Vec<f64>, floor: f64, r: f64) -> Bed {
-        let (_, handed) = crate::parts::handed(&mesh, floor, r).unwrap();
+        let (_, handed) = crate::build::handed(&mesh, floor, r).unwrap();
         let shipped = shipped::Grid::new(&shipped::surface(&mesh), floor, r).unwrap();
         let doc = doc::Grid::new(&doc::surface(&mesh), floor, r).unwrap();
         let table = [0., 1., 2., 1., 4., 2.5, 2.5, 0., 12., 3., 5., 2.].map(|x: f64| x * r / 3.);

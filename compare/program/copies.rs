@@ -2,8 +2,9 @@
 
 use crate::case::Case;
 use crate::doors::{self, Lent};
+use crate::job::{finite, job_of};
 use crate::model;
-use crate::parts::{Part, Tally, Verdict, finite, job_of};
+use crate::parts::{Part, Tally, Verdict};
 use crate::rng::Rng;
 
 pub const PART: Part = Part {

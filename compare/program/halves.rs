@@ -1,9 +1,11 @@
 //! Nothing lost between the halves: the pieces that the Rust's plan made of its stretches, held to what the planner promises of them.
 
+use crate::build::handed;
 use crate::case::Case;
 use crate::doors::{self, Lent, Word};
 use crate::model;
-use crate::parts::{self, Part, Tally, Verdict, handed};
+use crate::parts::{Part, Tally, Verdict};
+use crate::plan::make_plan;
 use crate::rng::Rng;
 use oracle_doc::flat::door;
 use oracle_doc::numbers::Numbers;
@@ -21,7 +23,7 @@ pub const PART: Part = Part {
 
 fn make(rng: &mut Rng, case: u64, _: bool) -> Case {
     // Neither a damaged plan nor one of 65,535 rows.
-    let mut plan = parts::make_plan(rng, if case % 10 == 9 { 98 } else { 0 }, false);
+    let mut plan = make_plan(rng, if case % 10 == 9 { 98 } else { 0 }, false);
     plan.part = PART.name;
     plan
 }

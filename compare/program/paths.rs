@@ -1,10 +1,13 @@
 //! Another planner's moves: `look_over` beside a walk of our own over the moves, with the Rust's questions as the judge.
 
+use crate::build::handed;
 use crate::case::Case;
+use crate::damage::{damage_of, damaged};
 use crate::doors::{Handed, Lent, Word};
 use crate::inputs;
 use crate::model;
-use crate::parts::{self, Part, Tally, Verdict};
+use crate::parts::{Part, Tally, Verdict};
+use crate::questions::make_tool;
 use crate::rng::Rng;
 use oracle_doc::flat::door::{self, Grid, Moves, Tool};
 
@@ -181,7 +184,7 @@ fn make(rng: &mut Rng, case: u64, damage: bool) -> Case {
         floor = (mesh.chunks_exact(3).map(|v| v[2]).fold(f64::INFINITY, f64::min) - 1.).max(-1e6);
         r = rng.pick(&[4., 2., 8.]);
     }
-    let Some((_, h)) = parts::handed(&mesh, floor, r) else {
+    let Some((_, h)) = handed(&mesh, floor, r) else {
         return make(rng, case, damage);
     };
     let mut tolerance: f64 = rng.pick(&[1e-3, 1e-7, 0.01, 1e-5]);
@@ -194,7 +197,7 @@ fn make(rng: &mut Rng, case: u64, damage: bool) -> Case {
         legs.truncate(60);
     }
     // A plan's own moves keep to a thin tool, as long as nothing else is said.
-    let mut tool = if own { vec![0., r, r, 0.] } else { parts::make_tool(rng, damage) };
+    let mut tool = if own { vec![0., r, r, 0.] } else { make_tool(rng, damage) };
     if case < 2_000 {
         legs.truncate(4);
         while legs.len() < 4 {
@@ -234,9 +237,9 @@ fn make(rng: &mut Rng, case: u64, damage: bool) -> Case {
                     bytes[at..at + 8].copy_from_slice(&x.to_le_bytes());
                 }
             }
-            3 => tool = parts::make_tool(rng, true),
+            3 => tool = make_tool(rng, true),
             4 => marks.resize(rng.pick(&[0, marks.len() + 1, marks.len() - 1]), 0),
-            _ => harm = parts::damage_of(rng, &mesh, &h),
+            _ => harm = damage_of(rng, &mesh, &h),
         }
     }
     // Counts at their limits, with the length to match.
@@ -311,12 +314,12 @@ fn refusal(bytes: &[u8], mesh: &[f64], h: &Handed, marks: &[u32], tool: &[f64], 
 fn compare(case: &Case, tally: &mut Tally) -> Verdict {
     let mut mesh = case.f("mesh").to_vec();
     let (floor, r) = (case.f("place")[0], case.f("place")[1]);
-    let Some((mut grid, mut h)) = parts::handed(&mesh, floor, r) else {
+    let Some((mut grid, mut h)) = handed(&mesh, floor, r) else {
         return Ok(());
     };
     let mut marks = case.u("marks").to_vec();
     let damage = case.u("damage");
-    parts::damaged(damage, &mut mesh, &mut h, &mut marks);
+    damaged(damage, &mut mesh, &mut h, &mut marks);
     let (bytes, tool, tolerance) = (case.b("bytes"), case.f("sections"), case.f("tolerance")[0]);
     let mut lent = Lent::new(&marks);
     let (k, finding) = look_over(bytes, &mesh, &h, &mut lent, tool, tolerance);

@@ -1,10 +1,13 @@
 //! A part on parallels: `raise`, once and again and again, beside the Rust's index built from the raised mesh.
 
+use crate::build::handed;
 use crate::case::Case;
+use crate::damage::{damage_of, damaged};
 use crate::doors::{self, Handed, Lent, Word};
 use crate::inputs;
 use crate::model;
-use crate::parts::{self, Part, Tally, Verdict};
+use crate::parts::{Part, Tally, Verdict};
+use crate::plan::make_plan;
 use crate::rng::Rng;
 use oracle_doc::flat::door;
 
@@ -45,7 +48,7 @@ fn amount(rng: &mut Rng, mesh: &[f64], damage: bool) -> f64 {
 
 fn make(rng: &mut Rng, case: u64, damage: bool) -> Case {
     // Every second case has the mesh of a plan, so that there are levels to raise.
-    let plan = parts::make_plan(rng, case % 90, false);
+    let plan = make_plan(rng, case % 90, false);
     let mesh = if case % 2 == 0 {
         plan.f("mesh").to_vec()
     } else {
@@ -55,14 +58,14 @@ fn make(rng: &mut Rng, case: u64, damage: bool) -> Case {
     let (floor, r) = if case % 2 == 0 { (plan.f("place")[0], plan.f("place")[1]) } else { inputs::place(rng, &mesh) };
     let amounts = (0..1 + rng.below(4)).map(|_| amount(rng, &mesh, damage)).collect();
     let (mut questions, mut harm) = (vec![], vec![]);
-    if let Some((_, h)) = parts::handed(&mesh, floor, r) {
+    if let Some((_, h)) = handed(&mesh, floor, r) {
         for _ in 0..8 {
             let radius = if rng.one_in(3) { r } else { rng.between(0., 2.) };
             let (p, q) = (inputs::point(rng, &mesh, &h.measures, radius), inputs::point(rng, &mesh, &h.measures, radius));
             questions.extend([p[0], p[1], q[0], q[1], radius, inputs::corner(rng, radius)]);
         }
         if damage {
-            harm = parts::damage_of(rng, &mesh, &h);
+            harm = damage_of(rng, &mesh, &h);
         }
     }
     Case::new("raised")
@@ -101,11 +104,11 @@ fn compare(case: &Case, tally: &mut Tally) -> Verdict {
     let mut mesh = case.f("mesh").to_vec();
     let (floor, r) = (case.f("place")[0], case.f("place")[1]);
     tally.unit();
-    let Some((_, mut h)) = parts::handed(&mesh, floor, r) else {
+    let Some((_, mut h)) = handed(&mesh, floor, r) else {
         return Ok(());
     };
     let damage = case.u("damage");
-    parts::damaged(damage, &mut mesh, &mut h, &mut vec![]);
+    damaged(damage, &mut mesh, &mut h, &mut vec![]);
     for amount in case.f("amounts") {
         let (mut lent, mut boxes) = (Lent::new(&mesh), Lent::new(&h.boxes));
         let (mut measures, mut sizes, mut bad) = (Lent::room(6, f64::GUARD), Lent::room(3, u32::GUARD), Lent::room(2, u32::GUARD));
@@ -141,7 +144,7 @@ fn compare(case: &Case, tally: &mut Tally) -> Verdict {
             continue;
         }
         // The Rust's index of the raised mesh, field for field.
-        let Some((grid, afresh)) = parts::handed(&mesh, floor, r) else {
+        let Some((grid, afresh)) = handed(&mesh, floor, r) else {
             return Err(format!("raised by {amount:?}: the Rust builds no index of the raised mesh"));
         };
         tally.add("numbers of the index", (h.boxes.len() + 6 + 3 + h.starts.len() + h.members.len()) as u64);

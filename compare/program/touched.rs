@@ -1,10 +1,11 @@
 //! What the cutter touched: the contacts of one triangle and the three height questions, beside camlib with a recorder of the candidate that won. The same
 //! camlib without the recorder is asked too, so that a height that moved by it would be seen.
 
+use crate::build::handed;
 use crate::case::Case;
 use crate::doors::{self, Answer, Lent};
 use crate::inputs;
-use crate::parts::{Part, Tally, Verdict, agree, handed};
+use crate::parts::{Part, Tally, Verdict, agree};
 use crate::rng::Rng;
 use oracle_doc::flat::door as plain;
 use oracle_touched::flat::door::{self, Grid, Tool, Triangle};

@@ -3,8 +3,9 @@
 use crate::MISSING;
 use crate::case::Case;
 use crate::doors::{self, Lent, Word};
+use crate::job::{finite, job_of};
 use crate::model;
-use crate::parts::{self, Part, Tally, Verdict, finite};
+use crate::parts::{Part, Tally, Verdict};
 use crate::rng::Rng;
 use std::hint::black_box;
 use std::sync::OnceLock;
@@ -150,7 +151,7 @@ fn expected(mesh: &[f64], measures: &[f64], questions: &[f64], room: usize) -> R
     if ![measures, mesh, questions].concat().iter().all(|x| x.is_finite()) {
         return Err(20);
     }
-    let job = parts::job_of(measures[0], measures[1], mesh, questions);
+    let job = job_of(measures[0], measures[1], mesh, questions);
     if room < job.len() { Err(22) } else { Ok(job) }
 }
 
