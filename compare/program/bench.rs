@@ -1,11 +1,12 @@
 //! The first table: nanoseconds a call and how many times the Rust's as shipped. Ours, camlib as shipped and camlib with document 01's
 //! numbers take the same inputs in the same process, in turn, round after round; a cell is the median of the rounds. The others stand in
-//! bench_parts.rs.
+//! bench_parts.rs and bench_um.rs.
 
 use crate::MISSING;
 use crate::ask;
 use crate::bed::{Asked, Bed, Kind, Room, medians, now};
 use crate::bench_parts;
+use crate::bench_um;
 use crate::doors::raw;
 use crate::inputs;
 use crate::rng::Rng;
@@ -26,17 +27,19 @@ fn wanted(name: &str) -> bool {
     words.is_empty() || words.iter().any(|w| name.contains(w.as_str()))
 }
 
-/// `bench`, `bench WORD..` for rows of the first table, `bench parts ..` and `bench growth` for the others.
+/// `bench`, `bench WORD..` for rows of the first table, `bench parts ..`, `bench growth` and `bench micrometres` for the others.
 pub fn run() {
     let words: Vec<String> = std::env::args().skip(2).collect();
     match words.first().map(String::as_str) {
         Some("parts") => bench_parts::run(&words[1..]),
         Some("growth") => bench_parts::growth(),
+        Some("micrometres") => bench_um::run(),
         Some(_) => plates(),
         None => {
             plates();
             bench_parts::run(&[]);
             bench_parts::growth();
+            bench_um::run();
         }
     }
 }

@@ -6,12 +6,14 @@
 //!     compare bench [WORD..]
 //!     compare bench parts [WORD..] [--ns] [--lines]
 //!     compare bench growth
+//!     compare bench micrometres
 //!     compare shipped [--cases N] [--seed S]
 //!     compare singles
 
 mod bed;
 mod bench;
 mod bench_parts;
+mod bench_um;
 mod build;
 mod case;
 mod copies;

@@ -6,7 +6,7 @@ use crate::doors::{Lent, Word};
 use crate::parts::{Part, Tally, Verdict};
 use crate::rng::Rng;
 
-mod raw {
+pub mod raw {
     unsafe extern "C" {
         pub fn mandrikelo_read_job_um(
             bytes: *const u8, bytes_len: usize, mesh: *mut i32, mesh_len: usize, questions: *mut i32, questions_len: usize,
