@@ -14,6 +14,7 @@ pub mod numbers {
         fn max_of(self, other: f64) -> f64;
         fn min_of(self, other: f64) -> f64;
         fn hypot_of(self, other: f64) -> f64;
+        fn squares_of(self, other: f64) -> f64;
         fn power_of(self, times: i32) -> f64;
     }
 
@@ -31,6 +32,11 @@ pub mod numbers {
         #[inline]
         fn hypot_of(self, other: f64) -> f64 {
             crate::hypot::exact_hypot(self, other)
+        }
+        /// The same before request 6.
+        #[inline]
+        fn squares_of(self, other: f64) -> f64 {
+            (self * self + other * other).sqrt()
         }
         /// Multiplied left to right.
         #[inline]

@@ -86,7 +86,7 @@ pub fn run() {
         let v1 = format!("version 1: {}, {}", bed.handed.sizes[1] * bed.handed.sizes[2], bed.handed.members.len());
         let [new, old] = medians(9, 1e8, 1, [&mut || used(ours.build()), &mut || used(room.build(&bed))]);
         println!("| build, beside version 1's, {part}, {n} triangles | {new:.0} | {old:.0} | {:.2} | {held}; {v1} |", old / new);
-        for (name, reach, r) in [("a point, r 0.5 mm", 0, 500), ("a point, r 2 mm", 0, 2_000), ("a line of up to 5 mm, r 2 mm", 5_000, 2_000)] {
+        for (name, reach, r) in [("a point, r 0", 0, 0), ("a point, r 0.5", 0, 500), ("a point, r 2", 0, 2_000), ("a line of up to 5, r 2", 5_000, 2_000)] {
             questions(&format!("set-up height, beside a plain walk, {name}, {part}"), &mut ours, &bed, reach, r);
         }
     }

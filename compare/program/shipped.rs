@@ -1,9 +1,10 @@
-//! What document 01's hypot changes: camlib as shipped, with libm's, beside camlib with document 01's numbers, on generated parts.
+//! What the nearest hypot changes: camlib as shipped, with libm's, beside camlib with document 01's numbers, on generated parts. compare/moved links the
+//! same program a second time, with document 01's hypot of before request 6 in the place of the one as shipped.
 //!
 //!     compare shipped [--cases N] [--seed S]
 //!
-//! A case is a plate with bosses, pockets and ribs, turned by some angle, with 100 questions of each kind and one plan. Nothing is asserted: the two may
-//! differ, and docs/DIFFERENCES.md says how often.
+//! A case is a plate with bosses, pockets and ribs, turned by some angle, with 100 questions of each kind, one plan, and 240 contacts of each cutter with
+//! triangles of ordinary sizes. Nothing is asserted: the two may differ, and docs/DIFFERENCES.md says how often.
 
 use crate::inputs;
 use crate::rng::Rng;
@@ -11,22 +12,56 @@ use oracle_doc::flat::door as doc;
 use oracle_shipped::flat::door as shipped;
 
 const QUESTIONS: usize = 100;
+const CONTACTS: usize = 240;
 
-/// How many there were, in how many a bit differs, and the largest difference.
+/// How many there were, in how many a bit differs, in how many by more than 1e-9 mm, how many only one of the two has, and the largest difference.
 #[derive(Default)]
 struct Heights {
     asked: u64,
     differ: u64,
+    far: u64,
+    only: u64,
     most: f64,
+    first: Option<String>,
 }
 
 impl Heights {
-    fn add(&mut self, a: f64, b: f64) {
+    fn add(&mut self, a: f64, b: f64, question: &dyn Fn() -> String) {
         self.asked += 1;
         if a.to_bits() != b.to_bits() {
             self.differ += 1;
             self.most = self.most.max((a - b).abs());
+            if (a - b).abs() > 1e-9 {
+                self.far += 1;
+                self.first.get_or_insert_with(|| format!("{a} and {b} at {}", question()));
+            }
         }
+    }
+    fn contact(&mut self, a: Option<f64>, b: Option<f64>, question: &dyn Fn() -> String) {
+        match (a, b) {
+            (Some(a), Some(b)) => self.add(a, b, question),
+            (a, b) => {
+                self.asked += 1;
+                self.only += (a != b) as u64;
+            }
+        }
+    }
+}
+
+/// Contacts with one triangle each.
+fn contacts(rng: &mut Rng, counts: &mut [Heights; 3]) {
+    let f = inputs::Family::Ordinary;
+    for _ in 0..CONTACTS {
+        let t = inputs::triangle(rng, f);
+        let r = rng.between(0.5, 4.);
+        let (p, q) = (inputs::point_near(rng, f, &t, r), inputs::point_near(rng, f, &t, r));
+        let (a, b) = (doc::Triangle::new(&t), shipped::Triangle::new(&t));
+        let (rc, section) = (inputs::corner(rng, r), [0., r / 2., r, 1.]);
+        let told = || format!("{t:?} {p:?} {q:?} {r} {rc}");
+        counts[0].contact(a.max_in_capsule(p, q, r, 1e-11), b.max_in_capsule(p, q, r, 1e-11), &told);
+        let low = f64::NEG_INFINITY;
+        counts[1].contact(a.bull_contact(p, r, rc, low), b.bull_contact(p, r, rc, low), &told);
+        counts[2].contact(a.section_contact(p, section), b.section_contact(p, section), &told);
     }
 }
 
@@ -79,6 +114,7 @@ pub fn run() {
         }
     }
     let (mut swept, mut bull, mut tool) = (Heights::default(), Heights::default(), Heights::default());
+    let mut single = [Heights::default(), Heights::default(), Heights::default()];
     let (mut bull_chords, mut tool_chords, mut plans) = (Verdicts::default(), Verdicts::default(), Plans::default());
     for i in 0..cases {
         let mut rng = Rng::new(seed, "shipped", i);
@@ -105,9 +141,10 @@ pub fn run() {
             let rc = inputs::corner(&mut rng, r);
             let tip = |rng: &mut Rng| rng.between(floor + 0.5, highest + 1.);
             let (from, to) = ([p[0], p[1], tip(&mut rng)], [q[0], q[1], tip(&mut rng)]);
-            swept.add(a.max_height(p, q, r, &mut seen, &mut stamp), b.max_height(p, q, r, &mut seen_b, &mut stamp_b));
-            bull.add(a.max_bull(p, r, rc, &mut seen, &mut stamp), b.max_bull(p, r, rc, &mut seen_b, &mut stamp_b));
-            tool.add(a.max_sections(p, &tool_a, &mut seen, &mut stamp), b.max_sections(p, &tool_b, &mut seen_b, &mut stamp_b));
+            let told = || format!("case {i}: {p:?} to {q:?}, r {r}, rc {rc}");
+            swept.add(a.max_height(p, q, r, &mut seen, &mut stamp), b.max_height(p, q, r, &mut seen_b, &mut stamp_b), &told);
+            bull.add(a.max_bull(p, r, rc, &mut seen, &mut stamp), b.max_bull(p, r, rc, &mut seen_b, &mut stamp_b), &told);
+            tool.add(a.max_sections(p, &tool_a, &mut seen, &mut stamp), b.max_sections(p, &tool_b, &mut seen_b, &mut stamp_b), &told);
             bull_chords.add(
                 a.bull_chord_clear(from, to, r, rc, 0., &mut seen, &mut stamp),
                 b.bull_chord_clear(from, to, r, rc, 0., &mut seen_b, &mut stamp_b),
@@ -122,10 +159,19 @@ pub fn run() {
         let stepover = r * rng.pick(&[2., 1., 0.75, 1.25, 0.5]);
         let parameters = [1e-3, rng.pick(&[1e-3, 0.01, 0.1]), stepover, rng.pick(&[0., 0.1]), floor - 1., highest + 1., 1e3];
         planned(&mut plans, i, &mesh, floor, r, &parameters, rng.below(2) as u32);
+        contacts(&mut rng, &mut single);
     }
     println!("seed {seed}, {cases} parts");
-    for (name, h) in [("swept-disk heights", &swept), ("bull-nose heights", &bull), ("section heights", &tool)] {
-        println!("{name}: {} asked, {} with other bits, the largest difference {:e} mm", h.asked, h.differ, h.most);
+    let [one, two, three] = &single;
+    for (name, h) in [
+        ("swept-disk contacts", one), ("bull-nose contacts", two), ("section contacts", three), ("swept-disk heights", &swept),
+        ("bull-nose heights", &bull), ("section heights", &tool),
+    ] {
+        let (most, first) = (h.most, h.first.as_deref().unwrap_or(""));
+        println!(
+            "{name}: {} asked, {} with other bits, {} of them by more than 1e-9 mm, the largest difference {most:e} mm, {} that only one has {first}",
+            h.asked, h.differ, h.far, h.only
+        );
     }
     for (name, v) in [("bull-nose chords", &bull_chords), ("section chords", &tool_chords)] {
         println!("{name}: {} asked, {} clear, {} with another verdict {}", v.asked, v.clear, v.differ, v.first.as_deref().unwrap_or(""));
