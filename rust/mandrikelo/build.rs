@@ -1,8 +1,7 @@
 //! Links the planner's archive: ARCHIVE names it, and without it the one that `./archive` writes, target/staticlib/libmandrikelo.a.
-include!("../doors.rs");
+use std::{env, fs, path::PathBuf};
 
 fn main() {
-    doors();
     println!("cargo:rerun-if-env-changed=ARCHIVE");
     let here = PathBuf::from(env::var_os("CARGO_MANIFEST_DIR").expect("cargo sets it"));
     let archive = env::var_os("ARCHIVE").map(PathBuf::from).unwrap_or_else(|| here.join("../../target/staticlib/libmandrikelo.a"));
@@ -12,4 +11,15 @@ fn main() {
     let stem = archive.file_stem().and_then(|stem| stem.to_str()).and_then(|stem| stem.strip_prefix("lib"));
     println!("cargo:rustc-link-search=native={}", folder.display());
     println!("cargo:rustc-link-lib=static={}", stem.expect("ARCHIVE is called libNAME.a"));
+    rooms(&here);
+}
+
+/// Sets `cfg(rooms)` if the header declares the door that tells the rooms of an index.
+fn rooms(here: &std::path::Path) {
+    let header = here.join("../../include/mandrikelo.h");
+    println!("cargo:rerun-if-changed={}", header.display());
+    println!("cargo:rustc-check-cfg=cfg(rooms)");
+    if fs::read_to_string(&header).is_ok_and(|text| text.contains("\nuint32_t mandrikelo_rooms(")) {
+        println!("cargo:rustc-cfg=rooms");
+    }
 }

@@ -88,90 +88,94 @@ pub struct Chord {
 }
 
 /// An answer as a line and as JSON, and whether it was refused.
-type Told = (String, Value, bool);
+pub type Told = (String, Value, bool);
 
 pub fn height(asked: &Height) -> Result<(String, u8), Trouble> {
-    let part = part::open(&asked.part)?;
+    let mut part = part::open(&asked.part)?;
     let mut sweeps = gathered(&asked.at, asked.points.as_ref(), points::sweep)?;
     let mut radii = vec![part.radius; sweeps.len()];
     if asked.at.is_empty() && asked.points.is_none() {
         sweeps.extend(part.questions.iter().map(|q| [q.p[0], q.p[1], q.q[0], q.q[1]]));
         radii.extend(part.questions.iter().map(|q| asked.part.radius.unwrap_or(q.r)));
     }
-    let index = part.index()?;
-    let mut marks = index.marks();
-    let answers = sweeps.iter().zip(radii).map(|(s, r)| {
-        let answer = index.max_height(&mut marks, [s[0], s[1]], [s[2], s[3]], r);
-        let place = if s[..2] == s[2..] { format!("{}, {}", s[0], s[1]) } else { format!("{}, {} to {}, {}", s[0], s[1], s[2], s[3]) };
-        height_told(place, s, answer)
-    });
-    told(answers.collect(), asked.json)
+    let answers = part.asked(|index| {
+        let mut marks = index.marks();
+        let answer = |(s, r): (&[f64; 4], f64)| {
+            let place = if s[..2] == s[2..] { format!("{}, {}", s[0], s[1]) } else { format!("{}, {} to {}, {}", s[0], s[1], s[2], s[3]) };
+            height_told(place, s, index.max_height(&mut marks, [s[0], s[1]], [s[2], s[3]], r))
+        };
+        sweeps.iter().zip(radii).map(answer).collect()
+    })?;
+    told(answers, asked.json)
 }
 
 pub fn bull(asked: &Bull) -> Result<(String, u8), Trouble> {
-    let part = part::open(&asked.part)?;
+    let mut part = part::open(&asked.part)?;
     let points = gathered(&asked.at, asked.points.as_ref(), points::two)?;
-    let index = part.index()?;
-    let mut marks = index.marks();
-    let answers = points.iter().map(|p| {
-        let answer = index.max_bull(&mut marks, *p, part.radius, asked.corner);
-        height_told(format!("{}, {}", p[0], p[1]), p, answer)
-    });
-    told(answers.collect(), asked.json)
+    let answers = part.asked(|index| {
+        let mut marks = index.marks();
+        let answer = |p: &[f64; 2]| height_told(format!("{}, {}", p[0], p[1]), p, index.max_bull(&mut marks, *p, index.radius(), asked.corner));
+        points.iter().map(answer).collect()
+    })?;
+    told(answers, asked.json)
 }
 
 pub fn sections(asked: &Sections) -> Result<(String, u8), Trouble> {
     let tool = toolsheet::read(&asked.tool)?;
-    let part = open_for(&asked.part, &tool)?;
+    let mut part = open_for(&asked.part, &tool)?;
     let points = gathered(&asked.at, asked.points.as_ref(), points::two)?;
-    let index = part.index()?;
-    let mut marks = index.marks();
-    let answers = points.iter().map(|p| {
-        let answer = index.max_sections(&mut marks, *p, &tool);
-        height_told(format!("{}, {}", p[0], p[1]), p, answer)
-    });
-    told(answers.collect(), asked.json)
+    let answers = part.asked(|index| {
+        let mut marks = index.marks();
+        let answer = |p: &[f64; 2]| height_told(format!("{}, {}", p[0], p[1]), p, index.max_sections(&mut marks, *p, &tool));
+        points.iter().map(answer).collect()
+    })?;
+    told(answers, asked.json)
 }
 
 pub fn chord(asked: &Chord) -> Result<(String, u8), Trouble> {
     let tool = asked.tool.as_deref().map(toolsheet::read).transpose()?;
-    let part = match &tool {
+    let mut part = match &tool {
         Some(tool) => open_for(&asked.part, tool)?,
         None => part::open(&asked.part)?,
     };
     let six = |text: &str| points::numbers(text).and_then(|x| x.try_into().map_err(|_| "six numbers are wanted".to_string()));
     let given: Vec<[f64; 6]> = asked.from.iter().zip(&asked.to).map(|(a, b)| [a[0], a[1], a[2], b[0], b[1], b[2]]).collect();
     let chords = gathered(&given, asked.points.as_ref(), six)?;
-    let index = part.index()?;
-    let mut marks = index.marks();
-    let answers = chords.iter().map(|c| {
-        let (a, b) = ([c[0], c[1], c[2]], [c[3], c[4], c[5]]);
-        let answer = match &tool {
-            Some(tool) => index.sections_chord_clear(&mut marks, a, b, tool, asked.lift),
-            None => index.bull_chord_clear(&mut marks, a, b, part.radius, asked.corner.unwrap_or(0.0), asked.lift),
+    let answers = part.asked(|index| {
+        let mut marks = index.marks();
+        let answer = |c: &[f64; 6]| {
+            let (a, b) = ([c[0], c[1], c[2]], [c[3], c[4], c[5]]);
+            chord_told(c, match &tool {
+                Some(tool) => index.sections_chord_clear(&mut marks, a, b, tool, asked.lift),
+                None => index.bull_chord_clear(&mut marks, a, b, index.radius(), asked.corner.unwrap_or(0.0), asked.lift),
+            })
         };
-        let place = format!("{}, {}, {} to {}, {}, {}", a[0], a[1], a[2], b[0], b[1], b[2]);
-        match answer {
-            Ok(chord) => {
-                let word = if chord.verdict == Verdict::Clear { "clear" } else { "blocked" };
-                let early = chord.verdict == Verdict::Blocked && chord.count == 0;
-                let why = if early { ", an end lies under the floor" } else { "" };
-                let line = format!("{place}: {word}{why}; {} looked at", many(chord.count.into(), "triangle"));
-                (line, json!({ "chord": c, "verdict": word, "count": chord.count }), false)
-            }
-            Err(refusal) => refused(place, c, refusal),
+        chords.iter().map(answer).collect()
+    })?;
+    told(answers, asked.json)
+}
+
+fn chord_told(c: &[f64; 6], answer: Result<mandrikelo::Chord, Refusal>) -> Told {
+    let place = format!("{}, {}, {} to {}, {}, {}", c[0], c[1], c[2], c[3], c[4], c[5]);
+    match answer {
+        Ok(chord) => {
+            let word = if chord.verdict == Verdict::Clear { "clear" } else { "blocked" };
+            let early = chord.verdict == Verdict::Blocked && chord.count == 0;
+            let why = if early { ", an end lies under the floor" } else { "" };
+            let line = format!("{place}: {word}{why}; {} looked at", many(chord.count.into(), "triangle"));
+            (line, json!({ "chord": c, "verdict": word, "count": chord.count }), false)
         }
-    });
-    told(answers.collect(), asked.json)
+        Err(refusal) => refused(place, c, refusal),
+    }
 }
 
 /// A part for a tool of sections: its index is made for the tool's largest radius if none is given.
 fn open_for(asked: &part::Asked, tool: &Tool) -> Result<Part, Trouble> {
     let most = tool.sections().iter().map(|section| section.r1).fold(0.0, f64::max);
-    part::open(&part::Asked { part: asked.part.clone(), floor: asked.floor, radius: asked.radius.or(Some(most)), scale: asked.scale })
+    part::open(&part::Asked { part: asked.part.clone(), floor: asked.floor, radius: asked.radius.or(Some(most)), scale: asked.scale, raise: asked.raise })
 }
 
-fn gathered<T: Copy>(given: &[T], file: Option<&PathBuf>, read: impl Fn(&str) -> Result<T, String>) -> Result<Vec<T>, Trouble> {
+pub fn gathered<T: Copy>(given: &[T], file: Option<&PathBuf>, read: impl Fn(&str) -> Result<T, String>) -> Result<Vec<T>, Trouble> {
     let mut out = given.to_vec();
     if let Some(path) = file {
         out.extend(points::lines(path, read)?);
@@ -185,7 +189,6 @@ fn height_told(place: String, numbers: &[f64], answer: Result<Answer, Refusal>) 
             let bits = format!("{:016x}", answer.height.to_bits());
             let line = format!("{place}: {} (bits {bits}); {} looked at", answer.height, many(answer.count.into(), "triangle"));
             let value = json!({ "at": numbers, "height": answer.height, "bits": bits, "count": answer.count });
-            #[cfg(touched)]
             let (line, value) = touched(line, value, answer.touched);
             (line, value, false)
         }
@@ -194,7 +197,6 @@ fn height_told(place: String, numbers: &[f64], answer: Result<Answer, Refusal>) 
 }
 
 /// An answer with what the cutter touches.
-#[cfg(touched)]
 fn touched(line: String, mut value: Value, touch: mandrikelo::Touch) -> (String, Value) {
     use mandrikelo::Touch;
     value["touched"] = match touch {
@@ -206,11 +208,11 @@ fn touched(line: String, mut value: Value, touch: mandrikelo::Touch) -> (String,
     (format!("{line}; touches {touch}"), value)
 }
 
-fn refused(place: String, numbers: &[f64], refusal: Refusal) -> Told {
+pub fn refused(place: String, numbers: &[f64], refusal: Refusal) -> Told {
     (format!("{place}: {refusal}"), json!({ "at": numbers, "refusal": refusal.number(), "words": refusal.text() }), true)
 }
 
-fn told(answers: Vec<Told>, json: bool) -> Result<(String, u8), Trouble> {
+pub fn told(answers: Vec<Told>, json: bool) -> Result<(String, u8), Trouble> {
     if answers.is_empty() {
         return Err(Trouble::use_of("nothing is asked", "name points on the command line, or a file of them with --points"));
     }

@@ -1,6 +1,6 @@
 //! `mandrikelo count`: every part file under some folders, read to its end.
 use crate::closed::edges_without_partner;
-use crate::files::{examine, unreadable, Content, Seen, Verdict};
+use crate::files::{examine, in_f64, unreadable, Content, Seen, Verdict};
 use crate::manifest::{self, Line};
 use crate::trouble::Trouble;
 use crate::words::{many, one_line, thousands};
@@ -117,6 +117,7 @@ fn look(path: PathBuf, name: Option<String>, closed: bool) -> Found {
     let open = match &content {
         Content::Mesh(mesh) if closed => Some(edges_without_partner(mesh)),
         Content::Job(job) if closed => Some(edges_without_partner(&job.mesh)),
+        Content::Um(job) if closed => Some(edges_without_partner(&in_f64(&job.mesh))),
         _ => None,
     };
     Found { name: name.unwrap_or_else(|| one_line(&path)), seen, open }

@@ -5,7 +5,7 @@
 //! not finite, and all of ASCII STL.
 use crate::ascii::{Ascii, Broken};
 use crate::words::{many, thousands};
-use mandrikelo::{Job, Mesh, Refusal, MOST_TRIANGLES};
+use mandrikelo::{um, Job, Mesh, Refusal, MOST_TRIANGLES};
 use sha2::{Digest, Sha256};
 use std::fs::File;
 use std::io::{self, Read};
@@ -19,6 +19,7 @@ pub enum Form {
     BinaryStl,
     AsciiStl,
     Job,
+    JobUm,
 }
 
 impl Form {
@@ -27,6 +28,7 @@ impl Form {
             Form::BinaryStl => "binary STL",
             Form::AsciiStl => "ASCII STL",
             Form::Job => "job",
+            Form::JobUm => "job in micrometres",
         }
     }
 }
@@ -102,7 +104,13 @@ pub struct Seen {
 pub enum Content {
     Mesh(Mesh),
     Job(Job),
+    Um(um::Job),
     Nothing,
+}
+
+/// A mesh of whole micrometres as a mesh of f64s: every i32 is one.
+pub fn in_f64(mesh: &um::Mesh) -> Mesh {
+    Mesh::from_numbers(mesh.numbers().iter().map(|x| f64::from(*x)).collect())
 }
 
 pub fn unreadable(path: &Path, why: String) -> Seen {
@@ -166,7 +174,8 @@ fn read(path: &Path) -> io::Result<(Seen, Content)> {
     let content = match form {
         Form::AsciiStl => text(&mut seen, ascii.expect("it was fed")),
         Form::BinaryStl => binary(&mut seen, &kept),
-        Form::Job => job(&mut seen, &kept),
+        Form::Job => job(&mut seen, &kept, 30, 72, 40, Job::read(&kept).map(Content::Job)),
+        Form::JobUm => job(&mut seen, &kept, 22, 36, 20, um::Job::read(&kept).map(Content::Um)),
     };
     if size == 0 {
         seen.verdict = Verdict::Cut("an empty file".into());
@@ -178,7 +187,8 @@ fn read(path: &Path) -> io::Result<(Seen, Content)> {
 fn form_of(path: &Path, head: &[u8], size: u64) -> Form {
     let name = path.extension().map(|e| e.to_ascii_lowercase());
     if name.as_deref() == Some("ftm".as_ref()) || (name.as_deref() != Some("stl".as_ref()) && head.starts_with(b"FTM")) {
-        return Form::Job;
+        // version 2 counts in whole micrometres
+        return if head.starts_with(b"FTM\x02\0") { Form::JobUm } else { Form::Job };
     }
     let fits = count_at(head, 80).is_some_and(|n| size == 84 + 50 * n);
     if !fits && Ascii::begins(head) {
@@ -225,22 +235,23 @@ fn binary(seen: &mut Seen, bytes: &[u8]) -> Content {
     Content::Nothing
 }
 
-fn job(seen: &mut Seen, bytes: &[u8]) -> Content {
+/// A job, by what its reader said: so many bytes have its head, a triangle and a question.
+fn job(seen: &mut Seen, bytes: &[u8], head: u64, triangle: u64, question: u64, read: Result<Content, Refusal>) -> Content {
     let (triangles, questions) = (count_at(bytes, 6), count_at(bytes, 10));
     let (n, m) = (triangles.unwrap_or(0), questions.unwrap_or(0));
-    match Job::read(bytes) {
-        Ok(job) => {
+    match read {
+        Ok(content) => {
             (seen.declared, seen.present) = (Some(n), Some(n));
-            return Content::Job(job);
+            return content;
         }
         Err(refusal) => {
             if !matches!(refusal, Refusal::Head | Refusal::Mark | Refusal::Version | Refusal::SixthByte) {
                 seen.declared = triangles;
-                seen.present = Some((seen.size.saturating_sub(30) / 72).min(n));
+                seen.present = Some((seen.size.saturating_sub(head) / triangle).min(n));
             }
             seen.verdict = match refusal {
                 Refusal::Count if (1..=MOST_TRIANGLES as u64).contains(&n) => Verdict::Over(format!("questions: {} declared", thousands(m))),
-                _ => refused(refusal, seen, n, 30 + 72 * n + 40 * m, || first_bad_double(bytes, n)),
+                _ => refused(refusal, seen, n, head + triangle * n + question * m, || first_bad_double(bytes, n)),
             };
         }
     }
@@ -265,7 +276,7 @@ fn refused(refusal: Refusal, seen: &mut Seen, declared: u64, wanted: u64, place:
         Refusal::Surplus => Verdict::Surplus(format!("{} more than {} take", thousands(seen.size - wanted), many(declared, "triangle"))),
         Refusal::NotFinite => Verdict::NotFinite(place()),
         Refusal::Mark => Verdict::NotThisFile("no job: its mark is not FTM".into()),
-        Refusal::Version => Verdict::NotThisFile("a job of another version than 1".into()),
+        Refusal::Version => Verdict::NotThisFile("a job of another version than 1 and 2".into()),
         Refusal::SixthByte => Verdict::NotThisFile("no job: its sixth byte is not 0".into()),
         other => Verdict::NotThisFile(other.to_string()),
     }

@@ -1,5 +1,5 @@
 //! `mandrikelo job`: from a part to a job and back, and as text.
-use crate::files::{examine, Content, Form};
+use crate::files::{examine, in_f64, Content, Form};
 use crate::part;
 use crate::plan::write;
 use crate::points;
@@ -49,6 +49,9 @@ enum What {
     },
 }
 
+/// The first line of a text that is in whole micrometres.
+const MICRO: &str = "micrometres";
+
 pub const HELP: &str = "Examples:\n  mandrikelo job make examples/parts/bearing_block.stl block.ftm \\\n      --floor -8 --radius 3\n  \
 mandrikelo job show block.ftm\n  mandrikelo job stl block.ftm block.stl";
 
@@ -69,7 +72,10 @@ fn made(path: &Path, job: &Job) -> Result<(String, u8), Trouble> {
 }
 
 fn make(asked: &part::Asked, path: &Path, questions: Option<&Path>) -> Result<(String, u8), Trouble> {
-    let part = part::open(asked)?;
+    let mut part = part::open(asked)?;
+    if part.raise != 0.0 {
+        part.asked(|_| ())?;
+    }
     let radius = part.radius;
     let question = move |line: &str| match points::numbers(line)?[..] {
         [x, y] => Ok(Question { p: [x, y], q: [x, y], r: radius }),
@@ -97,7 +103,10 @@ fn stl(job: &Path, path: &Path) -> Result<(String, u8), Trouble> {
     let mesh = match whole(job)?.1 {
         Content::Job(job) => job.mesh,
         Content::Mesh(mesh) => mesh,
-        Content::Nothing => Mesh::default(),
+        _ => {
+            let what = format!("{}: a job in whole micrometres is not made a part", job.display());
+            return Err(Trouble::refused(what, "take the STL file that the job was made from"));
+        }
     };
     let (bytes, moved, far) = stl_bytes(&mesh);
     if far > 0 {
@@ -136,6 +145,11 @@ fn show(path: &Path) -> Result<(String, u8), Trouble> {
     let (mesh, mut out, questions) = match content {
         Content::Job(job) => (job.mesh, row("floor", &[job.floor]) + &row("radius", &[job.radius]), job.questions),
         Content::Mesh(mesh) => (mesh, String::new(), Vec::new()),
+        Content::Um(job) => {
+            let head = format!("{MICRO}\n") + &row("floor", &[f64::from(job.floor)]) + &row("radius", &[f64::from(job.radius)]);
+            let questions = job.questions.iter().map(|q| Question { p: q.p.map(f64::from), q: q.q.map(f64::from), r: f64::from(q.r) });
+            (in_f64(&job.mesh), head, questions.collect())
+        }
         Content::Nothing => (Mesh::default(), String::new(), Vec::new()),
     };
     let (n, m) = (many(mesh.len() as u64, "triangle"), many(questions.len() as u64, "question"));
@@ -153,6 +167,7 @@ fn from_text(text: &Path, path: &Path) -> Result<(String, u8), Trouble> {
             "floor" | "radius" => 1,
             "triangle" => 9,
             "question" => 5,
+            MICRO => return Err("a job in whole micrometres is shown, but not written".into()),
             _ => return Err(format!("{name} is neither floor, radius, triangle nor question")),
         };
         if numbers.len() != wanted {

@@ -29,9 +29,10 @@ pub struct Asked {
 pub fn run(asked: &Asked) -> Result<(String, u8), Trouble> {
     let bytes = std::fs::read(&asked.path).map_err(|error| Trouble::file(&asked.path, &error))?;
     let tool = toolsheet::read(&asked.tool)?;
-    let part = part::open(&asked.part)?;
+    let mut part = part::open(&asked.part)?;
     let name = asked.path.display().to_string();
-    let finding = part.index()?.look_over(&bytes, &tool, asked.tolerance).map_err(|refusal| refused(&name, &bytes, refusal))?;
+    let finding = part.asked(|index| index.look_over(&bytes, &tool, asked.tolerance))?;
+    let finding = finding.map_err(|refusal| refused(&name, &bytes, refusal))?;
     let moves = count(&bytes);
     let (words, status, value) = match finding {
         Finding::Passes => (format!("passes: all of its {} do", many(moves, "move")), 0, json!({ "passes": true, "moves": moves })),

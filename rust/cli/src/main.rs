@@ -6,13 +6,13 @@ mod closed;
 mod count;
 mod files;
 mod job;
-#[cfg(look_over)]
 mod look_over;
 mod manifest;
 mod part;
 mod plan;
 mod planned;
 mod points;
+mod setup;
 mod sheet;
 mod svg;
 mod toolsheet;
@@ -66,10 +66,14 @@ mandrikelo height part.stl --floor 0 --radius 3 --points points.txt --json")]
 mandrikelo chord examples/parts/bearing_block.stl --floor -8 --radius 3 --corner 1 \\\n      --from 0,0,5 --to 100,60,5")]
     Chord(ask::Chord),
     /// Look over another planner's moves: is every rapid clear, and no cut too deep
-    #[cfg(look_over)]
     #[command(after_help = "Counts moves from 0. Status 0 if the path passes, 1 if it does not or is refused.\n\n\
 Example:\n  mandrikelo look-over part.ftp part.stl --floor 0 --radius 3 --tool end_mill.tool")]
     LookOver(look_over::Asked),
+    /// Set-up heights over a job in whole micrometres
+    #[command(after_help = "A line a question: the height, the triangles looked at, the boxes in reach, all in whole micrometres.\n\n\
+Examples:\n  mandrikelo setup part.ftm                            its own questions\n  \
+mandrikelo setup part.ftm --at 12000,8000,40000,8000 --radius 3000")]
+    Setup(setup::Asked),
     /// The sections of a tool from its sheet
     #[command(after_help = toolsheet::HELP)]
     Tool(toolsheet::Asked),
@@ -91,8 +95,8 @@ fn main() -> ExitCode {
         What::Bull(asked) => ask::bull(asked),
         What::Sections(asked) => ask::sections(asked),
         What::Chord(asked) => ask::chord(asked),
-        #[cfg(look_over)]
         What::LookOver(asked) => look_over::run(asked),
+        What::Setup(asked) => setup::run(asked),
         What::Tool(asked) => toolsheet::run(asked),
         What::Job(asked) => job::run(asked),
         What::Sheet(asked) => sheet::run(asked),

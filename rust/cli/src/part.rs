@@ -20,12 +20,17 @@ pub struct Asked {
     /// Multiply every coordinate: 1 as it stands, 25.4 for inches, 1000 for metres
     #[arg(long, value_name = "FACTOR", allow_hyphen_values = true)]
     pub scale: Option<f64>,
+    /// The part stands on parallels: add H to every z, after the scale; the floor stays where it is
+    #[arg(long, value_name = "H", default_value = "0", allow_hyphen_values = true)]
+    pub raise: f64,
 }
 
 /// A part that was read and is whole.
 pub struct Part {
     pub seen: Seen,
+    /// As it stands in the file, scaled; raised as well once it was asked.
     pub mesh: Mesh,
+    pub raise: f64,
     pub floor: f64,
     pub radius: f64,
     pub scale: f64,
@@ -38,6 +43,10 @@ pub fn open(asked: &Asked) -> Result<Part, Trouble> {
     let (mesh, floor, radius, questions) = match content {
         Content::Mesh(mesh) => (mesh, None, None, Vec::new()),
         Content::Job(job) => (job.mesh, Some(job.floor), Some(job.radius), job.questions),
+        Content::Um(_) => {
+            let what = format!("{shown}: a job in whole micrometres is neither planned nor asked in this way");
+            return Err(Trouble::refused(what, "ask for its set-up heights with: mandrikelo setup"));
+        }
         Content::Nothing => {
             let what = format!("{shown}: {}", seen.verdict.words());
             return Err(if matches!(seen.verdict, Verdict::Unreadable(_)) {
@@ -71,6 +80,7 @@ pub fn open(asked: &Asked) -> Result<Part, Trouble> {
         seen,
         mesh,
         scale,
+        raise: asked.raise,
         questions,
     })
 }
@@ -94,8 +104,17 @@ impl Part {
         self.seen.path.file_name().map_or("?".into(), |name| crate::words::one_line(name.as_ref()))
     }
 
-    pub fn index(&self) -> Result<Index<'_>, Trouble> {
-        Index::build(&self.mesh, self.floor, self.radius).map_err(|refusal| Trouble::planner(&self.name(), refusal))
+    /// Asks the part's index; the part that stands on parallels is raised with its index, and stays so.
+    pub fn asked<T>(&mut self, ask: impl FnOnce(&Index) -> T) -> Result<T, Trouble> {
+        let refused = |refusal| Trouble::planner(&self.name(), refusal);
+        let index = Index::build(&self.mesh, self.floor, self.radius).map_err(refused)?;
+        if self.raise == 0.0 {
+            return Ok(ask(&index));
+        }
+        let mut raised = Mesh::default();
+        let answer = ask(&index.raised(self.raise, &mut raised).map_err(refused)?);
+        self.mesh = raised;
+        Ok(answer)
     }
 
     pub fn extent(&self) -> ([f64; 3], [f64; 3]) {

@@ -68,8 +68,8 @@ impl Gap {
 }
 
 pub fn plan(asked: &Asked) -> Result<Planned, Trouble> {
-    let part = part::open(&asked.part)?;
-    let top = part.extent().1[2];
+    let mut part = part::open(&asked.part)?;
+    let top = part.extent().1[2] + part.raise;
     let stock_top = asked.stock_top.unwrap_or(if top > part.floor { top } else { part.floor + 1.0 });
     let parameters = Parameters {
         tolerance: asked.tolerance,
@@ -84,7 +84,7 @@ pub fn plan(asked: &Asked) -> Result<Planned, Trouble> {
             Along::Y => Axis::Y,
         },
     };
-    let plan = part.index()?.plan(&parameters).map_err(|refusal| Trouble::planner(&part.name(), refusal))?;
+    let plan = part.asked(|index| index.plan(&parameters))?.map_err(|refusal| Trouble::planner(&part.name(), refusal))?;
     let runs: Vec<Run> = plan.runs().collect();
     let level_of = runs.iter().map(|run| level_of(&plan.levels, run.z - parameters.stock_to_leave)).collect();
     Ok(Planned { part, parameters, reach_tested: asked.cutting_length.is_some(), plan, runs, level_of })
@@ -136,7 +136,7 @@ impl Planned {
     pub fn named(&self) -> Vec<(&'static str, String)> {
         let p = &self.parameters;
         let reach = if self.reach_tested { p.cutting_length.to_string() } else { "not given: reach not tested".into() };
-        vec![
+        let mut out = vec![
             ("radius", self.part.radius.to_string()),
             ("floor", self.part.floor.to_string()),
             ("stepover", p.stepover.to_string()),
@@ -148,7 +148,11 @@ impl Planned {
             ("stock top", p.stock_top.to_string()),
             ("cutting length", reach),
             ("scale", self.part.scale.to_string()),
-        ]
+        ];
+        if self.part.raise != 0.0 {
+            out.push(("raised by", self.part.raise.to_string()));
+        }
+        out
     }
 
     pub fn summary(&self) -> String {
@@ -200,6 +204,7 @@ impl Planned {
             "part": {
                 "path": crate::words::one_line(&self.part.seen.path), "sha256": self.part.seen.sha256, "size": self.part.seen.size,
                 "declared": self.part.seen.declared, "present": self.part.seen.present, "scale": self.part.scale,
+                "raise": self.part.raise,
             },
             "parameters": {
                 "radius": self.part.radius, "floor": self.part.floor, "stepover": p.stepover, "axis": self.axis(), "tolerance": p.tolerance,

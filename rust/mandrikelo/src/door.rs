@@ -10,37 +10,41 @@ mod c {
         pub fn mandrikelo_build(
             mesh: *const f64, mesh_len: usize, floor: f64, r: f64,
             starts: *mut u32, starts_len: usize, members: *mut u32, members_len: usize,
-            #[cfg(boxes)] boxes: *mut f64, #[cfg(boxes)] boxes_len: usize,
+            boxes: *mut f64, boxes_len: usize,
             measures: *mut [f64; 6], sizes: *mut [u32; 3], bad: *mut [u32; 2],
+        ) -> u32;
+        pub fn mandrikelo_raise(
+            mesh: *mut f64, mesh_len: usize, boxes: *mut f64, boxes_len: usize, measures: *const [f64; 6], sizes: *const [u32; 3],
+            amount: f64, raised: *mut [f64; 6], raised_sizes: *mut [u32; 3], bad: *mut [u32; 2],
         ) -> u32;
         pub fn mandrikelo_max_height(
             mesh: *const f64, mesh_len: usize, measures: *const [f64; 6], sizes: *const [u32; 3],
             starts: *const u32, starts_len: usize, members: *const u32, members_len: usize,
-            #[cfg(boxes)] boxes: *const f64, #[cfg(boxes)] boxes_len: usize,
+            boxes: *const f64, boxes_len: usize,
             marks: *mut u32, marks_len: usize, stamp: u32,
             px: f64, py: f64, qx: f64, qy: f64, r: f64,
-            found: *mut [f64; 1], counts: *mut [u32; 2], #[cfg(touched)] touched: *mut [u32; 3],
+            found: *mut [f64; 1], counts: *mut [u32; 2], touched: *mut [u32; 3],
         ) -> u32;
         pub fn mandrikelo_max_bull(
             mesh: *const f64, mesh_len: usize, measures: *const [f64; 6], sizes: *const [u32; 3],
             starts: *const u32, starts_len: usize, members: *const u32, members_len: usize,
-            #[cfg(boxes)] boxes: *const f64, #[cfg(boxes)] boxes_len: usize,
+            boxes: *const f64, boxes_len: usize,
             marks: *mut u32, marks_len: usize, stamp: u32,
             px: f64, py: f64, r: f64, rc: f64,
-            found: *mut [f64; 1], counts: *mut [u32; 2], #[cfg(touched)] touched: *mut [u32; 3],
+            found: *mut [f64; 1], counts: *mut [u32; 2], touched: *mut [u32; 3],
         ) -> u32;
         pub fn mandrikelo_max_sections(
             mesh: *const f64, mesh_len: usize, measures: *const [f64; 6], sizes: *const [u32; 3],
             starts: *const u32, starts_len: usize, members: *const u32, members_len: usize,
-            #[cfg(boxes)] boxes: *const f64, #[cfg(boxes)] boxes_len: usize,
+            boxes: *const f64, boxes_len: usize,
             marks: *mut u32, marks_len: usize, stamp: u32,
             px: f64, py: f64, sections: *const f64, sections_len: usize,
-            found: *mut [f64; 1], counts: *mut [u32; 2], #[cfg(touched)] touched: *mut [u32; 3],
+            found: *mut [f64; 1], counts: *mut [u32; 2], touched: *mut [u32; 3],
         ) -> u32;
         pub fn mandrikelo_bull_chord_clear(
             mesh: *const f64, mesh_len: usize, measures: *const [f64; 6], sizes: *const [u32; 3],
             starts: *const u32, starts_len: usize, members: *const u32, members_len: usize,
-            #[cfg(boxes)] boxes: *const f64, #[cfg(boxes)] boxes_len: usize,
+            boxes: *const f64, boxes_len: usize,
             marks: *mut u32, marks_len: usize, stamp: u32,
             ax: f64, ay: f64, az: f64, bx: f64, by: f64, bz: f64, r: f64, rc: f64, lift: f64,
             counts: *mut [u32; 3],
@@ -48,7 +52,7 @@ mod c {
         pub fn mandrikelo_sections_chord_clear(
             mesh: *const f64, mesh_len: usize, measures: *const [f64; 6], sizes: *const [u32; 3],
             starts: *const u32, starts_len: usize, members: *const u32, members_len: usize,
-            #[cfg(boxes)] boxes: *const f64, #[cfg(boxes)] boxes_len: usize,
+            boxes: *const f64, boxes_len: usize,
             marks: *mut u32, marks_len: usize, stamp: u32,
             ax: f64, ay: f64, az: f64, bx: f64, by: f64, bz: f64, lift: f64,
             sections: *const f64, sections_len: usize,
@@ -57,7 +61,7 @@ mod c {
         pub fn mandrikelo_plan(
             mesh: *const f64, mesh_len: usize, measures: *const [f64; 6], sizes: *const [u32; 3],
             starts: *const u32, starts_len: usize, members: *const u32, members_len: usize,
-            #[cfg(boxes)] boxes: *const f64, #[cfg(boxes)] boxes_len: usize,
+            boxes: *const f64, boxes_len: usize,
             marks: *mut u32, marks_len: usize,
             parameters: *const [f64; 7], axis: u32,
             levels: *mut f64, levels_len: usize, runs: *mut f64, runs_len: usize,
@@ -79,6 +83,19 @@ mod c {
             bytes: *const u8, bytes_len: usize, mesh: *mut f64, mesh_len: usize, questions: *mut f64, questions_len: usize,
             measures: *mut [f64; 2], sizes: *mut [u32; 2],
         ) -> u32;
+        pub fn mandrikelo_read_job_um(
+            bytes: *const u8, bytes_len: usize, mesh: *mut i32, mesh_len: usize, questions: *mut i32, questions_len: usize,
+            measures: *mut [i32; 2], sizes: *mut [u32; 2],
+        ) -> u32;
+        pub fn mandrikelo_build_um(
+            mesh: *const i32, mesh_len: usize, floor: i32, r: i32, starts: *mut u32, starts_len: usize,
+            members: *mut u32, members_len: usize, measures: *mut [i32; 4], sizes: *mut [u32; 4], bad: *mut [u32; 2],
+        ) -> u32;
+        pub fn mandrikelo_setup_height(
+            mesh: *const i32, mesh_len: usize, measures: *const [i32; 4], sizes: *const [u32; 4],
+            starts: *const u32, starts_len: usize, members: *const u32, members_len: usize, marks: *mut u32, marks_len: usize,
+            stamp: u32, px: i32, py: i32, qx: i32, qy: i32, r: i32, height: *mut [i32; 1], counts: *mut [u32; 3],
+        ) -> u32;
         pub fn mandrikelo_write_job(
             mesh: *const f64, mesh_len: usize, floor: f64, radius: f64, questions: *const f64, questions_len: usize,
             bytes: *mut u8, bytes_len: usize, size: *mut [usize; 1],
@@ -88,7 +105,6 @@ mod c {
         ) -> u32;
         #[cfg(rooms)]
         pub fn mandrikelo_rooms(mesh: *const f64, mesh_len: usize, floor: f64, r: f64, rooms: *mut [usize; 2]) -> u32;
-        #[cfg(look_over)]
         pub fn mandrikelo_look_over(
             bytes: *const u8, bytes_len: usize, mesh: *const f64, mesh_len: usize, measures: *const [f64; 6], sizes: *const [u32; 3],
             starts: *const u32, starts_len: usize, members: *const u32, members_len: usize, boxes: *const f64, boxes_len: usize,
@@ -120,8 +136,18 @@ pub fn build(mesh: &[f64], floor: f64, r: f64, starts: &mut [u32], members: &mut
     unsafe {
         c::mandrikelo_build(
             mesh.as_ptr(), mesh.len(), floor, r, starts.as_mut_ptr(), starts.len(), members.as_mut_ptr(), members.len(),
-            #[cfg(boxes)] boxes.as_mut_ptr(), #[cfg(boxes)] boxes.len(),
+            boxes.as_mut_ptr(), boxes.len(),
             &mut built.measures, &mut built.sizes, &mut built.bad,
+        )
+    }
+}
+
+/// Adds the amount to every z of the mesh and of its boxes; `raised` gets the header of the raised index.
+pub fn raise(mesh: &mut [f64], boxes: &mut [f64], measures: &[f64; 6], sizes: &[u32; 3], amount: f64, raised: &mut Built) -> u32 {
+    unsafe {
+        c::mandrikelo_raise(
+            mesh.as_mut_ptr(), mesh.len(), boxes.as_mut_ptr(), boxes.len(), measures, sizes, amount,
+            &mut raised.measures, &mut raised.sizes, &mut raised.bad,
         )
     }
 }
@@ -133,7 +159,7 @@ macro_rules! asked {
             c::$name(
                 $tables.mesh.as_ptr(), $tables.mesh.len(), $tables.measures, $tables.sizes,
                 $tables.starts.as_ptr(), $tables.starts.len(), $tables.members.as_ptr(), $tables.members.len(),
-                #[cfg(boxes)] $tables.boxes.as_ptr(), #[cfg(boxes)] $tables.boxes.len(),
+                $tables.boxes.as_ptr(), $tables.boxes.len(),
                 $marks.as_mut_ptr(), $marks.len(), $($own)*
             )
         }
@@ -149,18 +175,15 @@ pub struct Answered {
 }
 
 pub fn max_height(t: &Tables, marks: &mut [u32], stamp: u32, p: [f64; 2], q: [f64; 2], r: f64, out: &mut Answered) -> u32 {
-    asked!(mandrikelo_max_height, t, marks, stamp, p[0], p[1], q[0], q[1], r, &mut out.height, &mut out.counts,
-        #[cfg(touched)] &mut out.touched)
+    asked!(mandrikelo_max_height, t, marks, stamp, p[0], p[1], q[0], q[1], r, &mut out.height, &mut out.counts, &mut out.touched)
 }
 
 pub fn max_bull(t: &Tables, marks: &mut [u32], stamp: u32, p: [f64; 2], r: f64, rc: f64, out: &mut Answered) -> u32 {
-    asked!(mandrikelo_max_bull, t, marks, stamp, p[0], p[1], r, rc, &mut out.height, &mut out.counts,
-        #[cfg(touched)] &mut out.touched)
+    asked!(mandrikelo_max_bull, t, marks, stamp, p[0], p[1], r, rc, &mut out.height, &mut out.counts, &mut out.touched)
 }
 
 pub fn max_sections(t: &Tables, marks: &mut [u32], stamp: u32, p: [f64; 2], sections: &[f64], out: &mut Answered) -> u32 {
-    asked!(mandrikelo_max_sections, t, marks, stamp, p[0], p[1], sections.as_ptr(), sections.len(), &mut out.height, &mut out.counts,
-        #[cfg(touched)] &mut out.touched)
+    asked!(mandrikelo_max_sections, t, marks, stamp, p[0], p[1], sections.as_ptr(), sections.len(), &mut out.height, &mut out.counts, &mut out.touched)
 }
 
 /// `counts` gets 0 none, 1 clear, 2 blocked; the count; the stamp afterwards.
@@ -223,6 +246,45 @@ pub fn read_job(bytes: &[u8], mesh: &mut [f64], questions: &mut [f64], measures:
     }
 }
 
+/// The same of a job in whole micrometres.
+pub fn read_job_um(bytes: &[u8], mesh: &mut [i32], questions: &mut [i32], measures: &mut [i32; 2], sizes: &mut [u32; 2]) -> u32 {
+    unsafe {
+        c::mandrikelo_read_job_um(
+            bytes.as_ptr(), bytes.len(), mesh.as_mut_ptr(), mesh.len(), questions.as_mut_ptr(), questions.len(), measures, sizes,
+        )
+    }
+}
+
+/// What a build in micrometres writes beside its tables: origin, floor and radius; n, columns, rows, cell; after refusal 4 the place.
+#[derive(Clone, Debug, Default)]
+pub struct BuiltUm {
+    pub measures: [i32; 4],
+    pub sizes: [u32; 4],
+    pub bad: [u32; 2],
+}
+
+pub fn build_um(mesh: &[i32], floor: i32, r: i32, starts: &mut [u32], members: &mut [u32], built: &mut BuiltUm) -> u32 {
+    unsafe {
+        c::mandrikelo_build_um(
+            mesh.as_ptr(), mesh.len(), floor, r, starts.as_mut_ptr(), starts.len(), members.as_mut_ptr(), members.len(),
+            &mut built.measures, &mut built.sizes, &mut built.bad,
+        )
+    }
+}
+
+/// `counts` gets the triangles looked at, the stamp afterwards, the boxes that meet the question's.
+pub fn setup_height(
+    mesh: &[i32], built: &BuiltUm, starts: &[u32], members: &[u32], marks: &mut [u32], stamp: u32, p: [i32; 2], q: [i32; 2], r: i32,
+    height: &mut [i32; 1], counts: &mut [u32; 3],
+) -> u32 {
+    unsafe {
+        c::mandrikelo_setup_height(
+            mesh.as_ptr(), mesh.len(), &built.measures, &built.sizes, starts.as_ptr(), starts.len(), members.as_ptr(), members.len(),
+            marks.as_mut_ptr(), marks.len(), stamp, p[0], p[1], q[0], q[1], r, height, counts,
+        )
+    }
+}
+
 pub fn write_job(mesh: &[f64], floor: f64, radius: f64, questions: &[f64], bytes: &mut [u8], length: &mut [usize; 1]) -> u32 {
     unsafe {
         c::mandrikelo_write_job(
@@ -243,7 +305,6 @@ pub fn rooms(mesh: &[f64], floor: f64, r: f64, rooms: &mut [usize; 2]) -> u32 {
 }
 
 /// `finding` gets 1 passes, 2 does not; the first bad move; 1 blocked rapid, 2 changed z, 3 cut too deep.
-#[cfg(look_over)]
 pub fn look_over(bytes: &[u8], t: &Tables, marks: &mut [u32], sections: &[f64], tolerance: f64, finding: &mut [u32; 3]) -> u32 {
     unsafe {
         c::mandrikelo_look_over(

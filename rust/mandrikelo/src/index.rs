@@ -1,5 +1,6 @@
 use crate::door::{self, Answered, Built, Tables};
 use crate::{Refusal, Tool};
+use std::sync::Arc;
 
 /// Triangles, nine numbers each: x, y, z of its three corners.
 #[derive(Clone, Debug, Default, PartialEq)]
@@ -52,16 +53,17 @@ pub struct Index<'mesh> {
     mesh: &'mesh Mesh,
     measures: [f64; 6],
     sizes: [u32; 3],
-    starts: Vec<u32>,
-    members: Vec<u32>,
+    // an index and those raised from it have these in common
+    starts: Arc<Vec<u32>>,
+    members: Arc<Vec<u32>>,
     boxes: Vec<f64>,
 }
 
 /// What a question marks: one entry a triangle, and the stamp. Made by [`Index::marks`] and carried from question to question.
 #[derive(Clone, Debug)]
 pub struct Marks {
-    marks: Vec<u32>,
-    stamp: u32,
+    pub(crate) marks: Vec<u32>,
+    pub(crate) stamp: u32,
 }
 
 /// A height, how many triangles were looked at, and what gave it.
@@ -72,7 +74,6 @@ pub struct Answer {
     /// The number of triangles looked at.
     pub count: u32,
     /// What the cutter touches at that height.
-    #[cfg(touched)]
     pub touched: crate::Touch,
 }
 
@@ -103,34 +104,45 @@ impl<'mesh> Index<'mesh> {
     /// assert_eq!(Index::build(&mesh, 0.0, 1.0).unwrap_err(), Refusal::Coordinate { triangle: 0, number: 7 });
     /// ```
     pub fn build(mesh: &'mesh Mesh, floor: f64, r: f64) -> Result<Index<'mesh>, Refusal> {
-        let (starts, mut members) = rooms(mesh, floor, r)?;
+        let (starts, mut room) = rooms(mesh, floor, r)?;
         loop {
-            let mut index = Index {
-                mesh,
-                measures: [0.; 6],
-                sizes: [0; 3],
-                starts: vec![0; starts],
-                members: vec![0; members],
-                boxes: vec![0.; 5 * mesh.len()],
-            };
+            let (mut starts, mut members, mut boxes) = (vec![0; starts], vec![0; room], vec![0.; 5 * mesh.len()]);
             let mut built = Built::default();
-            let number = door::build(&mesh.numbers, floor, r, &mut index.starts, &mut index.members, &mut index.boxes, &mut built);
-            match Refusal::of(number) {
-                Err(Refusal::Members) if members < MOST_MEMBERS => members = (members * 4).min(MOST_MEMBERS),
-                Err(Refusal::Coordinate { .. }) => {
-                    return Err(Refusal::Coordinate { triangle: built.bad[0], number: built.bad[1] });
-                }
-                Err(refusal) => return Err(refusal),
+            match Refusal::of(door::build(&mesh.numbers, floor, r, &mut starts, &mut members, &mut boxes, &mut built)) {
+                Err(Refusal::Members) if room < MOST_MEMBERS => room = (room * 4).min(MOST_MEMBERS),
+                Err(refusal) => return Err(refusal.at(built.bad)),
                 Ok(()) => {
-                    (index.measures, index.sizes) = (built.measures, built.sizes);
-                    let cells = built.sizes[1] as usize * built.sizes[2] as usize;
-                    index.starts.truncate(cells + 1);
-                    index.members.truncate(index.starts[cells] as usize);
-                    index.members.shrink_to_fit();
-                    return Ok(index);
+                    starts.truncate(built.sizes[1] as usize * built.sizes[2] as usize + 1);
+                    members.truncate(starts.last().map_or(0, |end| *end as usize));
+                    members.shrink_to_fit();
+                    let (starts, members) = (Arc::new(starts), Arc::new(members));
+                    return Ok(Index { mesh, measures: built.measures, sizes: built.sizes, starts, members, boxes });
                 }
             }
         }
+    }
+
+    /// The index of this part on parallels: `to` gets the mesh with the amount added to every z, and what comes back is its index, the
+    /// same that [`Index::build`] would make of it with this floor and radius, without building. The mesh and the index of before stay as
+    /// they are, and so does `to` after a refusal. Refusals: 2 (an amount over 1e6 in magnitude), 4 (a z that would be).
+    ///
+    /// ```
+    /// use mandrikelo::{Index, Mesh};
+    /// let mesh = Mesh::from_numbers(vec![0., 0., 2., 4., 0., 2., 0., 4., 2.]);
+    /// let index = Index::build(&mesh, 0.0, 1.0)?;
+    /// let mut on_parallels = Mesh::default();
+    /// let raised = index.raised(0.5, &mut on_parallels)?;
+    /// let height = |index: &Index| index.max_height(&mut index.marks(), [1., 1.], [1., 1.], 1.0).map(|answer| answer.height);
+    /// assert_eq!((height(&index)?, height(&raised)?), (2.0, 2.5));
+    /// # Ok::<(), mandrikelo::Refusal>(())
+    /// ```
+    pub fn raised<'to>(&self, amount: f64, to: &'to mut Mesh) -> Result<Index<'to>, Refusal> {
+        let (mut numbers, mut boxes, mut raised) = (self.mesh.numbers.clone(), self.boxes.clone(), Built::default());
+        let number = door::raise(&mut numbers, &mut boxes, &self.measures, &self.sizes, amount, &mut raised);
+        Refusal::of(number).map_err(|refusal| refusal.at(raised.bad))?;
+        to.numbers = numbers;
+        let (starts, members) = (self.starts.clone(), self.members.clone());
+        Ok(Index { mesh: to, measures: raised.measures, sizes: raised.sizes, starts, members, boxes })
     }
 
     /// The mesh that this is the index of.
@@ -222,7 +234,7 @@ impl<'mesh> Index<'mesh> {
     }
 }
 
-const MOST_MEMBERS: usize = 16_777_216;
+pub(crate) const MOST_MEMBERS: usize = 16_777_216;
 
 /// The entries of starts and members that a build needs, by the planner.
 #[cfg(rooms)]
@@ -248,7 +260,6 @@ fn answer(number: u32, out: Answered, marks: &mut Marks) -> Result<Answer, Refus
     Ok(Answer {
         height: out.height[0],
         count: out.counts[0],
-        #[cfg(touched)]
         touched: crate::Touch::of(out.touched),
     })
 }

@@ -56,28 +56,24 @@
 #![warn(missing_docs)]
 
 #[allow(unsafe_code)]
-#[cfg_attr(not(all(boxes, touched)), allow(dead_code, unused_variables))]
 mod door;
 mod file;
 mod index;
-#[cfg(look_over)]
 mod look;
 mod moves;
 mod plan;
 mod refusal;
 mod tool;
-#[cfg(touched)]
 mod touch;
+pub mod um;
 
 pub use file::{Job, Question};
 pub use index::{Answer, Chord, Index, Marks, Mesh, Verdict};
-#[cfg(look_over)]
 pub use look::{Finding, Reason};
 pub use moves::{Heights, Kind, Move, Moves};
 pub use plan::{Axis, Level, Parameters, Plan, Run};
 pub use refusal::Refusal;
 pub use tool::{Holder, Neck, Section, Shape, Sheet, Tool};
-#[cfg(touched)]
 pub use touch::Touch;
 
 /// The most triangles that a mesh may have.

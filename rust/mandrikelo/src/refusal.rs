@@ -135,6 +135,14 @@ impl Refusal {
         }
     }
 
+    /// With the place that a build tells after 4.
+    pub(crate) fn at(self, [triangle, number]: [u32; 2]) -> Refusal {
+        match self {
+            Refusal::Coordinate { .. } => Refusal::Coordinate { triangle, number },
+            other => other,
+        }
+    }
+
     /// Document 01's or 02's number.
     pub fn number(self) -> u32 {
         match self {
