@@ -8,6 +8,9 @@ const FACET: [&str; 21] = [
     "endloop", "endfacet",
 ];
 
+/// No word that is read is longer than this.
+const LONGEST: usize = 1024;
+
 #[derive(Clone, Copy, PartialEq)]
 enum Place {
     Outside,
@@ -71,26 +74,45 @@ impl Ascii {
     }
 
     pub fn feed(&mut self, bytes: &[u8]) {
-        for &byte in bytes {
-            if self.broken.is_some() {
-                return;
+        let mut rest = bytes;
+        while self.broken.is_none() && !rest.is_empty() {
+            let end = match self.skip_line {
+                true => rest.iter().position(|byte| *byte == b'\n'),
+                false => rest.iter().position(u8::is_ascii_whitespace),
+            };
+            let word = &rest[..end.unwrap_or(rest.len())];
+            let last = end.is_some_and(|end| rest[end] == b'\n');
+            match (self.skip_line, end) {
+                (true, None) => return,
+                (true, _) => self.skip_line = false,
+                (false, None) => return self.kept(word),
+                (false, _) if self.word.is_empty() && word.is_empty() => {}
+                (false, _) if self.word.is_empty() => self.take(word, last),
+                // its beginning stood in the chunk before
+                (false, _) => {
+                    self.kept(word);
+                    let word = std::mem::take(&mut self.word);
+                    self.take(&word, last);
+                }
             }
-            if self.skip_line {
-                self.skip_line = byte != b'\n';
-            } else if !byte.is_ascii_whitespace() {
-                self.word.push(byte);
-                continue;
-            } else if !self.word.is_empty() {
-                self.take(byte == b'\n');
-            }
-            self.line += u64::from(byte == b'\n');
+            self.line += u64::from(last);
+            rest = &rest[word.len() + 1..];
+        }
+    }
+
+    /// Keeps the beginning of a word until its end comes. A word without end is none.
+    fn kept(&mut self, word: &[u8]) {
+        self.word.extend_from_slice(&word[..word.len().min(LONGEST)]);
+        if self.word.len() > LONGEST {
+            self.broken = Some(Broken::Facet { line: self.line });
         }
     }
 
     /// The end of the file.
     pub fn finish(&mut self) {
         if !self.word.is_empty() && self.broken.is_none() {
-            self.take(true);
+            let word = std::mem::take(&mut self.word);
+            self.take(&word, true);
         }
         if self.broken.is_none() && (self.place != Place::Outside || self.solids == 0) {
             self.broken = Some(Broken::NoEnd);
@@ -101,9 +123,8 @@ impl Ascii {
         }
     }
 
-    /// Takes the word that has come to its end; `last` if its line has too.
-    fn take(&mut self, last: bool) {
-        let word = std::mem::take(&mut self.word);
+    /// Takes a word that has come to its end; `last` if its line has too.
+    fn take(&mut self, word: &[u8], last: bool) {
         let is = |name: &str| word.eq_ignore_ascii_case(name.as_bytes());
         let place = self.place;
         match place {
@@ -113,7 +134,7 @@ impl Ascii {
             }
             Place::Solid if is("endsolid") => (self.place, self.skip_line) = (Place::Outside, !last),
             Place::Solid if is("facet") => self.place = Place::Facet(1),
-            Place::Facet(step) if self.fits(FACET[step], &word) => {
+            Place::Facet(step) if self.fits(FACET[step], word) => {
                 if step + 1 == FACET.len() {
                     self.triangle();
                 } else {
@@ -122,8 +143,6 @@ impl Ascii {
             }
             _ => self.broken = Some(Broken::Facet { line: self.line }),
         }
-        self.word = word;
-        self.word.clear();
     }
 
     fn fits(&mut self, wanted: &str, word: &[u8]) -> bool {
@@ -189,6 +208,8 @@ mod tests {
     fn surplus_and_broken_lines() {
         let more = format!("solid a\n{ONE}endsolid a\nmore");
         assert_eq!(read(&more, 3).1, Some(Broken::Surplus { line: 10 }));
+        let endless = format!("solid a\n{ONE}{}", "x".repeat(5000));
+        assert_eq!([1, 7, 6000].map(|chunk| read(&endless, chunk).1), [(); 3].map(|()| Some(Broken::Facet { line: 9 })));
         let bent = format!("solid a\n{ONE}facet normal 0 0 up\n");
         assert_eq!(read(&bent, 3).1, Some(Broken::Facet { line: 9 }));
     }
