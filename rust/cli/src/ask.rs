@@ -65,7 +65,7 @@ pub struct Chord {
     #[command(flatten)]
     part: part::Asked,
     /// The tool's sheet; without it a bull-nose of --radius and --corner is asked
-    #[arg(long, value_name = "SHEET", conflicts_with = "corner", required_unless_present = "corner")]
+    #[arg(long, value_name = "SHEET", conflicts_with = "corner")]
     tool: Option<PathBuf>,
     /// Corner radius of a bull-nose, 0 to the radius
     #[arg(long, value_name = "RC", allow_hyphen_values = true)]
@@ -134,9 +134,10 @@ pub fn sections(asked: &Sections) -> Result<(String, u8), Trouble> {
 
 pub fn chord(asked: &Chord) -> Result<(String, u8), Trouble> {
     let tool = asked.tool.as_deref().map(toolsheet::read).transpose()?;
-    let mut part = match &tool {
-        Some(tool) => open_for(&asked.part, tool)?,
-        None => part::open(&asked.part)?,
+    let mut part = match (&tool, asked.corner) {
+        (Some(tool), _) => open_for(&asked.part, tool)?,
+        (None, Some(_)) => part::open(&asked.part)?,
+        (None, None) => return Err(Trouble::use_of("no tool is named", "say --tool SHEET, or of a bull-nose --radius R and --corner RC")),
     };
     let six = |text: &str| points::numbers(text).and_then(|x| x.try_into().map_err(|_| "six numbers are wanted".to_string()));
     let given: Vec<[f64; 6]> = asked.from.iter().zip(&asked.to).map(|(a, b)| [a[0], a[1], a[2], b[0], b[1], b[2]]).collect();

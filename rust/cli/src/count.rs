@@ -64,7 +64,7 @@ pub fn run(asked: &Asked) -> Result<(String, u8), Trouble> {
     found.sort_by(|a, b| a.seen.path.cmp(&b.seen.path));
     let named = if asked.manifest.is_some() || against.is_some() { by_name(&found)? } else { BTreeMap::new() };
     if let Some(path) = &asked.manifest {
-        std::fs::write(path, manifest::text(&named)).map_err(|error| Trouble::file(path, &error))?;
+        crate::plan::write(path, manifest::text(&named).as_bytes())?;
     }
     let rows = match against {
         Some(list) => held(found, list),

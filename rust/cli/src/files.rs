@@ -204,7 +204,7 @@ fn count_at(bytes: &[u8], at: usize) -> Option<u64> {
 
 fn number_words(triangle: u64, number: u32) -> String {
     let axis = ["x", "y", "z"][number as usize % 3];
-    format!("{axis} of corner {} of triangle {}", number / 3 + 1, thousands(triangle + 1))
+    format!("{axis} of corner {} of triangle {triangle}, counted from 0", number / 3)
 }
 
 fn text(seen: &mut Seen, mut ascii: Ascii) -> Content {
@@ -299,7 +299,10 @@ fn first_bad_double(bytes: &[u8], triangles: u64) -> String {
         Some(0) => "the floor".into(),
         Some(1) => "the radius".into(),
         Some(at) if (at - 2) as u64 / 9 < triangles => number_words((at - 2) as u64 / 9, ((at - 2) % 9) as u32),
-        Some(at) => format!("number {} of question {}", ((at - 2) - 9 * triangles as usize) % 5 + 1, ((at - 2) - 9 * triangles as usize) / 5 + 1),
+        Some(at) => {
+            let at = at - 2 - 9 * triangles as usize;
+            format!("number {} of question {}, counted from 0", at % 5, at / 5)
+        }
         None => "in a number".into(),
     }
 }

@@ -73,10 +73,10 @@ pub fn open(asked: &Asked) -> Result<Part, Trouble> {
         return Err(Trouble::use_of(format!("--scale {scale} is no factor"), "say 1, 25.4, 1000 or another number over 0"));
     }
     let mesh = if scale == 1.0 { mesh } else { Mesh::from_numbers(mesh.numbers().iter().map(|x| x * scale).collect()) };
-    let missing = |name: &str| Trouble::use_of(format!("{shown} is no job, so --{name} is needed"), "say it, or make a job of the part");
+    let missing = |name: &str, next: &str| Trouble::use_of(format!("{shown} is no job, so --{name} is needed"), next);
     Ok(Part {
-        floor: asked.floor.or(floor).ok_or_else(|| missing("floor"))?,
-        radius: asked.radius.or(radius).ok_or_else(|| missing("radius"))?,
+        floor: asked.floor.or(floor).ok_or_else(|| missing("floor", "say --floor Z, the height under which nothing is asked"))?,
+        radius: asked.radius.or(radius).ok_or_else(|| missing("radius", "say --radius R, that of the tool"))?,
         seen,
         mesh,
         scale,
@@ -112,6 +112,7 @@ impl Part {
             return Ok(ask(&index));
         }
         let mut raised = Mesh::default();
+        let refused = |refusal| Trouble::planner(&format!("{}, raised by {}", self.name(), self.raise), refusal);
         let answer = ask(&index.raised(self.raise, &mut raised).map_err(refused)?);
         self.mesh = raised;
         Ok(answer)

@@ -62,7 +62,7 @@ pub fn run(asked: &Asked) -> Result<(String, u8), Trouble> {
     if let Some(moves) = &moves {
         let across: f64 = moves.iter().filter(|step| step.kind == Kind::Rapid).map(length).sum();
         let cuts = moves.iter().filter(|step| step.kind == Kind::Cut).count();
-        summary += &format!("{}, {cuts} of them cuts; rapids go {}\n", many(moves.len() as u64, "move"), rounded(across, 3));
+        summary += &format!("{}, {cuts} of them cuts; the rapids together are {} long\n", many(moves.len() as u64, "move"), rounded(across, 3));
     }
     match &asked.json {
         Some(path) if path.as_os_str() == "-" => summary = format!("{:#}\n", planned.json()),
@@ -84,7 +84,7 @@ fn beside(path: &Path, end: &str) -> PathBuf {
 }
 
 pub fn write(path: &Path, bytes: &[u8]) -> Result<(), Trouble> {
-    std::fs::write(path, bytes).map_err(|error| Trouble::file(path, &error))
+    std::fs::write(path, bytes).map_err(|error| Trouble::written(path, &error))
 }
 
 fn length(step: &Move) -> f64 {

@@ -3,7 +3,7 @@ use crate::part::{self, Part};
 use crate::trouble::Trouble;
 use crate::words::{many, rounded, thousands};
 use clap::{Args, ValueEnum};
-use mandrikelo::{Axis, Level, Parameters, Plan, Run};
+use mandrikelo::{Axis, Level, Parameters, Plan, Refusal, Run};
 use serde_json::{json, Value};
 
 #[derive(Clone, Copy, ValueEnum)]
@@ -84,10 +84,39 @@ pub fn plan(asked: &Asked) -> Result<Planned, Trouble> {
             Along::Y => Axis::Y,
         },
     };
-    let plan = part.asked(|index| index.plan(&parameters))?.map_err(|refusal| Trouble::planner(&part.name(), refusal))?;
+    let plan = part.asked(|index| index.plan(&parameters))?.map_err(|refusal| {
+        let what = wrong(&part, &parameters, refusal).map_or(part.name(), |what| format!("{}: {what}", part.name()));
+        Trouble::planner(&what, refusal)
+    })?;
     let runs: Vec<Run> = plan.runs().collect();
     let level_of = runs.iter().map(|run| level_of(&plan.levels, run.z - parameters.stock_to_leave)).collect();
     Ok(Planned { part, parameters, reach_tested: asked.cutting_length.is_some(), plan, runs, level_of })
+}
+
+/// What a refused plan was refused for, as far as it can be told from its numbers: for people, the refusal is the planner's.
+fn wrong(part: &Part, p: &Parameters, refusal: Refusal) -> Option<String> {
+    let (low, high) = part.extent();
+    let rules = [
+        ((1e-7..=0.01).contains(&p.tolerance), format!("the tolerance {} is not within 1e-7 to 0.01", p.tolerance)),
+        (
+            p.tolerance <= p.level_tolerance && p.level_tolerance <= 0.1,
+            format!("the level tolerance {} is not within the tolerance, {}, to 0.1", p.level_tolerance, p.tolerance),
+        ),
+        (p.stepover > 16.0 * p.tolerance, format!("the stepover {} is not over 16 tolerances, {}", p.stepover, 16.0 * p.tolerance)),
+        (p.stepover <= 2.0 * part.radius, format!("the stepover {} is not at most twice the radius, {}", p.stepover, 2.0 * part.radius)),
+        (p.stock_to_leave >= 0.0, format!("the stock to leave, {}, is under 0", p.stock_to_leave)),
+        (p.stock_bottom <= part.floor, format!("the stock's bottom, {}, lies over the floor, {}", p.stock_bottom, part.floor)),
+        (p.stock_top > part.floor, format!("the stock's top, {}, is not over the floor, {}", p.stock_top, part.floor)),
+    ];
+    match refusal {
+        Refusal::Parameter => rules.into_iter().find(|(holds, _)| !holds).map(|(_, what)| what),
+        Refusal::Reach => {
+            let reach = rounded(p.stock_top - p.cutting_length + 16.0 * p.tolerance, 4);
+            let (low, high) = (rounded(low[2], 4), rounded(high[2], 4));
+            Some(format!("the part reaches from z {low} to {high}, the tool from z {reach} to the stock's top, {}", p.stock_top))
+        }
+        _ => None,
+    }
 }
 
 /// The level nearest a height: the runs of a level lie at its z and the stock to leave, rounded once.

@@ -11,7 +11,7 @@ pub fn numbers(text: &str) -> Result<Vec<f64>, String> {
 fn some<const N: usize>(text: &str) -> Result<[f64; N], String> {
     let found = numbers(text)?;
     let many = found.len();
-    found.try_into().map_err(|_| format!("{many} numbers where {N} are wanted"))
+    found.try_into().map_err(|_| format!("{many} where {N} numbers are wanted, with commas between them"))
 }
 
 pub fn two(text: &str) -> Result<[f64; 2], String> {
@@ -24,7 +24,11 @@ pub fn three(text: &str) -> Result<[f64; 3], String> {
 
 /// X,Y for a point, or AX,AY,BX,BY for a sweep.
 pub fn sweep(text: &str) -> Result<[f64; 4], String> {
-    two(text).map(|p| [p[0], p[1], p[0], p[1]]).or_else(|_| some(text))
+    match numbers(text)?[..] {
+        [x, y] => Ok([x, y, x, y]),
+        [ax, ay, bx, by] => Ok([ax, ay, bx, by]),
+        ref other => Err(format!("{} where two numbers are wanted for a point, or four for two ends, with commas between them", other.len())),
+    }
 }
 
 /// The lines of a file, each read the same way; `#` begins a comment, empty lines are left out. `-` is standard input.

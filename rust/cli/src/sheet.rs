@@ -28,8 +28,9 @@ tr+tr td{border-top:1px solid #ddd}code{font-size:.92em;word-break:break-all}.tw
 .swatch{display:inline-block;width:1.6em;height:.7em;margin-right:.5em;border-radius:2px}svg{max-width:100%;height:auto;border:1px solid #ddd}\
 .levels{max-height:26em;overflow:auto;display:inline-block;max-width:100%}button{font:inherit;margin-right:.5em}\
 .sign td{padding-top:2.2em;border-top:0;border-bottom:1px solid #111;width:16em}.whole{color:#1b5e20;font-weight:bold}\
-@media print{body{margin:0;max-width:none;font-size:11px}button,.screen{display:none}.levels{max-height:none;overflow:visible}\
-h2{break-after:avoid}svg{break-inside:avoid}}";
+@media print{*{print-color-adjust:exact;-webkit-print-color-adjust:exact}body{margin:0;max-width:none;font-size:11px}\
+button,.screen{display:none}.levels{max-height:none;overflow:visible}.two{flex-wrap:nowrap;gap:0 1.5em}input{width:9px;height:9px;margin:0}\
+h2{break-after:avoid;margin-top:1em}svg,tr,li,.sign{break-inside:avoid}}";
 
 const SCRIPT: &str = "function show(k,on){document.querySelectorAll('svg .level-'+k).forEach(function(g){g.style.display=on?'':'none'})}\
 document.querySelectorAll('input[data-level]').forEach(function(box){box.addEventListener('change',function(){show(box.dataset.level,box.checked)})});\
@@ -65,7 +66,10 @@ fn page(planned: &Planned) -> String {
         ("bytes", thousands(seen.size)),
         ("triangles declared", count(seen.declared)),
         ("triangles present", count(seen.present)),
-        ("edges without a partner", thousands(crate::closed::edges_without_partner(&planned.part.mesh))),
+        ("edges without a partner", match crate::closed::edges_without_partner(&planned.part.mesh) {
+            0 => "none: the part is closed".into(),
+            open => format!("{}: the part is not closed", thousands(open)),
+        }),
         ("size", size.join(" by ")),
         ("z", format!("{} to {}", rounded(low[2], 3), rounded(high[2], 3))),
     ];
@@ -120,12 +124,16 @@ fn dropped(out: &mut String, planned: &Planned) {
         out.push_str("<p>Nothing: every sampled stretch was kept whole.</p>\n");
         return;
     }
-    let _ = writeln!(
-        out,
-        "<p>{} in all, because the tool would have gone deeper than the tolerance allows. {} of it lie between two runs of one row and stand \
-         below; the rest was dropped at the end of a stretch, where a plan leaves no gap to show it.</p>",
-        rounded(planned.plan.dropped, 4), rounded(marked, 4)
-    );
+    let (all, shown) = (rounded(planned.plan.dropped, 4), rounded(marked, 4));
+    let place = match gaps.len() {
+        _ if shown == all => "All of it lies between two runs of one row, and stands below.".into(),
+        0 => "It was dropped at the ends of stretches, where a plan leaves no gap to show it.".into(),
+        _ => format!(
+            "{shown} of it lies between two runs of one row, and stands below; the rest was dropped at the end of a stretch, where a plan \
+             leaves no gap to show it."
+        ),
+    };
+    let _ = writeln!(out, "<p>A length of {all}, because the tool would have gone deeper than the tolerance allows. {place}</p>");
     if gaps.is_empty() {
         return;
     }
@@ -166,10 +174,14 @@ fn promises(out: &mut String, planned: &Planned) {
         out,
         "<li>Every triangle stands in the index in each grid cell that it covers, and a swept-disk question looks at each triangle that shares \
          a cell with it exactly once.</li>\n\
-         <li>Each piece of a run that was kept has, asked again, a swept-disk height of at most its z + {tolerance}, for the radius {}.</li>\n\
+         {}<li>Each piece of a run that was kept has, asked again, a swept-disk height of at most its z + {tolerance}, for the radius {}.</li>\n\
          <li>Nothing is lost between the halves: the kept and dropped pieces of each sampled stretch follow each other from its first point to \
          its last, and the dropped length is the sum of the dropped ones. Stretches of a single sample are left out of both.</li>\n\
          <li>No level lies above the stock's top{}.</li>",
+        match planned.part.raise {
+            0.0 => String::new(),
+            raise => format!("<li>The part was raised by {raise} with its index, which is the one that a build of the raised part gives.</li>\n"),
+        },
         planned.part.radius,
         if planned.reach_tested { ", and none deeper than the cutting length less 16 tolerances" } else { "" }
     );

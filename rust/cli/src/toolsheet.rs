@@ -43,8 +43,8 @@ pub fn run(asked: &Asked) -> Result<(String, u8), Trouble> {
     let mut out = format!("{}, tip upward\n", many(sections.len() as u64, "section"));
     for s in &sections {
         let top = rounded(s.z0 + (s.r1 - s.r0) * s.rise, 4);
-        let shape = if s.r0 == s.r1 { "flat underside".into() } else { format!("rising {} to {top}", rounded(s.rise, 6)) };
-        out += &format!("  from z {}: radius {} to {}, {shape}\n", s.z0, s.r0, s.r1);
+        let cone = format!(", then up to z {top} at radius {}: {} a unit of radius", s.r1, rounded(s.rise, 6));
+        out += &format!("  from z {}: level out to radius {}{}\n", s.z0, s.r0, if s.r0 == s.r1 { "" } else { &cone });
     }
     Ok((out, 0))
 }

@@ -27,7 +27,13 @@ impl Trouble {
         Trouble::refused(format!("{who}: {what}"), refusal.advice())
     }
 
-    /// A file that can't be read or written.
+    /// A file that can't be written.
+    pub fn written(path: &Path, error: &io::Error) -> Trouble {
+        let why = if error.kind() == io::ErrorKind::NotFound { "no such folder".into() } else { error.to_string() };
+        Trouble::use_of(format!("{} can't be written: {why}", path.display()), "check the path, the rights and the room on the disk")
+    }
+
+    /// A file that can't be read.
     pub fn file(path: &Path, error: &io::Error) -> Trouble {
         Trouble::use_of(format!("{}: {}", path.display(), crate::files::in_words(error)), "check the path, the rights and the disk")
     }

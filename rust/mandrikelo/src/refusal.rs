@@ -85,8 +85,8 @@ pub enum Refusal {
 const TABLE: [(Refusal, &str, &str); 29] = [
     (Refusal::Lengths, "a table is not a whole number of entries, or the mesh has over 65,536 triangles",
         "split the part, or export it with a coarser chord tolerance"),
-    (Refusal::Range, "a number lies outside its range (points 3e6, radii 0 to 1e6, floor and lift 1e6 in magnitude)",
-        "check the points, the radius, the floor and the unit"),
+    (Refusal::Range, "a number lies outside its range (points 3e6; floor, lift and raise 1e6 in magnitude; radii 0 to 1e6; of a job in micrometres all 1e9)",
+        "check the points, the radius, the floor, by how much it is raised, and the unit"),
     (Refusal::Empty, "the mesh is empty", "check that the file was exported with its solid"),
     (Refusal::Coordinate { triangle: 0, number: 0 }, "a coordinate is not finite, or its magnitude is over 1e6",
         "export the part again; if it lies far from the origin, move it there, and check the unit"),
@@ -104,8 +104,8 @@ const TABLE: [(Refusal, &str, &str); 29] = [
     (Refusal::Fine, "over 65,535 rows or samples on a level", "take a larger stepover or a larger radius, or split the part"),
     (Refusal::RunRoom, "more runs than room", "lend a longer table of runs, or take a larger stepover"),
     (Refusal::Head, "the file is shorter than its head: a copy that broke off", "copy the file again"),
-    (Refusal::Mark, "the file does not begin with its mark", "check that it is the file that you meant"),
-    (Refusal::Version, "the file is of another version", "write it again as version 1"),
+    (Refusal::Mark, "the file does not begin with its mark, FTM for a job and FTP for a path", "check that it is the file that you meant"),
+    (Refusal::Version, "the file is of another version", "take the reader of that version: 1 counts in f64s, 2 in whole micrometres"),
     (Refusal::SixthByte, "the file's sixth byte is not 0", "write the file again: its head is damaged"),
     (Refusal::Count, "no triangle, or over 65,536 triangles, questions or moves",
         "export the part with its solid; if it is too fine, with a coarser chord tolerance"),
@@ -173,7 +173,7 @@ impl fmt::Display for Refusal {
         match self {
             Refusal::Cut { whole } => write!(f, " ({whole} whole triangles before the cut)")?,
             Refusal::Coordinate { triangle, number } => {
-                let (corner, axis) = (number / 3 + 1, ["x", "y", "z"][*number as usize % 3]);
+                let (corner, axis) = (number / 3, ["x", "y", "z"][*number as usize % 3]);
                 write!(f, " (the first one: {axis} of corner {corner} of triangle {triangle}, counted from 0)")?
             }
             _ => {}
