@@ -183,3 +183,29 @@ impl fmt::Display for Refusal {
 }
 
 impl std::error::Error for Refusal {}
+
+#[cfg(test)]
+mod tests {
+    use super::*;
+
+    #[test]
+    fn each_number_has_its_words() {
+        let all: Vec<Refusal> = (1..=29).map(|number| Refusal::of(number).unwrap_err()).collect();
+        assert!(Refusal::of(0).is_ok());
+        assert_eq!(all.iter().map(|refusal| refusal.number()).collect::<Vec<_>>(), (1..=29).collect::<Vec<_>>());
+        for (k, refusal) in all.iter().enumerate() {
+            assert!(refusal.text().len() > 10 && refusal.advice().len() > 10, "{refusal}");
+            assert!(all[..k].iter().all(|other| other.text() != refusal.text()), "{refusal}");
+            assert!(refusal.to_string().starts_with(&format!("refusal {}: ", k + 1)) && refusal.to_string().ends_with(refusal.advice()));
+        }
+        assert_eq!(Refusal::of(30).unwrap_err().number(), 30);
+    }
+
+    #[test]
+    fn what_they_tell() {
+        assert!(Refusal::Cut { whole: 734 }.to_string().contains("(734 whole triangles before the cut)"));
+        let place = Refusal::Coordinate { triangle: 0, number: 0 }.at([12, 7]);
+        assert!(place.to_string().contains("y of corner 2 of triangle 12, counted from 0"), "{place}");
+        assert_eq!(Refusal::Range.at([12, 7]), Refusal::Range);
+    }
+}
