@@ -128,10 +128,9 @@ const TABLE: [(Refusal, &str, &str); 29] = [
 impl Refusal {
     /// The refusal with a door's number; what it tells is put in by whoever knows it. Nothing for 0.
     pub(crate) fn of(number: u32) -> Result<(), Refusal> {
-        match number {
-            0 => Ok(()),
-            1..=29 => Err(TABLE[number as usize - 1].0),
-            _ => Err(Refusal::Other(number)),
+        match (number as usize).checked_sub(1).map(|row| TABLE.get(row)) {
+            None => Ok(()),
+            Some(known) => Err(known.map_or(Refusal::Other(number), |row| row.0)),
         }
     }
 
