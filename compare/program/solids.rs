@@ -9,7 +9,7 @@ type Point = [f64; 3];
 pub const SOLIDS: &[(&str, fn(usize) -> Vec<f64>)] = &[
     ("plate", |n| plate((n as f64 / 2.).sqrt() as usize, n / 1000)),
     ("sculpted", sculpted),
-    ("sphere, torus", |n| fitted(n, balls)),
+    ("sphere in torus", |n| fitted(n, balls)),
     ("casting", |n| fitted(n, casting)),
     ("housing", |n| fitted(n, housing)),
 ];
