@@ -52,12 +52,13 @@ fn bed(mesh: Vec<f64>, r: f64) -> Bed {
     Bed::new(mesh, lowest - 1., r)
 }
 
-/// How many questions of a kind make a round.
-fn many(kind: Kind) -> usize {
-    match kind {
-        Kind::Height => 400,
-        Kind::Bull | Kind::Sections => 100,
-        Kind::BullChord | Kind::SectionsChord => 20,
+/// How many questions make a round: few where one takes long.
+fn many(what: What) -> usize {
+    match what {
+        What::Point(Kind::Height) | What::Line(_) => 400,
+        What::High(_) => 200,
+        What::Low(_) => 20,
+        _ => 100,
     }
 }
 
@@ -83,7 +84,7 @@ fn questions(bed: &Bed, what: What, places: &dyn Fn(&mut Rng) -> Ends) -> (Kind,
     let mut rng = Rng::new(5, "parts", 0);
     let mut seen = bed.seen();
     let rests = if kind == Kind::BullChord { Kind::Bull } else { Kind::Sections };
-    let all = (0..many(kind)).map(|_| {
+    let all = (0..many(what)).map(|_| {
         let [p, q] = places(&mut rng);
         let [a, b] = [p, if let What::Point(_) = what { p } else { q }].map(|p| {
             let at = [p[0], p[1], top + 2.];
