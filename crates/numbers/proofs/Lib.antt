@@ -12,6 +12,7 @@ pub mod Rounding
 pub mod Magnitude
 pub mod SignBit
 pub mod Infinities
+pub mod Sums
 pub mod Counts
 pub mod Places
 pub mod Computed

@@ -1,6 +1,9 @@
 // hypot by the bits of two magnitudes. The fast way takes a candidate from floats and checks it in whole numbers; where the check fails, and near the ends of
 // the range, the digits are found one by one. Nothing is proved of how near the candidate is.
 ghost use mathlib.Core.Path.{_≡_};
+ghost use mathlib.Core.Bool.{not};
+ghost use lib.Dec.{T};
+ghost use lib.Ieee.{isNan};
 ghost use Prim.Native.Nat.{max, min, _+_, _-_, _*_, _/_, _^_, _≤_, _<_};
 ghost use mathlib.Core.Logic.{_⊎_};
 ghost use Rattle.numbers.specs.Hypot.{hypotOfCount};
@@ -17,9 +20,16 @@ struct Guess {
     digits: u64,
 }
 
-// hypot of the magnitudes with the bits a and b, a being the larger. Where b's first digit lies 27 or more behind a's, a is nearest.
-pub fn of_sizes(a: u64, b: u64) -> f64
-    requires { ⌜ (b ≤ a) × (a ≤ infiniteBits) ⌝ }
+// Some steps, and how far they go.
+struct Stride {
+    count: u64,
+    length: u64,
+}
+
+// hypot of the magnitudes with the bits a and b, a being the larger. Where b's first digit lies 27 or more behind a's, a is nearest. z is a float near the sum
+// of the squares; nothing is asked of how near.
+pub fn of_sizes(a: u64, b: u64, z: f64) -> f64
+    requires { ⌜ (b ≤ a) × (a ≤ infiniteBits) × T (not (isNan z)) ⌝ }
     ensures { λ r. ⌜ r ≡ ofSizes a b ⌝ }
 {
     let p = a >> 52;
@@ -30,7 +40,7 @@ pub fn of_sizes(a: u64, b: u64) -> f64
     if k >= 27 {
         return f64::from_bits(a);
     }
-    by_guess(a, b, k)
+    by_guess(a, b, k, z)
 }
 
 // The larger of two whole numbers.
@@ -48,13 +58,13 @@ pub fn smaller(a: u64, b: u64) -> u64
 }
 
 // The same for two normal numbers with exponents k apart. The candidate is right if the check gives 53 digits, the least number of 53 digits left out.
-fn by_guess(a: u64, b: u64, k: u64) -> f64
-    requires { ⌜ (b ≤ a) × (28 ≤ a / 2 ^ 52) × (a / 2 ^ 52 < 2046) × (b / 2 ^ 52 + k ≡ a / 2 ^ 52) × (k ≤ 26) ⌝ }
+fn by_guess(a: u64, b: u64, k: u64, z: f64) -> f64
+    requires { ⌜ (b ≤ a) × (28 ≤ a / 2 ^ 52) × (a / 2 ^ 52 < 2046) × (b / 2 ^ 52 + k ≡ a / 2 ^ 52) × (k ≤ 26) × T (not (isNan z)) ⌝ }
     ensures { λ r. ⌜ r ≡ ofSizes a b ⌝ }
 {
     let m = a & roots::FRACTION;
     let n = b & roots::FRACTION;
-    let g = guessed(m, n, k);
+    let g = guessed(z, a >> 52);
     let i = g.over;
     let s = checked(m + roots::LEADING, n + roots::LEADING, k, i, g.digits);
     if std::num::wrapping_sub_u64(s, roots::LEADING + 1) < roots::LEADING - 1 {
@@ -63,55 +73,29 @@ fn by_guess(a: u64, b: u64, k: u64) -> f64
     by_digits(a, b)
 }
 
-// The candidate for the significands 2^52 + m and 2^52 + n, n's counted k places lower.
-fn guessed(m: u64, n: u64, k: u64) -> Guess
-    requires { ⌜ (m < 2 ^ 52) × (n < 2 ^ 52) × (k ≤ 26) ⌝ }
+// The candidate by a float z near the sum of the squares, p being the field of the larger operand's exponent. Half of z's exponent is the root's. What leaves the
+// range as z has no candidate, and the check finds that out.
+fn guessed(z: f64, p: u64) -> Guess
+    requires { ⌜ T (not (isNan z)) ⌝ }
     ensures { λ r. ⌜ (r .over ≤ 1) × (2 ^ 52 ≤ r .digits) × (r .digits < 2 ^ 53) ⌝ }
 {
-    let z = near_sum(m, n, k);
-    if z >= 0.25 {
-        let bits = (f64::to_bits(z) & 0x1f_ffff_ffff_ffff) + 0x3fe0_0000_0000_0000;
-        let y = near_root(f64::from_bits(bits), seeds::chord((bits >> 46) & 0x7f));
-        return Guess { over: from_one(z), digits: digits_of(y) };
+    let bits = f64::to_bits(z);
+    let part = f64::from_bits((bits & 0x1f_ffff_ffff_ffff) + 0x3fe0_0000_0000_0000);
+    let y = near_root(part, seeds::first_guess((bits >> 49) & 15, part));
+    Guess {
+        over: std::num::wrapping_sub_u64(((bits >> 52) + 1023) >> 1, p) & 1,
+        digits: roots::digits_of(y),
     }
-    Guess { over: 0, digits: roots::LEADING }
 }
 
-// A float near the sum of the squares, the larger significand taken as 1/2 to 1.
-fn near_sum(m: u64, n: u64, k: u64) -> f64
-    requires { ⌜ (m < 2 ^ 52) × (n < 2 ^ 52) × (k ≤ 26) ⌝ }
-{
-    let x = f64::from_bits(0x3fe0_0000_0000_0000 + m);
-    let y = f64::from_bits(((1022 - k) << 52) + n);
-    x * x + y * y
-}
-
-// A float near the root of z, for z from 1/2 to 2: the line gives 1 / sqrt(z) to 16 digits, a step of Newton's makes that 32, and the last line adds what is
+// A float near the root of z, for z from 1/2 to 2, from a p near 1 / sqrt(z) to 16 digits: a step of Newton's makes that 32, and the last line adds what is
 // missing.
-fn near_root(z: f64, line: seeds::Line) -> f64 {
-    let p = line.0 - line.1 * z;
+fn near_root(z: f64, p: f64) -> f64 {
     let g0 = z * p;
     let h0 = 0.5 * p;
     let k = 1.5 - g0 * h0;
     let g = g0 * k;
     g + (z - g * g) * (h0 * k)
-}
-
-// 1 where z is 1 or more, else 0.
-fn from_one(z: f64) -> u64
-    ensures { λ r. ⌜ r ≤ 1 ⌝ }
-{
-    if z >= 1.0 { 1 } else { 0 }
-}
-
-// The 53 digits of y.
-fn digits_of(y: f64) -> u64
-    ensures { λ r. ⌜ (2 ^ 52 ≤ r) × (r < 2 ^ 53) ⌝ }
-{
-    if y >= 0.5 {
-        return (f64::to_bits(y) & roots::FRACTION) | roots::LEADING;
-    }
-    roots::LEADING
 }
 
 // The root of m * m + n * n / 4^k, over 2^i, rounded, if it lies within one of c; else 0, and 0 also where it lies too near to a middle to tell. Both operands
@@ -154,24 +138,24 @@ fn settled(c2: u64, c1: u64, c0: u64, s: u64) -> u64
     }
     let u = std::num::wrapping_sub_u64((d << 28) + c0 + 12 * s, b * b + 0x800_0000_0000_0000);
     let e = steps(u, 8 * s);
-    if std::num::wrapping_sub_u64(u - e * (8 * s), 0x4000_0000) >= 8 * s - 0x8000_0000 {
+    if std::num::wrapping_sub_u64(u - e.length, 0x4000_0000) >= 8 * s - 0x8000_0000 {
         return 0;
     }
-    s - 1 + e
+    s - 1 + e.count
 }
 
-// How many times w goes into u below it, at most 2.
-fn steps(u: u64, w: u64) -> u64
+// How many times w goes into u below it, at most 2, and that many times w.
+fn steps(u: u64, w: u64) -> Stride
     requires { ⌜ w < 2 ^ 56 ⌝ }
-    ensures { λ r. ⌜ (r ≤ 2) × (r * w ≤ u) ⌝ }
+    ensures { λ r. ⌜ (r .count ≤ 2) × (r .length ≡ r .count * w) × (r .length ≤ u) ⌝ }
 {
     if u <= w {
-        return 0;
+        return Stride { count: 0, length: 0 };
     }
     if u <= 2 * w {
-        return 1;
+        return Stride { count: 1, length: w };
     }
-    2
+    Stride { count: 2, length: 2 * w }
 }
 
 // hypot of the magnitudes with the bits a and b, a being the larger, digit by digit.

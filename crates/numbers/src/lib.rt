@@ -113,19 +113,18 @@ pub fn round_up(x: f64) -> f64
     -round_down(-x)
 }
 
-// How far (x, y) lies from (0, 0), correctly rounded, by the bits of the two magnitudes.
+// How far (x, y) lies from (0, 0), correctly rounded, by the bits of the two magnitudes. The sum of the squares, which starts the search for the root, is a NaN
+// exactly where x or y is.
 pub fn hypot(x: f64, y: f64) -> f64
     ensures { λ r. ⌜ r ≡ hypotOf x y ⌝ }
 {
-    if x != x {
-        return hypot_of_nan(x, y);
-    }
-    if y != y {
+    let z = x * x + y * y;
+    if z != z {
         return hypot_of_nan(x, y);
     }
     let a = f64::to_bits(x) & MAGNITUDE;
     let b = f64::to_bits(y) & MAGNITUDE;
-    hypots::of_sizes(hypots::larger(a, b), hypots::smaller(a, b))
+    hypots::of_sizes(hypots::larger(a, b), hypots::smaller(a, b), z)
 }
 
 // The same where one of the two is a NaN: the other may still be infinite.

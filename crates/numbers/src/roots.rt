@@ -51,17 +51,23 @@ fn candidate(m: u64, odd: u64) -> u64
     ensures { λ r. ⌜ (2 ^ 52 ≤ r) × (r < 2 ^ 53) ⌝ }
 {
     let bits = ((1022 - odd) << 52) + m;
-    let y = guess(f64::from_bits(bits), seeds::chord((bits >> 46) & 0x7f));
+    let z = f64::from_bits(bits);
+    digits_of(guess(z, seeds::first_guess((bits >> 49) & 15, z)))
+}
+
+// The 53 digits of y.
+pub fn digits_of(y: f64) -> u64
+    ensures { λ r. ⌜ (2 ^ 52 ≤ r) × (r < 2 ^ 53) ⌝ }
+{
     if y >= 0.5 {
         return (f64::to_bits(y) & FRACTION) | LEADING;
     }
     LEADING
 }
 
-// A float near the root of z, for z from 1/2 to 2. The line gives p near 1 / sqrt(z) to 16 digits, and a step of Newton's makes that 32 in g. The last line adds what
-// z less the square of g still asks for; it is found from w, g0 to 26 digits, whose square is exact.
-fn guess(z: f64, line: seeds::Line) -> f64 {
-    let p = line.0 - line.1 * z;
+// A float near the root of z, for z from 1/2 to 2, from a p near 1 / sqrt(z) to 16 digits. A step of Newton's makes that 32 in g. The last line adds what z less
+// the square of g still asks for; it is found from w, g0 to 26 digits, whose square is exact.
+fn guess(z: f64, p: f64) -> f64 {
     let g0 = z * p;
     let h0 = 0.5 * p;
     let k = 1.5 - g0 * h0;

@@ -6,10 +6,11 @@ use native.Mathlib.Omega.{arith}
 use lib.Bits.{bitAnd}
 use lib.Dec.{T}
 use lib.Ieee.{Float, binary64, fits, isNan, toBits}
-use lib.Ieee.Compare.{differs-from-itself}
 use Rattle.numbers.proofs.Patterns.{no-nan}
 use Rattle.numbers.specs.Inside.{infiniteBits, ofSizes}
-use Rattle.numbers.proofs.Sized.{Magnitude, magnitude, sizes, most, hypot-nan, nan-first, nan-second}
+use Rattle.numbers.proofs.Branches.{nan-taken}
+use Rattle.numbers.proofs.Sums.{one-nan, first-number, second-number}
+use Rattle.numbers.proofs.Sized.{Magnitude, magnitude, sizes, most, hypot-nan}
 use Rattle.numbers.proofs.hypot.Statement.{statement}
 use Rattle.numbers.proofs.hypot.Tie as tie
 
@@ -17,32 +18,30 @@ abbrev size : Float → ℕ
 size x = bitAnd (toBits binary64 x) (2 ^ 63 - 1)
 
 returns : tie.Need-returns
-returns c = let s = c .before .before in hypot-nan (s .args .x) (s .args .y) _ (nan-first (s .args .x) (s .args .y) (differs-from-itself (s .args .x) (subst T (sym (c .before .if1 .taken)) tt))) (c .hypot-of-nan .ensures)
+returns c = let s = c .before .before in hypot-nan (s .args .x) (s .args .y) _ (one-nan (s .args .x) (s .args .y) (nan-taken _ (c .before .if1 .taken))) (c .hypot-of-nan .ensures)
 
-returns-2 : tie.Need-returns-2
-returns-2 c = let s = c .before .before .before in hypot-nan (s .args .x) (s .args .y) _ (nan-second (s .args .x) (s .args .y) (differs-from-itself (s .args .y) (subst T (sym (c .before .if2 .taken)) tt))) (c .hypot-of-nan2 .ensures)
+first : (c : tie.Else1) → Magnitude (c .before .args .x) (size (c .before .args .x))
+first c = magnitude (c .before .args .x) (subst T (sym (c .before .good .0 .1)) tt) (first-number (c .before .args .x) (c .before .args .y) (c .if1 .left))
 
-first : (c : tie.Else2) → Magnitude (c .before .before .args .x) (size (c .before .before .args .x))
-first c = magnitude (c .before .before .args .x) (subst T (sym (c .before .before .good .0 .1)) tt) (no-nan (c .before .before .args .x) (c .before .if1 .left))
-
-second : (c : tie.Else2) → Magnitude (c .before .before .args .y) (size (c .before .before .args .y))
-second c = magnitude (c .before .before .args .y) (subst T (sym (c .before .before .good .1 .0 .1)) tt) (no-nan (c .before .before .args .y) (c .if2 .left))
+second : (c : tie.Else1) → Magnitude (c .before .args .y) (size (c .before .args .y))
+second c = magnitude (c .before .args .y) (subst T (sym (c .before .good .1 .0 .1)) tt) (second-number (c .before .args .x) (c .before .args .y) (c .if1 .left))
 
 of-sizes-requires : tie.Need-of-sizes-requires
 of-sizes-requires c κs =
     let e = c .before .before in
-    let x = e .before .before .args .x in
-    let y = e .before .before .args .y in
-    both _ _ (size x) (size y) (c .before .larger .ensures) (c .smaller .ensures) (most x y (size x) (size y) (first e)) (most y x (size y) (size x) (second e))
+    let x = e .before .args .x in
+    let y = e .before .args .y in
+    let b = both _ _ (size x) (size y) (c .before .larger .ensures) (c .smaller .ensures) (most x y (size x) (size y) (first e)) (most y x (size y) (size x) (second e)) in
+    (b .0, b .1, no-nan _ (e .if1 .left))
   where
     both : (l s a b : ℕ) → l ≡ max a b → s ≡ min a b → a ≤ infiniteBits → b ≤ infiniteBits → (s ≤ l) × (l ≤ infiniteBits)
     both l s a b e f h k = (omega arith, omega arith)
 
-returns-3 : tie.Need-returns-3
-returns-3 c =
+returns-2 : tie.Need-returns-2
+returns-2 c =
     let e = c .before .before .before in
-    let x = e .before .before .args .x in
-    let y = e .before .before .args .y in
+    let x = e .before .args .x in
+    let y = e .before .args .y in
     c .of-sizes .ensures
     ∙ ap (λ (z : ℕ). ofSizes z (c .before .smaller .result)) (c .before .before .larger .ensures)
     ∙ ap (λ (z : ℕ). ofSizes (max (size x) (size y)) z) (c .before .smaller .ensures)
@@ -54,11 +53,9 @@ hypot-spec =
     (tie.spec
     (λ c κs. tt)
     returns
-    (λ c κs. tt)
-    returns-2
-    (λ c. no-nan (c .before .before .args .x) (c .before .if1 .left))
-    (λ c. no-nan (c .before .before .args .y) (c .if2 .left))
+    (λ c. first-number (c .before .args .x) (c .before .args .y) (c .if1 .left))
+    (λ c. second-number (c .before .args .x) (c .before .args .y) (c .if1 .left))
     (λ c κs. tt)
     (λ c κs. tt)
     of-sizes-requires
-    returns-3)
+    returns-2)

@@ -66,7 +66,7 @@ pub by-guess-spec : {M : Type 1} → statement M
 by-guess-spec =
     tie.close
     (tie.spec
-    (λ c κs. (wide (c .args .a), wide (c .args .b), c .pre .4))
+    (λ c κs. c .pre .5)
     (λ c. omega (arith, wide (c .before .args .a)))
     (λ c. omega (arith, wide (c .before .args .b)))
     (λ c κs. (omega (arith, wide (c .before .args .a)), omega (arith, wide (c .before .args .b)), c .before .pre .4, c .guessed .ensures .0, c .guessed .ensures .1, c .guessed .ensures .2))

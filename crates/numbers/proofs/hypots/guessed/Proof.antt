@@ -7,7 +7,8 @@ use borrow.Author.Needs.{needs}
 use lib.Bits.{bitAnd, mask-lt}
 use lib.Dec.{T}
 use lib.Ieee.{Float, binary64, nanBits, toBits}
-use Rattle.numbers.proofs.Patterns.{ordered, made-no-nan}
+use lib.Ieee.Bits.{toBits-lt}
+use Rattle.numbers.proofs.Patterns.{made-no-nan}
 use Rattle.numbers.proofs.hypots.guessed.Statement.{statement}
 use Rattle.numbers.proofs.hypots.guessed.Tie as tie
 
@@ -27,17 +28,22 @@ no-nan w h = subst (λ (b : ℕ). T (not (nanBits binary64 b))) (same w) (made-n
     rest : (w : ℕ) → w % 2 ^ 52 < 2 ^ 52
     rest w = omega arith
 
+wide : (c : tie.Start) → toBits binary64 (c .args .z) < 2 ^ 64
+wide c = toBits-lt binary64 (c .args .z) (subst T (sym (c .good .0 .1)) tt)
+
+most : (w : ℕ) → bitAnd w 1 ≤ 1
+most w = let h = mask-lt w 1 in omega arith
+
 pub guessed-spec : {M : Type 1} → statement M
 guessed-spec =
     tie.close
     (tie.spec
-    (λ c κs. search needs)
-    (λ c. ordered _ (c .before .near-sum .result) (c .if1 .taken))
-    (λ c. omega (arith, low (c .before .near-sum .result)))
-    (λ c. no-nan _ (low (c .before .near-sum .result)))
+    (λ c. c .pre)
+    (λ c. omega (arith, low (c .args .z)))
+    (λ c. no-nan _ (low (c .args .z)))
     (λ c κs. tt)
     (λ c κs. tt)
+    (λ c. omega (arith, wide (c .before .before)))
     (λ c κs. tt)
     (λ c κs. tt)
-    (λ c. search needs)
-    (λ c. search needs))
+    (λ c. (most (c .before .wrapping-sub-u64 .result), c .digits-of .ensures .0, c .digits-of .ensures .1)))

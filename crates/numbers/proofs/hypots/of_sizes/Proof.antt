@@ -40,7 +40,7 @@ by-guess-requires : tie.Need-by-guess-requires
 by-guess-requires c κs =
     let s = c .before .before .before in
     let f = field (c .before) in
-    (s .pre .0, f .0, f .1, sum (s .args .a) (s .args .b) (s .pre .0), omega (arith, c .if2 .left))
+    (s .pre .0, f .0, f .1, sum (s .args .a) (s .args .b) (s .pre .0), omega (arith, c .if2 .left), s .pre .2)
   where
     sum : (a b : ℕ) → b ≤ a → b / 2 ^ 52 + (a / 2 ^ 52 - b / 2 ^ 52) ≡ a / 2 ^ 52
     sum a b h = omega arith

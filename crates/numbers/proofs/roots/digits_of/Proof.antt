@@ -1,8 +1,8 @@
 use borrow.Author.Needs.{needs}
 use lib.Ieee.{binary64, toBits}
 use Rattle.numbers.proofs.Patterns.{ordered, fractionOf, fraction-lt, leading}
-use Rattle.numbers.proofs.hypots.digits_of.Statement.{statement}
-use Rattle.numbers.proofs.hypots.digits_of.Tie as tie
+use Rattle.numbers.proofs.roots.digits_of.Statement.{statement}
+use Rattle.numbers.proofs.roots.digits_of.Tie as tie
 
 returns : tie.Need-returns
 returns c = let b = toBits binary64 (c .before .args .y) in let l = leading (fractionOf b) (fraction-lt b) in (l .0, l .1)
