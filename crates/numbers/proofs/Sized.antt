@@ -52,9 +52,6 @@ module _ (n k q : ℕ) (h : Hits n k q) (K : k ≤ 2046) where
   few : q ≤ 2 ^ 53
   few = few-digits n k q (h .high) (h .nearest)
 
-  pub result-fits : k * 2 ^ 52 % 2 ^ 64 + q < 2 ^ 64
-  result-fits = let f = few in omega arith
-
   pub result-is : k * 2 ^ 52 % 2 ^ 64 + q < infiniteBits → (ofBits binary64 (k * 2 ^ 52 % 2 ^ 64 + q) ≡ hypotOfCount n) × T (not (nanBits binary64 (k * 2 ^ 52 % 2 ^ 64 + q)))
   result-is l =
       subst (λ (z : ℕ). (ofBits binary64 (z + q) ≡ hypotOfCount n) × T (not (nanBits binary64 (z + q)))) (sym exact)
@@ -180,13 +177,3 @@ module _ (x y : Float) (a b : ℕ) where
 pub hypot-nan : (x y r : Float) → (isNan x || isNan y) ≡ true → r ≡ cond (infinite x || infinite y) (inf false) nan → r ≡ hypotOf x y
 unfolding hypotOf
 hypot-nan x y r e h = h ∙ ap (λ (t : Bool). cond (infinite x || infinite y) (inf false) (cond t nan (hypotOfCount (countOf x * countOf x + countOf y * countOf y)))) (sym e)
-
-pub nan-first : (x y : Float) → x ≡ nan → (isNan x || isNan y) ≡ true
-nan-first x y e = unfold isNan in ap (λ (z : Float). isNan z || isNan y) e
-
-pub nan-second : (x y : Float) → y ≡ nan → (isNan x || isNan y) ≡ true
-nan-second x y e = unfold isNan in ap (λ (z : Float). isNan x || isNan z) e ∙ either (isNan x)
-  where
-    either : (b : Bool) → (b || true) ≡ true
-    either true = refl
-    either false = refl

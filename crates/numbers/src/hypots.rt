@@ -5,14 +5,9 @@ ghost use mathlib.Core.Bool.{not};
 ghost use lib.Dec.{T};
 ghost use lib.Ieee.{isNan};
 ghost use Prim.Native.Nat.{max, min, _+_, _-_, _*_, _/_, _^_, _≤_, _<_};
-ghost use mathlib.Core.Logic.{_⊎_};
-ghost use Rattle.numbers.specs.Hypot.{hypotOfCount};
 ghost use Rattle.numbers.specs.Inside.{placeOf, infiniteBits, ofSizes, Settled, Clear};
 use crate::roots;
 use crate::wide;
-
-// the bits of plus infinity
-const INFINITE: u64 = 0x7ff0_0000_0000_0000;
 
 // A candidate: whether the root has a digit before the larger operand's first, and its 53 digits.
 struct Guess {
@@ -163,7 +158,7 @@ fn by_digits(a: u64, b: u64) -> f64
     requires { ⌜ (b ≤ a) × (a ≤ infiniteBits) ⌝ }
     ensures { λ r. ⌜ r ≡ ofSizes a b ⌝ }
 {
-    if a >= INFINITE {
+    if a >= wide::INFINITE {
         return 1.0 / 0.0;
     }
     let p = place(a);
@@ -171,7 +166,7 @@ fn by_digits(a: u64, b: u64) -> f64
     if p - q >= 27 {
         return f64::from_bits(a);
     }
-    by_sum(a - (p << 52), b - (q << 52), p, p - q)
+    wide::by_digits(0, a - (p << 52), b - (q << 52), p, p - q)
 }
 
 // The place of the last digit.
@@ -183,19 +178,4 @@ fn place(a: u64) -> u64
         return 0;
     }
     p - 1
-}
-
-// hypot of m * 2^p and n * 2^(p - k) smallest f64s.
-fn by_sum(m: u64, n: u64, p: u64, k: u64) -> f64
-    requires { ⌜ (m < 2 ^ 53) × (n < 2 ^ 53) × (p ≤ 2045) × (k ≤ 26) × (k ≤ p) × ((p ≡ 0) ⊎ (2 ^ 52 ≤ m)) ⌝ }
-    ensures { λ r. ⌜ r ≡ hypotOfCount (m * 2 ^ p * (m * 2 ^ p) + n * 2 ^ (p - k) * (n * 2 ^ (p - k))) ⌝ }
-{
-    let v = wide::sum(m, n, k);
-    let j = v.hi >> 54;
-    let w = wide::lowered(v, 2 * j);
-    let r = ((p + j) << 52) + wide::nearest_root(w.hi, w.lo);
-    if r >= INFINITE {
-        return 1.0 / 0.0;
-    }
-    f64::from_bits(r)
 }

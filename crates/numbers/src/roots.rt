@@ -23,26 +23,19 @@ pub fn root_of_subnormal(f: u64) -> f64
     root_of(f << zeros, difference(0, 1074 + zeros))
 }
 
-// The root of m * 2^e, for an m of 53 digits. The exponent is halved towards minus infinity, and what that leaves, 0 or 1, goes to m.
+// The root of m * 2^e, for an m of 53 digits. The exponent is halved towards minus infinity, and what that leaves, 0 or 1, goes to m. The digits are the whole
+// number nearest to the root of m * 2^odd * 2^52: a candidate if it passes the check, as nearly every one does, or else found one by one.
 pub fn root_of(m: u64, e: i64) -> f64
     requires { ⌜ (2 ^ 52 ≤ m) × (m < 2 ^ 53) × Exponent e ⌝ }
     ensures { λ r. ⌜ r ≡ rootOf (fin false m e) ⌝ }
 {
-    let s = significand(m, odd(e));
-    f64::from_bits((halved(e) << 52) + s)
-}
-
-// The whole number nearest to the root of m * 2^odd * 2^52: a candidate if it passes the check, as nearly every one does, or else digit by digit.
-fn significand(m: u64, odd: u64) -> u64
-    requires { ⌜ (2 ^ 52 ≤ m) × (m < 2 ^ 53) × (odd < 2) ⌝ }
-    ensures { λ r. ⌜ Nearest (m * 2 ^ odd * 2 ^ 52) r ⌝ }
-{
-    let n = m << odd;
-    let s = candidate(m, odd);
-    if nearest(n, s) {
-        return s;
+    let o = odd(e);
+    let p = halved(e);
+    let s = candidate(m, o);
+    if nearest(m << o, s) {
+        return f64::from_bits((p << 52) + s);
     }
-    wide::nearest_root(n, 0)
+    wide::by_digits(m << o, m, m, p, 0)
 }
 
 // A candidate of 53 digits. They are those of a float near the root of m * 2^-odd / 2^52, which has the digits of the root asked for.

@@ -1,8 +1,12 @@
 // The root of a whole number of up to 109 digits, digit by digit. A number that wide is kept in two words.
 ghost use mathlib.Core.Path.{_≡_};
-ghost use Prim.Native.Nat.{_+_, _*_, _/_, _^_, _≤_, _<_};
-ghost use Rattle.numbers.specs.Hypot.{NearestEven};
-ghost use Rattle.numbers.specs.Inside.{Lowered};
+ghost use mathlib.Core.Logic.{_⊎_};
+ghost use Prim.Native.Nat.{_+_, _-_, _*_, _/_, _^_, _≤_, _<_};
+ghost use Rattle.numbers.specs.Hypot.{NearestEven, hypotOfCount};
+ghost use Rattle.numbers.specs.Inside.{Lowered, RootAt};
+
+// the bits of plus infinity
+pub const INFINITE: u64 = 0x7ff0_0000_0000_0000;
 
 // the 55 digits of the lower word
 const LOW: u64 = 0x7f_ffff_ffff_ffff;
@@ -13,9 +17,38 @@ pub struct Wide {
     pub lo: u64,
 }
 
+// A root, digit by digit. A w that is not 0 asks for the f64 whose digits are the whole number nearest to the root of w * 2^52, p being the place of the last of
+// them; else it is hypot of m * 2^p and n * 2^(p - k) smallest f64s. One function for both, so that a program has the digits' loop once: the compiler copies a
+// shorter one into both of its callers, and one that it can shorten by a caller's constants too. So beside a w a caller hands over an m and n that count for
+// nothing.
+pub fn by_digits(w: u64, m: u64, n: u64, p: u64, k: u64) -> f64
+    requires { ⌜ (w < 2 ^ 54) × (m < 2 ^ 53) × (n < 2 ^ 53) × (p ≤ 2045) × (k ≤ 26) × (k ≤ p) × ((p ≡ 0) ⊎ (2 ^ 52 ≤ m)) ⌝ }
+    ensures { λ r. ⌜ (w ≡ 0 → r ≡ hypotOfCount (m * 2 ^ p * (m * 2 ^ p) + n * 2 ^ (p - k) * (n * 2 ^ (p - k)))) × (0 < w → p ≤ 2044 → RootAt w p r) ⌝ }
+{
+    let v = under_root(w, m, n, k);
+    let j = v.hi >> 54;
+    let t = lowered(v, 2 * j);
+    let r = ((p + j) << 52) + nearest_root(t.hi, t.lo);
+    if r >= INFINITE {
+        return 1.0 / 0.0;
+    }
+    f64::from_bits(r)
+}
+
+// What stands under the root, eight times: w * 2^52, or (m * m * 4^k + n * n) / 4^k.
+fn under_root(w: u64, m: u64, n: u64, k: u64) -> Wide
+    requires { ⌜ (w < 2 ^ 54) × (m < 2 ^ 53) × (n < 2 ^ 53) × (k ≤ 26) ⌝ }
+    ensures { λ r. ⌜ (r .hi < 2 ^ 55) × (r .lo < 2 ^ 55) × (w ≡ 0 → Lowered (8 * (m * m) * 2 ^ (2 * k) + 8 * (n * n)) (r .hi * 2 ^ 55 + r .lo) (2 * k)) × (0 < w → r .hi * 2 ^ 55 + r .lo ≡ 8 * (w * 2 ^ 52)) ⌝ }
+{
+    if w != 0 {
+        return Wide { hi: w, lo: 0 };
+    }
+    sum(m, n, k)
+}
+
 // The whole number nearest to the root of (hi * 2^55 + lo) / 8, ties to even. q takes the digit r where its square is then still not above; rest is what is
 // left, and low the digits that have not come down to it.
-pub fn nearest_root(hi: u64, lo: u64) -> u64
+fn nearest_root(hi: u64, lo: u64) -> u64
     requires { ⌜ (hi < 2 ^ 54) × (lo < 2 ^ 55) ⌝ }
     ensures { λ r. ⌜ NearestEven (hi * 2 ^ 55 + lo) 2 r ⌝ }
 {
@@ -45,7 +78,7 @@ pub fn nearest_root(hi: u64, lo: u64) -> u64
 }
 
 // 8 * (m * m * 4^k + n * n) / 4^k
-pub fn sum(m: u64, n: u64, k: u64) -> Wide
+fn sum(m: u64, n: u64, k: u64) -> Wide
     requires { ⌜ (m < 2 ^ 53) × (n < 2 ^ 53) × (k ≤ 26) ⌝ }
     ensures { λ r. ⌜ (r .hi < 2 ^ 55) × (r .lo < 2 ^ 55) × Lowered (8 * (m * m) * 2 ^ (2 * k) + 8 * (n * n)) (r .hi * 2 ^ 55 + r .lo) (2 * k) ⌝ }
 {
@@ -74,7 +107,7 @@ fn carried(hi: u64, lo: u64) -> Wide
 }
 
 // v / 2^c, its last digit set where anything was lost
-pub fn lowered(v: Wide, c: u64) -> Wide
+fn lowered(v: Wide, c: u64) -> Wide
     requires { ⌜ (v .hi < 2 ^ 55) × (v .lo < 2 ^ 55) × (c ≤ 52) ⌝ }
     ensures { λ r. ⌜ (r .hi ≡ v .hi / 2 ^ c) × (r .lo < 2 ^ 55) × Lowered (v .hi * 2 ^ 55 + v .lo) (r .hi * 2 ^ 55 + r .lo) c ⌝ }
 {

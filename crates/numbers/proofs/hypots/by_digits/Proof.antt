@@ -1,9 +1,10 @@
 -- `by_digits` meets its contract: place and digits are the definition's (`Sized.antt`).
-use mathlib.Core.Path.{_≡_, sym, ap, _∙_, subst}
+use mathlib.Core.Path.{_≡_, refl, sym, ap, _∙_, subst}
 use mathlib.Core.Logic.{_⊎_, inl, inr}
 use Prim.Native.Nat.{ℕ, _+_, _-_, _*_, _/_, _%_, _^_, _≤_, _<_}
 use native.Mathlib.Omega.{arith}
 use borrow.Author.Needs.{needs}
+use lib.Dec.{lit<}
 use Rattle.numbers.proofs.Infinities.{infinity-is}
 use Rattle.numbers.specs.Hypot.{hypotOfCount}
 use Rattle.numbers.specs.Inside.{placeOf, digitsOf, infiniteBits, ofSizes}
@@ -31,8 +32,8 @@ returns-2 c =
     let s = c .before .before .before .before in
     alone (s .args .a) (s .args .b) (s .pre .0) (c .before .before .before .if1 .left) (far (s .args .a) (s .args .b) _ _ (c .before .before .place .ensures) (c .before .place2 .ensures) (c .if2 .taken)) .0
 
-by-sum-requires : tie.Need-by-sum-requires
-by-sum-requires c κs =
+digits-requires : tie.Need-by-digits-requires
+digits-requires c κs =
     let s = c .before .before .before .before in
     let a = s .args .a in
     let b = s .args .b in
@@ -43,6 +44,7 @@ by-sum-requires c κs =
     let A = sized a h in
     let B = sized b k in
     (
+      lit< tt,
       subst (λ (z : ℕ). z < 2 ^ 53) (sym (digits a _ h p)) (A .few),
       subst (λ (z : ℕ). z < 2 ^ 53) (sym (digits b _ k q)) (B .few),
       subst (λ (z : ℕ). z ≤ 2045) (sym p) (A .place),
@@ -66,7 +68,7 @@ returns-3 c =
     let q = c .before .before .place2 .ensures in
     let h = c .before .before .before .before .if1 .left in
     let k = below a b (s .pre .0) h in
-    c .by-sum .ensures
+    c .by-digits .ensures .0 refl
     ∙ same _ _ _ _ _ _ _ _ (digits a _ h p) (digits b _ k q) p (place a b _ _ (s .pre .0) p q)
     ∙ sizes-finite a b h
   where
@@ -89,5 +91,5 @@ by-digits-spec =
     (λ c. search needs)
     (λ c. search needs)
     (λ c. search needs)
-    by-sum-requires
+    digits-requires
     returns-3)
