@@ -173,7 +173,7 @@ count-lt (inf s) f p = absurd p
 count-lt (fin s m e) f p = let c = counted s m e f in subst (λ (z : ℕ). z < 2 ^ 2098) (sym (ap (λ (z : ℕ). z / down e) (c .1) ∙ mul-div-cancel (m * 2 ^ c .0) (down-pos e))) (c .2)
 
 -- ---- the root of a square
-exactly : (d p : ℕ) → d < 2 ^ 53 → (p ≡ 0) ⊎ (2 ^ 52 ≤ d) → Hits (d * 2 ^ p * (d * 2 ^ p)) p d
+pub exactly : (d p : ℕ) → d < 2 ^ 53 → (p ≡ 0) ⊎ (2 ^ 52 ≤ d) → Hits (d * 2 ^ p * (d * 2 ^ p)) p d
 exactly d p h l =
     let c = 4 ^ p in
     let e : d * 2 ^ p * (d * 2 ^ p) ≡ d * d * c = square-power d p in

@@ -153,13 +153,17 @@ fn steps(u: u64, w: u64) -> Stride
     Stride { count: 2, length: 2 * w }
 }
 
-// hypot of the magnitudes with the bits a and b, a being the larger, digit by digit.
+// hypot of the magnitudes with the bits a and b, a being the larger, digit by digit. Beside a zero it is a, so that two zeros, as of a point's own distance, take
+// no digits.
 fn by_digits(a: u64, b: u64) -> f64
     requires { ⌜ (b ≤ a) × (a ≤ infiniteBits) ⌝ }
     ensures { λ r. ⌜ r ≡ ofSizes a b ⌝ }
 {
     if a >= wide::INFINITE {
         return 1.0 / 0.0;
+    }
+    if b == 0 {
+        return f64::from_bits(a);
     }
     let p = place(a);
     let q = place(b);
