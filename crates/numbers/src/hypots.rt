@@ -22,7 +22,7 @@ struct Stride {
 }
 
 // hypot of the magnitudes with the bits a and b, a being the larger. Where b's first digit lies 27 or more behind a's, a is nearest. z is a float near the sum
-// of the squares; nothing is asked of how near.
+// of the squares, and where they would leave the range another is taken; nothing is asked of how near.
 pub fn of_sizes(a: u64, b: u64, z: f64) -> f64
     requires { ⌜ (b ≤ a) × (a ≤ infiniteBits) × T (not (isNan z)) ⌝ }
     ensures { λ r. ⌜ r ≡ ofSizes a b ⌝ }
@@ -35,7 +35,10 @@ pub fn of_sizes(a: u64, b: u64, z: f64) -> f64
     if k >= 27 {
         return f64::from_bits(a);
     }
-    by_guess(a, b, k, z)
+    if std::num::wrapping_sub_u64(p, 512) >= 1023 {
+        return by_guess(a, b, k, near_sum(a & roots::FRACTION, b & roots::FRACTION, k), 1022);
+    }
+    by_guess(a, b, k, z, p)
 }
 
 // The larger of two whole numbers.
@@ -52,14 +55,14 @@ pub fn smaller(a: u64, b: u64) -> u64
     if a < b { a } else { b }
 }
 
-// The same for two normal numbers with exponents k apart. The candidate is right if the check gives 53 digits, the least number of 53 digits left out.
-fn by_guess(a: u64, b: u64, k: u64, z: f64) -> f64
+// The same for two normal numbers with exponents k apart, by a float z near the sum of their squares, in which the larger's exponent has the field p. The candidate is right if the check gives 53 digits, the least number of 53 digits left out.
+fn by_guess(a: u64, b: u64, k: u64, z: f64, p: u64) -> f64
     requires { ⌜ (b ≤ a) × (28 ≤ a / 2 ^ 52) × (a / 2 ^ 52 < 2046) × (b / 2 ^ 52 + k ≡ a / 2 ^ 52) × (k ≤ 26) × T (not (isNan z)) ⌝ }
     ensures { λ r. ⌜ r ≡ ofSizes a b ⌝ }
 {
     let m = a & roots::FRACTION;
     let n = b & roots::FRACTION;
-    let g = guessed(z, a >> 52);
+    let g = guessed(z, p);
     let i = g.over;
     let s = checked(m + roots::LEADING, n + roots::LEADING, k, i, g.digits);
     if std::num::wrapping_sub_u64(s, roots::LEADING + 1) < roots::LEADING - 1 {
@@ -68,8 +71,21 @@ fn by_guess(a: u64, b: u64, k: u64, z: f64) -> f64
     by_digits(a, b)
 }
 
-// The candidate by a float z near the sum of the squares, p being the field of the larger operand's exponent. Half of z's exponent is the root's. What leaves the
-// range as z has no candidate, and the check finds that out.
+// A float near the sum of the squares of 2^52 + m and 2^52 + n, n's digits counted k places lower, the larger taken as 1/2 to 1.
+fn near_sum(m: u64, n: u64, k: u64) -> f64
+    requires { ⌜ (m < 2 ^ 52) × (n < 2 ^ 52) × (k ≤ 26) ⌝ }
+    ensures { λ r. ⌜ T (not (isNan r)) ⌝ }
+{
+    let x = f64::from_bits(0x3fe0_0000_0000_0000 + m);
+    let y = f64::from_bits(((1022 - k) << 52) + n);
+    let z = x * x + y * y;
+    if z != z {
+        return 1.0;
+    }
+    z
+}
+
+// The candidate by a float z near the sum of the squares, p being the field of the larger operand's exponent. Half of z's exponent is the root's.
 fn guessed(z: f64, p: u64) -> Guess
     requires { ⌜ T (not (isNan z)) ⌝ }
     ensures { λ r. ⌜ (r .over ≤ 1) × (2 ^ 52 ≤ r .digits) × (r .digits < 2 ^ 53) ⌝ }

@@ -3,6 +3,7 @@ use Prim.Native.Nat.{ℕ, _+_, _-_, _/_, _%_, _^_, _≤_, _<_}
 use mathlib.Core.Path.{_≡_}
 use native.Mathlib.Omega.{arith}
 use borrow.Author.Needs.{needs}
+use lib.Bits.{mask-lt}
 use Rattle.numbers.specs.Inside.{placeOf, infiniteBits}
 use Rattle.numbers.proofs.Sized.{alone}
 use Rattle.numbers.proofs.hypots.of_sizes.Statement.{statement}
@@ -36,14 +37,26 @@ returns-2 c =
     let f = field (c .before) in
     alone (s .args .a) (s .args .b) (s .pre .0) (below (s .args .a) (f .1)) (apart (s .args .a) (s .args .b) (f .0) (c .if2 .taken)) .0
 
+-- the exponents lie k apart
+apart-by : (a b : ℕ) → b ≤ a → b / 2 ^ 52 + (a / 2 ^ 52 - b / 2 ^ 52) ≡ a / 2 ^ 52
+apart-by a b h = omega arith
+
+near-sum-requires : tie.Need-near-sum-requires
+near-sum-requires c κs = let s = c .before .before .before .before .before in (mask-lt (s .args .a) 52, mask-lt (s .args .b) 52, omega (arith, c .before .before .if2 .left))
+
 by-guess-requires : tie.Need-by-guess-requires
 by-guess-requires c κs =
-    let s = c .before .before .before in
-    let f = field (c .before) in
-    (s .pre .0, f .0, f .1, sum (s .args .a) (s .args .b) (s .pre .0), omega (arith, c .if2 .left), s .pre .2)
-  where
-    sum : (a b : ℕ) → b ≤ a → b / 2 ^ 52 + (a / 2 ^ 52 - b / 2 ^ 52) ≡ a / 2 ^ 52
-    sum a b h = omega arith
+    let k = c .before .before .before in
+    let s = k .before .before .before in
+    let f = field (k .before) in
+    (s .pre .0, f .0, f .1, apart-by (s .args .a) (s .args .b) (s .pre .0), omega (arith, k .if2 .left), c .near-sum .ensures)
+
+by-guess2-requires : tie.Need-by-guess-requires-2
+by-guess2-requires c κs =
+    let k = c .before .before in
+    let s = k .before .before .before in
+    let f = field (k .before) in
+    (s .pre .0, f .0, f .1, apart-by (s .args .a) (s .args .b) (s .pre .0), omega (arith, k .if2 .left), s .pre .2)
 
 pub of-sizes-spec : {M : Type 1} → statement M
 of-sizes-spec =
@@ -55,5 +68,9 @@ of-sizes-spec =
     (λ c. search needs)
     float-from-bits-result
     returns-2
+    (λ c κs. tt)
+    near-sum-requires
     by-guess-requires
+    (λ c. search needs)
+    by-guess2-requires
     (λ c. search needs))
