@@ -55,7 +55,8 @@ pub fn smaller(a: u64, b: u64) -> u64
     if a < b { a } else { b }
 }
 
-// The same for two normal numbers with exponents k apart, by a float z near the sum of their squares, in which the larger's exponent has the field p. The candidate is right if the check gives 53 digits, the least number of 53 digits left out.
+// The same for two normal numbers with exponents k apart, by a float z near the sum of their squares, in which the larger's exponent has the field p. The
+// candidate is right if the check gives 53 digits, the least number of 53 digits left out.
 fn by_guess(a: u64, b: u64, k: u64, z: f64, p: u64) -> f64
     requires { ⌜ (b ≤ a) × (28 ≤ a / 2 ^ 52) × (a / 2 ^ 52 < 2046) × (b / 2 ^ 52 + k ≡ a / 2 ^ 52) × (k ≤ 26) × T (not (isNan z)) ⌝ }
     ensures { λ r. ⌜ r ≡ ofSizes a b ⌝ }
@@ -169,8 +170,8 @@ fn steps(u: u64, w: u64) -> Stride
     Stride { count: 2, length: 2 * w }
 }
 
-// hypot of the magnitudes with the bits a and b, a being the larger, digit by digit. Beside a zero it is a, so that two zeros, as of a point's own distance, take
-// no digits.
+// hypot of the magnitudes with the bits a and b, a being the larger, digit by digit. Beside a zero it is a, so that two zeros, as of a point's own distance,
+// take no digits.
 fn by_digits(a: u64, b: u64) -> f64
     requires { ⌜ (b ≤ a) × (a ≤ infiniteBits) ⌝ }
     ensures { λ r. ⌜ r ≡ ofSizes a b ⌝ }

@@ -58,8 +58,8 @@ pub fn digits_of(y: f64) -> u64
     LEADING
 }
 
-// A float near the root of z, for z from 1/2 to 2, from a p near 1 / sqrt(z) to 16 digits. A step of Newton's makes that 32 in g. The last line adds what z less
-// the square of g still asks for; it is found from w, g0 to 26 digits, whose square is exact.
+// A float near the root of z, for z from 1/2 to 2, from a p near 1 / sqrt(z) to 16 digits. A step of Newton's makes that 32 in g. The last line adds what z
+// less the square of g still asks for; it is found from w, g0 to 26 digits, whose square is exact.
 fn guess(z: f64, p: f64) -> f64 {
     let g0 = z * p;
     let h0 = 0.5 * p;

@@ -3,7 +3,7 @@ ghost use mathlib.Core.Path.{_≡_};
 ghost use mathlib.Core.Logic.{_⊎_};
 ghost use Prim.Native.Nat.{_+_, _-_, _*_, _/_, _^_, _≤_, _<_};
 ghost use Rattle.numbers.specs.Hypot.{NearestEven, hypotOfCount};
-ghost use Rattle.numbers.specs.Inside.{Lowered, RootAt};
+ghost use Rattle.numbers.specs.Inside.{Lowered, RootAt, UnderRoot};
 
 // the bits of plus infinity
 pub const INFINITE: u64 = 0x7ff0_0000_0000_0000;
@@ -17,9 +17,9 @@ pub struct Wide {
     pub lo: u64,
 }
 
-// A root, digit by digit. A w that is not 0 asks for the f64 whose digits are the whole number nearest to the root of w * 2^52, p being the place of the last of
-// them; else it is hypot of m * 2^p and n * 2^(p - k) smallest f64s. One function for both, so that a program has the digits' loop once: the compiler copies a
-// shorter one into both of its callers, and one that it can shorten by a caller's constants too. So beside a w a caller hands over an m and n that count for
+// A root, digit by digit. A w that is not 0 asks for the f64 whose digits are the whole number nearest to the root of w * 2^52, p being the place of the last
+// of them; else it is hypot of m * 2^p and n * 2^(p - k) smallest f64s. One function for both, so that a program has the digits' loop once: the compiler copies
+// a shorter one into both of its callers, and one that it can shorten by a caller's constants too. So beside a w a caller hands over an m and n that count for
 // nothing.
 pub fn by_digits(w: u64, m: u64, n: u64, p: u64, k: u64) -> f64
     requires { ⌜ (w < 2 ^ 54) × (m < 2 ^ 53) × (n < 2 ^ 53) × (p ≤ 2045) × (k ≤ 26) × (k ≤ p) × ((p ≡ 0) ⊎ (2 ^ 52 ≤ m)) ⌝ }
@@ -38,7 +38,7 @@ pub fn by_digits(w: u64, m: u64, n: u64, p: u64, k: u64) -> f64
 // What stands under the root, eight times: w * 2^52, or (m * m * 4^k + n * n) / 4^k.
 fn under_root(w: u64, m: u64, n: u64, k: u64) -> Wide
     requires { ⌜ (w < 2 ^ 54) × (m < 2 ^ 53) × (n < 2 ^ 53) × (k ≤ 26) ⌝ }
-    ensures { λ r. ⌜ (r .hi < 2 ^ 55) × (r .lo < 2 ^ 55) × (w ≡ 0 → Lowered (8 * (m * m) * 2 ^ (2 * k) + 8 * (n * n)) (r .hi * 2 ^ 55 + r .lo) (2 * k)) × (0 < w → r .hi * 2 ^ 55 + r .lo ≡ 8 * (w * 2 ^ 52)) ⌝ }
+    ensures { λ r. ⌜ (r .hi < 2 ^ 55) × (r .lo < 2 ^ 55) × UnderRoot w m n k (r .hi * 2 ^ 55 + r .lo) ⌝ }
 {
     if w != 0 {
         return Wide { hi: w, lo: 0 };

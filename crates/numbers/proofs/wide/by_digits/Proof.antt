@@ -35,7 +35,7 @@ hits : (c : tie.After-nearest-root) → c .before .before .before .before .args 
 hits c e =
     let v = c .before .before .before .under-root in
     let s = c .before .before .before .before in
-    by-sum (s .args .m) (s .args .n) (s .args .p) (s .args .k) _ _ _ _ (s .pre .1) (s .pre .2) (s .pre .6) (s .pre .5) (v .ensures .2 e) (c .before .lowered .ensures .2) (c .nearest-root .ensures) (more (v .result .hi) (v .result .lo) (v .ensures .0) (v .ensures .1))
+    by-sum (s .args .m) (s .args .n) (s .args .p) (s .args .k) _ _ _ _ (s .pre .1) (s .pre .2) (s .pre .6) (s .pre .5) (v .ensures .2 .0 e) (c .before .lowered .ensures .2) (c .nearest-root .ensures) (more (v .result .hi) (v .result .lo) (v .ensures .0) (v .ensures .1))
 
 place : (c : tie.After-nearest-root) → c .before .before .before .before .args .p + c .before .before .before .under-root .result .hi / 2 ^ 54 ≤ 2046
 place c = sum _ _ (c .before .before .before .before .pre .3) (c .before .before .before .under-root .ensures .0)
@@ -66,7 +66,7 @@ one : (c : tie.After-nearest-root) → 0 < c .before .before .before .before .ar
 one c z =
     let s = c .before .before .before .before in
     let v = c .before .before .before .under-root in
-    plainly (s .args .w) (s .args .p) (v .result .hi) (v .result .lo) _ (c .nearest-root .result) (s .pre .0) (v .ensures .1) (v .ensures .3 z) (c .before .lowered .ensures .2) (c .nearest-root .ensures) z
+    plainly (s .args .w) (s .args .p) (v .result .hi) (v .result .lo) _ (c .nearest-root .result) (s .pre .0) (v .ensures .1) (v .ensures .2 .1 z) (c .before .lowered .ensures .2) (c .nearest-root .ensures) z
 
 returns : tie.Need-returns
 returns c =

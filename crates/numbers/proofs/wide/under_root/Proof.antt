@@ -8,7 +8,7 @@ use Rattle.numbers.proofs.wide.under_root.Statement.{statement}
 use Rattle.numbers.proofs.wide.under_root.Tie as tie
 
 returns : tie.Need-returns
-returns c = let w = c .before .args .w in (wider w (c .before .pre .0), lit< tt, (λ e. absurd (c .if1 .taken e)), (λ z. eight w))
+returns c = let w = c .before .args .w in (wider w (c .before .pre .0), lit< tt, ((λ e. absurd (c .if1 .taken e)), (λ z. eight w)))
   where
     wider : (w : ℕ) → w < 2 ^ 54 → w < 2 ^ 55
     wider w h = omega arith
@@ -17,7 +17,7 @@ returns c = let w = c .before .args .w in (wider w (c .before .pre .0), lit< tt,
     eight w = omega arith
 
 returns-2 : tie.Need-returns-2
-returns-2 c = let r = c .sum .ensures in (r .0, r .1, (λ e. r .2), (λ z. absurd (none _ (c .before .if1 .left) z)))
+returns-2 c = let r = c .sum .ensures in (r .0, r .1, ((λ e. r .2), (λ z. absurd (none _ (c .before .if1 .left) z))))
   where
     none : (w : ℕ) → w ≡ 0 → 0 < w → ⊥
     none w e h = omega arith
