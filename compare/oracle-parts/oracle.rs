@@ -36,7 +36,7 @@ pub mod numbers {
         /// The same before request 6.
         #[inline]
         fn squares_of(self, other: f64) -> f64 {
-            (self * self + other * other).sqrt()
+            crate::hypot::squares_first(self, other)
         }
         /// Multiplied left to right.
         #[inline]
