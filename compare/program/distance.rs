@@ -104,8 +104,8 @@ fn compare(case: &Case, tally: &mut Tally) -> Verdict {
         }
         tally.add("answers", 2);
         if !exact.is_nan() {
-            tally.add("moved from squares first", (squares_first(x, y) != exact) as u64);
-            tally.add("moved from libm", (x.hypot(y) != exact) as u64);
+            tally.note("moved from squares first", (squares_first(x, y) != exact) as u64);
+            tally.note("moved from libm", (x.hypot(y) != exact) as u64);
         }
         tally.unit();
     }
