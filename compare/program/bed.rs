@@ -99,7 +99,8 @@ macro_rules! ask {
         unsafe {
             raw::$door(
                 $bed.mesh.as_ptr(), $bed.mesh.len(), h.measures.as_ptr(), h.sizes.as_ptr(), h.starts.as_ptr(), h.starts.len(),
-                h.members.as_ptr(), h.members.len(), h.boxes.as_ptr(), h.boxes.len(), $marks.as_mut_ptr(), $marks.len(), $stamp, $($more,)* counts.as_mut_ptr(), $($touched,)?
+                h.members.as_ptr(), h.members.len(), h.boxes.as_ptr(), h.boxes.len(), $marks.as_mut_ptr(), $marks.len(), $stamp, $($more,)*
+                counts.as_mut_ptr(), $($touched,)?
             )
         };
         counts

@@ -260,7 +260,8 @@ fn copy_of(count: usize) -> impl Fn(&mut Rng) -> Ends {
 /// copies taken at random, once over one surface whose triangles get smaller. The cutter's radius is 2.
 pub fn growth() {
     let mut told = Told::default();
-    for (title, mesh) in [("copies of a die", solids::tiles as fn(usize) -> Vec<f64>), ("one surface, finer", |k| solids::waves(32 * k, 16 * k, [102.4, 51.2]))] {
+    let finer = |k: usize| solids::waves(32 * k, 16 * k, [102.4, 51.2]);
+    for (title, mesh) in [("copies of a die", solids::tiles as fn(usize) -> Vec<f64>), ("one surface, finer", finer)] {
         println!();
         println!("| {title} | triangles | looked at | ours, ns a question | ours, ns a triangle looked at | camlib as shipped, ns a triangle looked at |");
         println!("|---|---|---|---|---|---|");
