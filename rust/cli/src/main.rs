@@ -26,7 +26,10 @@ use std::process::ExitCode;
 /// Counts part files, plans flat runs, answers questions about a part and makes its release sheet. What is answered about a part is
 /// proved; reading ASCII files, scaling, drawing and printing are not (docs/TRUSTED.md)
 #[derive(Parser)]
-#[command(name = "mandrikelo", version, arg_required_else_help = true)]
+#[command(name = "mandrikelo", version, arg_required_else_help = true, after_help = "Every refusal is told in words, with what to do next.\n\
+Exit status: 0 all well, 1 something is not whole or was refused, 2 wrong use.\n\n\
+Examples:\n  mandrikelo count parts --against parts.list\n  mandrikelo plan examples/parts/bearing_block.stl --floor -8 --radius 3 --stepover 4\n  \
+mandrikelo sheet examples/parts/bearing_block.stl --floor -8 --radius 3 --stepover 4 \\\n      --cutting-length 30 --out block.html")]
 struct Program {
     #[command(subcommand)]
     what: What,
