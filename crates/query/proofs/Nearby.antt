@@ -12,15 +12,15 @@ use lib.Ieee.Fits.{up-pos, down-pos, add-fits, mul-fits}
 use lib.Ieee.Order.{le-of-values, round-mono}
 use lib.Ieee.Scale.{finite}
 use Rattle.numbers.specs.Reals.{num, _⊕_, _⊗_, absOf, million}
-use Rattle.plane.specs.declared.Bounds.{Bounds}
+use Rattle.grid.specs.Boxes.{boxAt}
 use Rattle.numbers.proofs.Counts.{round-self}
 use Rattle.cells.proofs.Sets.{by-lt}
 use Rattle.spans.specs.Mesh.{isCoordinate}
 use Rattle.spans.proofs.Signed.{upSigned, round-up}
 use Rattle.spans.proofs.Ranges.{million-is, finite-between, le-trans-finite}
 use Rattle.spans.proofs.Scales.{true-of}
-use Rattle.query.specs.Usable.{every, cornersUsable, areCoordinates, boxUsable}
-use Rattle.query.specs.Inside.{squaresOf}
+use Rattle.query.specs.Usable.{every, cornersUsable, areCoordinates, boxUsable, triangleUsable}
+use Rattle.query.specs.Inside.{sevenSquares}
 
 -- 9e11 and 1e12
 abbrev most : Float
@@ -135,13 +135,7 @@ square-coordinate (fin s m e) h = rw million-is (by-lt (1000000 * down e) (m * u
     over true k g = farther k g
     over false k g = farther k g
 
--- ---- four, and nine
-record Four (a b c d : Float) : Type 0 where
-  first : isCoordinate a ≡ true
-  second : isCoordinate b ≡ true
-  third : isCoordinate c ≡ true
-  fourth : isCoordinate d ≡ true
-
+-- ---- two, four and seven
 pair-up : (a b : Float) → T (notBelow (a ⊗ a ⊕ b ⊗ b))
 pair-up a b = sum-up (a ⊗ a) (b ⊗ b) (square-up a) (square-up b)
 
@@ -150,34 +144,47 @@ pair a b h =
     let p = sum-parts (a ⊗ a) (b ⊗ b) (square-up a) (square-up b) (mul-fits binary64 a a) (mul-fits binary64 b b) h in
     (square-coordinate a (p .0), square-coordinate b (p .1))
 
-four-up : (a b c d : Float) → T (notBelow (squaresOf a b c d))
-unfolding squaresOf
-four-up a b c d = sum-up (a ⊗ a ⊕ b ⊗ b) (c ⊗ c ⊕ d ⊗ d) (pair-up a b) (pair-up c d)
+module _ (a b c d : Float) where
+  abbrev fourSquares : Float
+  fourSquares = (a ⊗ a ⊕ b ⊗ b) ⊕ (c ⊗ c ⊕ d ⊗ d)
 
-four : (a b c d : Float) → T (le (squaresOf a b c d) most) → Four a b c d
-unfolding squaresOf
-four a b c d h =
-    let p = sum-parts (a ⊗ a ⊕ b ⊗ b) (c ⊗ c ⊕ d ⊗ d) (pair-up a b) (pair-up c d) (add-fits binary64 _ _) (add-fits binary64 _ _) h in
-    let q = pair a b (p .0) in
-    let r = pair c d (p .1) in
-    record { first = q .0; second = q .1; third = r .0; fourth = r .1 }
+  four-up : T (notBelow fourSquares)
+  four-up = sum-up (a ⊗ a ⊕ b ⊗ b) (c ⊗ c ⊕ d ⊗ d) (pair-up a b) (pair-up c d)
 
-four-fits : (a b c d : Float) → T (fits binary64 (squaresOf a b c d))
-unfolding squaresOf
-four-fits a b c d = add-fits binary64 _ _
+  four : T (le fourSquares most) → ((isCoordinate a ≡ true) × (isCoordinate b ≡ true)) × ((isCoordinate c ≡ true) × (isCoordinate d ≡ true))
+  four h =
+      let p = sum-parts (a ⊗ a ⊕ b ⊗ b) (c ⊗ c ⊕ d ⊗ d) (pair-up a b) (pair-up c d) (add-fits binary64 _ _) (add-fits binary64 _ _) h in
+      (pair a b (p .0), pair c d (p .1))
 
-record Nine (a b c d e f g h l : Float) : Type 0 where
-  evens : Four a c e g
-  odds : Four b d f h
-  last : isCoordinate l ≡ true
+record Seven (a b c d e f g : Float) : Type 0 where
+  first : isCoordinate a ≡ true
+  second : isCoordinate b ≡ true
+  third : isCoordinate c ≡ true
+  fourth : isCoordinate d ≡ true
+  fifth : isCoordinate e ≡ true
+  sixth : isCoordinate f ≡ true
+  last : isCoordinate g ≡ true
 
-nine : (a b c d e f g h l : Float) → le (squaresOf a c e g ⊕ squaresOf b d f h ⊕ l ⊗ l) near ≡ true → Nine a b c d e f g h l
-nine a b c d e f g h l t =
-    let E = squaresOf a c e g in
-    let O = squaresOf b d f h in
-    let p = sum-parts (E ⊕ O) (l ⊗ l) (sum-up E O (four-up a c e g) (four-up b d f h)) (square-up l) (add-fits binary64 E O) (mul-fits binary64 l l) (rw near-is at (subst T (sym t) tt)) in
-    let q = sum-parts E O (four-up a c e g) (four-up b d f h) (four-fits a c e g) (four-fits b d f h) (p .0) in
-    record { evens = four a c e g (q .0); odds = four b d f h (q .1); last = square-coordinate l (p .1) }
+module _ (a b c d e f g : Float) where
+  six-up : T (notBelow (fourSquares a b c d ⊕ (e ⊗ e ⊕ f ⊗ f)))
+  six-up = sum-up (fourSquares a b c d) (e ⊗ e ⊕ f ⊗ f) (four-up a b c d) (pair-up e f)
+
+  seven-up : T (notBelow (sevenSquares a b c d e f g))
+  unfolding sevenSquares
+  seven-up = sum-up (fourSquares a b c d ⊕ (e ⊗ e ⊕ f ⊗ f)) (g ⊗ g) six-up (square-up g)
+
+  seven-fits : T (fits binary64 (sevenSquares a b c d e f g))
+  unfolding sevenSquares
+  seven-fits = add-fits binary64 _ _
+
+  seven : T (le (sevenSquares a b c d e f g) most) → Seven a b c d e f g
+  unfolding sevenSquares
+  seven h =
+      let p = sum-parts (fourSquares a b c d ⊕ (e ⊗ e ⊕ f ⊗ f)) (g ⊗ g) six-up (square-up g) (add-fits binary64 _ _) (mul-fits binary64 g g) h in
+      let q = sum-parts (fourSquares a b c d) (e ⊗ e ⊕ f ⊗ f) (four-up a b c d) (pair-up e f) (add-fits binary64 _ _) (add-fits binary64 _ _) (p .0) in
+      let r = four a b c d (q .0) in
+      let s = pair e f (q .1) in
+      record { first = r .0 .0; second = r .0 .1; third = r .1 .0; fourth = r .1 .1; fifth = s .0; sixth = s .1; last = square-coordinate g (p .1) }
 
 -- nine in a row
 every-nine : (test : ℕ → Bool) (k : ℕ) → test k ≡ true → test (k + 1) ≡ true → test (k + 2) ≡ true → test (k + 3) ≡ true → test (k + 4) ≡ true → test (k + 5) ≡ true → test (k + 6) ≡ true → test (k + 7) ≡ true → test (k + 8) ≡ true → true ≡ every test k 9
@@ -192,24 +199,18 @@ every-nine test k t0 t1 t2 t3 t4 t5 t6 t7 t8 =
     let e8 : k + 7 + 1 ≡ k + 8 = omega arith in
     rw (e2, e3, e4, e5, e6, e7, e8, t0, t1, t2, t3, t4, t5, t6, t7, t8) refl
 
--- a triangle
-pub near-usable : (mesh : List Float) (i : ℕ) (e o : Float)
-    → e ≡ squaresOf (num mesh (9 * i)) (num mesh (9 * i + 2)) (num mesh (9 * i + 4)) (num mesh (9 * i + 6))
-    → o ≡ squaresOf (num mesh (9 * i + 1)) (num mesh (9 * i + 3)) (num mesh (9 * i + 5)) (num mesh (9 * i + 7))
-    → le (e ⊕ o ⊕ num mesh (9 * i + 8) ⊗ num mesh (9 * i + 8)) near ≡ true → true ≡ cornersUsable mesh i
-unfolding cornersUsable
-near-usable mesh i e o p q t =
+-- a triangle and its box: both sums are parts of one that is small
+pub near-usable : (mesh boxes : List Float) (i : ℕ) (e o : Float)
+    → e ≡ sevenSquares (num mesh (9 * i)) (num mesh (9 * i + 2)) (num mesh (9 * i + 4)) (num mesh (9 * i + 6)) (num boxes (5 * i)) (num boxes (5 * i + 2)) (num mesh (9 * i + 8))
+    → o ≡ sevenSquares (num mesh (9 * i + 1)) (num mesh (9 * i + 3)) (num mesh (9 * i + 5)) (num mesh (9 * i + 7)) (num boxes (5 * i + 1)) (num boxes (5 * i + 3)) (num boxes (5 * i + 4))
+    → le (e ⊕ o) near ≡ true → true ≡ triangleUsable mesh boxes i
+unfolding triangleUsable cornersUsable boxUsable areCoordinates boxAt
+near-usable mesh boxes i e o p q t =
     let k = 9 * i in
-    let n = nine (num mesh k) (num mesh (k + 1)) (num mesh (k + 2)) (num mesh (k + 3)) (num mesh (k + 4)) (num mesh (k + 5)) (num mesh (k + 6)) (num mesh (k + 7)) (num mesh (k + 8)) (rw (p, q) at t) in
-    every-nine (λ m. isCoordinate (num mesh m)) k (n .evens .first) (n .odds .first) (n .evens .second) (n .odds .second) (n .evens .third) (n .odds .third) (n .evens .fourth) (n .odds .fourth) (n .last)
-
--- a box
-pub near-box : (b : Bounds) (s : Float) → s ≡ squaresOf (b .«low_x») (b .«low_y») (b .«high_x») (b .«high_y»)
-    → le (s ⊕ b .top ⊗ b .top) near ≡ true → true ≡ boxUsable b
-unfolding boxUsable areCoordinates
-near-box b s p t =
-    let S = squaresOf (b .«low_x») (b .«low_y») (b .«high_x») (b .«high_y») in
-    let h : T (le (S ⊕ b .top ⊗ b .top) most) = rw near-is at (subst T (sym (rw p at t)) tt) in
-    let q = sum-parts S (b .top ⊗ b .top) (four-up _ _ _ _) (square-up (b .top)) (four-fits _ _ _ _) (mul-fits binary64 (b .top) (b .top)) h in
-    let f = four (b .«low_x») (b .«low_y») (b .«high_x») (b .«high_y») (q .0) in
-    rw (f .first, f .second, f .third, f .fourth, square-coordinate (b .top) (q .1)) refl
+    let j = 5 * i in
+    let h : T (le (sevenSquares _ _ _ _ _ _ _ ⊕ sevenSquares _ _ _ _ _ _ _) most) = rw near-is at (subst T (sym (rw (p, q) at t)) tt) in
+    let s = sum-parts (sevenSquares _ _ _ _ _ _ _) (sevenSquares _ _ _ _ _ _ _) (seven-up _ _ _ _ _ _ _) (seven-up _ _ _ _ _ _ _) (seven-fits _ _ _ _ _ _ _) (seven-fits _ _ _ _ _ _ _) h in
+    let u = seven (num mesh k) (num mesh (k + 2)) (num mesh (k + 4)) (num mesh (k + 6)) (num boxes j) (num boxes (j + 2)) (num mesh (k + 8)) (s .0) in
+    let v = seven (num mesh (k + 1)) (num mesh (k + 3)) (num mesh (k + 5)) (num mesh (k + 7)) (num boxes (j + 1)) (num boxes (j + 3)) (num boxes (j + 4)) (s .1) in
+    let c = every-nine (λ m. isCoordinate (num mesh m)) k (u .first) (v .first) (u .second) (v .second) (u .third) (v .third) (u .fourth) (v .fourth) (u .last) in
+    rw (← c, u .fifth, v .fifth, u .sixth, v .sixth, v .last) refl

@@ -6,7 +6,7 @@ ghost use Rattle.grid.specs.Index.{indexOf};
 ghost use Rattle.query.specs.Asked.{isMarked, isPoint};
 ghost use Rattle.query.specs.Patch.{heldTo, axisSpan, patchOf};
 ghost use Rattle.query.specs.Looked.{UsablePromise};
-ghost use Rattle.query.specs.Inside.{squaresOf};
+ghost use Rattle.query.specs.Inside.{sevenSquares};
 ghost use Rattle.query.specs.Usable.{each, cornersUsable, areCoordinates, boxUsable, triangleUsable};
 ghost use Rattle.query.specs.Usable.{memberUsable, cellUsable, rowUsable, cellsUsable, usable};
 use grid::Header;
@@ -118,8 +118,31 @@ pub fn usable(
     }
 }
 
-// Whether no number of triangle i and of its box is one that 4 would refuse.
+// Whether no number of triangle i and of its box is one that 4 would refuse: none is where the squares of all fourteen have a small sum, and else each is looked at.
+// Taken in pairs as they lie in the tables, the numbers come two at a time.
 pub fn triangle_usable(mesh: &[f64], boxes: &[f64], i: usize) -> bool
+    requires { ⌜ (9 * i + 9 ≤ length (now mesh)) × (5 * i + 5 ≤ length (now boxes)) ⌝ }
+    ensures { λ r. ⌜ r ≡ triangleUsable (now (mesh .entry)) (now (boxes .entry)) i ⌝ }
+{
+    let k = 9 * i;
+    let j = 5 * i;
+    let evens = seven_squares(mesh[k], mesh[k + 2], mesh[k + 4], mesh[k + 6], boxes[j], boxes[j + 2], mesh[k + 8]);
+    let odds = seven_squares(mesh[k + 1], mesh[k + 3], mesh[k + 5], mesh[k + 7], boxes[j + 1], boxes[j + 3], boxes[j + 4]);
+    if evens + odds <= 9e11 {
+        return true;
+    }
+    each_usable(mesh, boxes, i)
+}
+
+// The sum of seven squares.
+fn seven_squares(a: f64, b: f64, c: f64, d: f64, e: f64, f: f64, g: f64) -> f64
+    ensures { λ s. ⌜ s ≡ sevenSquares a b c d e f g ⌝ }
+{
+    ((a * a + b * b) + (c * c + d * d)) + (e * e + f * f) + g * g
+}
+
+// The same of each number by itself.
+fn each_usable(mesh: &[f64], boxes: &[f64], i: usize) -> bool
     requires { ⌜ (9 * i + 9 ≤ length (now mesh)) × (5 * i + 5 ≤ length (now boxes)) ⌝ }
     ensures { λ r. ⌜ r ≡ triangleUsable (now (mesh .entry)) (now (boxes .entry)) i ⌝ }
 {
@@ -130,14 +153,11 @@ pub fn triangle_usable(mesh: &[f64], boxes: &[f64], i: usize) -> bool
     }
 }
 
-// Whether no number of a box is: none is where their squares have a small sum, and else each is looked at.
+// Whether no number of a box is one that 4 would refuse.
 fn box_usable(b: Bounds) -> bool
     ensures { λ r. ⌜ r ≡ boxUsable b ⌝ }
 {
     let top = b.top;
-    if squares(b.low_x, b.low_y, b.high_x, b.high_y) + top * top <= 9e11 {
-        return true;
-    }
     if are_coordinates(b.low_x, b.low_y, b.high_x, b.high_y) {
         spans::is_coordinate(top)
     } else {
@@ -164,30 +184,8 @@ fn are_coordinates(a: f64, b: f64, c: f64, d: f64) -> bool
     }
 }
 
-// Whether no coordinate of triangle i is: none is where their squares have a small sum, and else each is looked at.
-fn corners_usable(mesh: &[f64], i: usize) -> bool
-    requires { ⌜ 9 * i + 9 ≤ length (now mesh) ⌝ }
-    ensures { λ r. ⌜ r ≡ cornersUsable (now (mesh .entry)) i ⌝ }
-{
-    let k = 9 * i;
-    let last = mesh[k + 8];
-    let evens = squares(mesh[k], mesh[k + 2], mesh[k + 4], mesh[k + 6]);
-    let odds = squares(mesh[k + 1], mesh[k + 3], mesh[k + 5], mesh[k + 7]);
-    if evens + odds + last * last <= 9e11 {
-        return true;
-    }
-    each_usable(mesh, i)
-}
-
-// The sum of four squares.
-fn squares(a: f64, b: f64, c: f64, d: f64) -> f64
-    ensures { λ s. ⌜ s ≡ squaresOf a b c d ⌝ }
-{
-    (a * a + b * b) + (c * c + d * d)
-}
-
 // Whether no coordinate of triangle i is one that 4 would refuse, one after the other.
-fn each_usable(mesh: &[f64], i: usize) -> bool
+fn corners_usable(mesh: &[f64], i: usize) -> bool
     requires { ⌜ 9 * i + 9 ≤ length (now mesh) ⌝ }
     ensures { λ r. ⌜ r ≡ cornersUsable (now (mesh .entry)) i ⌝ }
 {

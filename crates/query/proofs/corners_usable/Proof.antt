@@ -1,20 +1,44 @@
--- `query::corners_usable` meets its contract: a small sum of squares settles all nine numbers (`Nearby.antt`).
+-- `query::corners_usable` meets its contract: the test of the numbers that are left gives what that of all nine gave.
+use Prim.Native.Nat.{_+_, _-_, _*_, _≤_}
+use mathlib.Core.Path.{_≡_}
 use native.Mathlib.Omega.{arith}
 use borrow.Author.Needs.{needs}
-use Rattle.query.proofs.Nearby.{near-usable}
+use Rattle.numbers.specs.Reals.{num}
+use Rattle.spans.specs.Mesh.{isCoordinate}
+use Rattle.query.specs.Usable.{every, cornersUsable}
+use Rattle.query.proofs.Testing.{every-stops, every-goes, every-ends, failed, passed}
 use Rattle.query.proofs.corners_usable.Statement.{statement}
 use Rattle.query.proofs.corners_usable.Tie as tie
 
-returns : tie.Need-returns
+abbrev Inv-loop : tie.InvT-loop
+Inv-loop mesh i k₀ k-end k =
+    (every (λ m. isCoordinate (num mesh m)) k (k-end - k) ≡ cornersUsable mesh i) × (k-end ≡ 9 * i + 9) × (k ≤ k-end)
+
+abbrev μ-loop : tie.MeasureT-loop
+μ-loop mesh i k₀ k-end k = k-end - k
+
+loop-holds : tie.Need-loop-holds Inv-loop μ-loop
+unfolding cornersUsable
+loop-holds c =
+    let i = c .before .args .i in
+    let e : 9 * i + 9 - 9 * i ≡ 9 = omega arith in
+    (rw e, omega arith, omega arith)
+
+returns : tie.Need-returns Inv-loop μ-loop
 returns c =
-    let b = c .before in
-    let a = b .before .before .before .before .before in
-    near-usable _ _ _ _ (a .squares .ensures) (b .squares2 .ensures) (c .if1 .taken)
+    let l = c .before .before .before .before .loop in
+    every-stops _ (l .k) _ _ (omega arith) (failed _ _ (c .before .is-coordinate .ensures) (c .if1 .taken)) (l .inv .0)
+
+loop-again : tie.Need-loop-again Inv-loop μ-loop
+loop-again c =
+    let l = c .before .before .before .before .loop in
+    (every-goes _ (l .k) _ _ (omega arith) (passed _ _ (c .before .is-coordinate .ensures) (c .if1 .left)) (l .inv .0), omega arith, omega arith)
+
+returns-2 : tie.Need-returns-2 Inv-loop μ-loop
+returns-2 c = every-ends _ (c .before .loop .k) _ _ (omega arith) (c .before .loop .inv .0)
 
 pub corners-usable-spec : {M : Type 1} → statement M
 corners-usable-spec =
     tie.close
-    (tie.spec (λ c. omega arith) (λ c. omega arith) (λ c. omega arith) (λ c. omega arith)
-    (λ c. omega arith) (λ c. omega arith) (λ c. omega arith) (λ c. omega arith) (λ c. omega arith) (λ c. omega arith) (λ c. omega arith) (λ c. omega arith) (λ c. omega arith) (λ c. omega arith) (λ c. omega arith) (λ c κs. tt)
-    (λ c. omega arith) (λ c. omega arith) (λ c. omega arith) (λ c. omega arith) (λ c. omega arith) (λ c. omega arith) (λ c. omega arith) (λ c. omega arith) (λ c. omega arith) (λ c. omega arith) (λ c. omega arith) (λ c. omega arith) (λ c κs. tt)
-    returns (λ c κs. search needs) (λ c. search needs))
+    (tie.spec Inv-loop μ-loop (λ c. omega arith) (λ c. omega arith) (λ c. omega arith) loop-holds (λ c. search needs) (λ c. omega arith)
+    (λ c κs. tt) returns (λ c. omega arith) (λ c. omega arith) loop-again returns-2)

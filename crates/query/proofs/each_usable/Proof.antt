@@ -1,44 +1,19 @@
--- `query::each_usable` meets its contract: the test of the numbers that are left gives what that of all nine gave.
-use Prim.Native.Nat.{_+_, _-_, _*_, _≤_}
-use mathlib.Core.Path.{_≡_}
-use native.Mathlib.Omega.{arith}
+use mathlib.Core.Path.{_≡_, ap, _∙_}
 use borrow.Author.Needs.{needs}
-use Rattle.numbers.specs.Reals.{num}
-use Rattle.spans.specs.Mesh.{isCoordinate}
-use Rattle.query.specs.Usable.{every, cornersUsable}
-use Rattle.query.proofs.Testing.{every-stops, every-goes, every-ends, failed, passed}
+use Rattle.numbers.proofs.Branches.{branches, bool-called}
+use Rattle.query.specs.Usable.{boxUsable, triangleUsable}
 use Rattle.query.proofs.each_usable.Statement.{statement}
 use Rattle.query.proofs.each_usable.Tie as tie
 
-abbrev Inv-loop : tie.InvT-loop
-Inv-loop mesh i k₀ k-end k =
-    (every (λ m. isCoordinate (num mesh m)) k (k-end - k) ≡ cornersUsable mesh i) × (k-end ≡ 9 * i + 9) × (k ≤ k-end)
-
-abbrev μ-loop : tie.MeasureT-loop
-μ-loop mesh i k₀ k-end k = k-end - k
-
-loop-holds : tie.Need-loop-holds Inv-loop μ-loop
-unfolding cornersUsable
-loop-holds c =
-    let i = c .before .args .i in
-    let e : 9 * i + 9 - 9 * i ≡ 9 = omega arith in
-    (rw e, omega arith, omega arith)
-
-returns : tie.Need-returns Inv-loop μ-loop
+returns : tie.Need-returns
+unfolding triangleUsable
 returns c =
-    let l = c .before .before .before .before .loop in
-    every-stops _ (l .k) _ _ (omega arith) (failed _ _ (c .before .is-coordinate .ensures) (c .if1 .taken)) (l .inv .0)
+    let e = c .box-usable .ensures ∙ ap boxUsable (c .before .box-at .ensures) in
+    search (branches, bool-called, e)
 
-loop-again : tie.Need-loop-again Inv-loop μ-loop
-loop-again c =
-    let l = c .before .before .before .before .loop in
-    (every-goes _ (l .k) _ _ (omega arith) (passed _ _ (c .before .is-coordinate .ensures) (c .if1 .left)) (l .inv .0), omega arith, omega arith)
-
-returns-2 : tie.Need-returns-2 Inv-loop μ-loop
-returns-2 c = every-ends _ (c .before .loop .k) _ _ (omega arith) (c .before .loop .inv .0)
+returns-2 : tie.Need-returns-2
+unfolding triangleUsable
+returns-2 c = search (branches, bool-called)
 
 pub each-usable-spec : {M : Type 1} → statement M
-each-usable-spec =
-    tie.close
-    (tie.spec Inv-loop μ-loop (λ c. omega arith) (λ c. omega arith) (λ c. omega arith) loop-holds (λ c. search needs) (λ c. omega arith)
-    (λ c κs. tt) returns (λ c. omega arith) (λ c. omega arith) loop-again returns-2)
+each-usable-spec = tie.close (tie.spec (λ c κs. search needs) (λ c κs. search needs) (λ c κs. tt) returns returns-2)

@@ -1,19 +1,21 @@
-use mathlib.Core.Path.{_≡_, ap, _∙_}
+-- `query::triangle_usable` meets its contract: a small sum of squares settles all fourteen numbers (`Nearby.antt`).
+use native.Mathlib.Omega.{arith}
 use borrow.Author.Needs.{needs}
-use Rattle.numbers.proofs.Branches.{branches, bool-called}
-use Rattle.query.specs.Usable.{boxUsable, triangleUsable}
+use Rattle.query.proofs.Nearby.{near-usable}
 use Rattle.query.proofs.triangle_usable.Statement.{statement}
 use Rattle.query.proofs.triangle_usable.Tie as tie
 
 returns : tie.Need-returns
-unfolding triangleUsable
 returns c =
-    let e = c .box-usable .ensures ∙ ap boxUsable (c .before .box-at .ensures) in
-    search (branches, bool-called, e)
-
-returns-2 : tie.Need-returns-2
-unfolding triangleUsable
-returns-2 c = search (branches, bool-called)
+    let b = c .before in
+    let a = b .before .before .before .before .before .before .before .before in
+    near-usable _ _ _ _ _ (a .seven-squares .ensures) (b .seven-squares2 .ensures) (c .if1 .taken)
 
 pub triangle-usable-spec : {M : Type 1} → statement M
-triangle-usable-spec = tie.close (tie.spec (λ c κs. search needs) (λ c κs. search needs) (λ c κs. tt) returns returns-2)
+triangle-usable-spec =
+    tie.close
+    (tie.spec (λ c. omega arith) (λ c. omega arith)
+    (λ c. omega arith) (λ c. omega arith) (λ c. omega arith) (λ c. omega arith) (λ c. omega arith) (λ c. omega arith) (λ c. omega arith) (λ c. omega arith) (λ c. omega arith) (λ c. omega arith) (λ c. omega arith) (λ c. omega arith) (λ c. omega arith) (λ c. omega arith) (λ c. omega arith) (λ c. omega arith) (λ c. omega arith) (λ c. omega arith) (λ c. omega arith)
+    (λ c κs. tt)
+    (λ c. omega arith) (λ c. omega arith) (λ c. omega arith) (λ c. omega arith) (λ c. omega arith) (λ c. omega arith) (λ c. omega arith) (λ c. omega arith) (λ c. omega arith) (λ c. omega arith) (λ c. omega arith) (λ c. omega arith) (λ c. omega arith) (λ c. omega arith) (λ c. omega arith) (λ c. omega arith) (λ c. omega arith) (λ c. omega arith) (λ c. omega arith) (λ c. omega arith) (λ c. omega arith)
+    (λ c κs. tt) returns (λ c κs. search needs) (λ c. search needs))
