@@ -1,3 +1,4 @@
 pub mod Raises
 pub mod Answers
 pub mod Demands
+pub mod Beside
