@@ -11,13 +11,12 @@ use Rattle.numbers.specs.Reals.{_⊕_, _⊖_, _⊗_, _⊘_, f0, f2, clampUnit}
 use Rattle.numbers.specs.Root.{rootOf}
 use Rattle.plane.specs.declared.Triangle.{Triangle}
 use Rattle.plane.specs.declared.Contact.{Contact}
-use Rattle.plane.specs.declared.Contact.the-variants.{Nothing}
 use Rattle.capsule.specs.declared.Capsule.{Capsule}
 use Rattle.capsule.specs.declared.Edge.{Edge}
 use Rattle.capsule.specs.declared.Point.{Point}
 use Rattle.capsule.specs.Region.{offerOf, offeredAll}
 use Rattle.capsule.specs.Candidates.{each, onEdge, pointOn, reached, squared, solved, circled, ends, sided, sides, crossed}
-use Rattle.capsule.specs.Candidates.{corners, edges, inner, candidates, highestIn}
+use Rattle.capsule.specs.Candidates.{corners, edges, inner, candidates}
 
 pub offeredAll-append : (k : Capsule) (c : Contact) (xs ys : List Point) → offeredAll k c (xs ++ ys) ≡ offeredAll k (offeredAll k c xs) ys
 unfolding offeredAll
@@ -70,14 +69,14 @@ crossing k r m c e h p q =
     (both k r m c (each (circled k e) (ends k)) (cond (lt f0 (k .len)) (each (sided k e) sides) []) p q)
 
 -- the corners, the edges, the inner points
-pub whole : (k : Capsule) (t : Triangle) (r a b : Contact) →
-    a ≡ offeredAll k Nothing (corners t) →
+pub whole : (k : Capsule) (t : Triangle) (r a b c : Contact) →
+    a ≡ offeredAll k c (corners t) →
     b ≡ offeredAll k a (each (crossed k) (edges t)) →
     r ≡ offeredAll k b (inner k t) →
-    r ≡ highestIn k t
-unfolding highestIn candidates
-whole k t r a b p q s =
-    both k r a Nothing (corners t) (each (crossed k) (edges t) ++ inner k t) p
+    r ≡ offeredAll k c (candidates k t)
+unfolding candidates
+whole k t r a b c p q s =
+    both k r a c (corners t) (each (crossed k) (edges t) ++ inner k t) p
     (both k r b a (each (crossed k) (edges t)) (inner k t) q s)
 
 -- A loop over a list: what is left of it, from here, gives what the whole gave from the start. One turn, of the entry x:

@@ -4,3 +4,4 @@ pub mod Equal
 pub mod Again
 pub mod Extremes
 pub mod Answers
+pub mod Leaving

@@ -6,8 +6,10 @@ ghost use mathlib.Core.Path.{_≡_};
 ghost use lib.Ieee.{lt};
 ghost use lib.ListN.{getD};
 ghost use Rattle.numbers.specs.Reals.{f0};
-ghost use Rattle.plane.specs.Contacts.{corner, takeOf};
+ghost use Rattle.plane.specs.Contacts.{corner};
+ghost use Rattle.numbers.specs.Hypot.{hypotOf};
 ghost use Rattle.capsule.specs.Region.{normalOf, capsuleOf, offerOf, offeredAll, Among, contactOf};
+ghost use Rattle.capsule.specs.Inside.{onTop, Higher, NotAbove, Ordinary, Single, firsts};
 ghost use Rattle.capsule.specs.Candidates.{each, corners, edgeOf, edges, ends, onEdge, reached, circled, sided, sides, crossed};
 ghost use Rattle.capsule.specs.Candidates.{determinantOf, riseOf, tangents, flank, flanks, places, planeOver, inner, candidates, highestIn, maxInCapsule};
 use plane::Contact;
@@ -86,7 +88,7 @@ pub fn capsule_of(px: f64, py: f64, qx: f64, qy: f64, r: f64, eps: f64) -> Capsu
 {
     let dx = qx - px;
     let dy = qy - py;
-    let len = numbers::hypot(dx, dy);
+    let len = length_of(dx, dy);
     let n = normal_of(dx, dy, len);
     Capsule {
         px,
@@ -99,6 +101,19 @@ pub fn capsule_of(px: f64, py: f64, qx: f64, qy: f64, r: f64, eps: f64) -> Capsu
         nx: n.x,
         ny: n.y,
     }
+}
+
+// The length of a way: a way of no length takes no root.
+fn length_of(dx: f64, dy: f64) -> f64
+    ensures { λ l. ⌜ l ≡ hypotOf dx dy ⌝ }
+{
+    if dx != 0.0 {
+        return numbers::hypot(dx, dy);
+    }
+    if dy != 0.0 {
+        return numbers::hypot(dx, dy);
+    }
+    0.0
 }
 
 // The unit normal of a segment d of a length.
@@ -122,7 +137,15 @@ pub fn highest_in(k: Capsule, t: Triangle) -> Contact
     contact_of(found_in(k, t))
 }
 
-// The same before a contact is made of it: none, or the height of one of the candidates.
+// The same on top of a best so far of the height z: what is not higher is left out as soon as that is known.
+pub fn highest_above(k: Capsule, t: Triangle, z: f64) -> Contact
+    ensures { λ c. ⌜ c ≡ onTop z (highestIn k t) ⌝ }
+{
+    let touch = Touch { kind: 0, which: 0 };
+    contact_of(found_from(k, t, Best { found: 1, z, touch }))
+}
+
+// The highest point before a contact is made of it: none, or the height of one of the candidates.
 fn found_in(k: Capsule, t: Triangle) -> Best
     ensures { λ b. ⌜ (contactOf b ≡ highestIn k t) × Among k (candidates k t) (contactOf b) ⌝ }
 {
@@ -134,7 +157,14 @@ fn found_in(k: Capsule, t: Triangle) -> Best
             which: 0,
         },
     };
-    let corners = offer_corners(k, none, t);
+    found_from(k, t, none)
+}
+
+// What was found, and the candidates of a triangle.
+fn found_from(k: Capsule, t: Triangle, best: Best) -> Best
+    ensures { λ b. ⌜ contactOf b ≡ offeredAll k (contactOf best) (candidates k t) ⌝ }
+{
+    let corners = offer_corners(k, best, t);
     let crossings = offer_edges(k, corners, t);
     offer_inner(k, crossings, t)
 }
@@ -151,37 +181,29 @@ fn contact_of(b: Best) -> Contact
     }
 }
 
-// The higher of what was found and z, which touches t.
-fn take_best(b: Best, z: f64, t: Touch) -> Best
-    ensures { λ c. ⌜ contactOf c ≡ takeOf (contactOf b) z t ⌝ }
+// Whether z takes the place of what was found.
+fn higher(b: Best, z: f64) -> bool
+    ensures { λ r. ⌜ Higher (contactOf b) z r ⌝ }
 {
     if b.found == 0 {
-        return Best {
-            found: 1,
-            z,
-            touch: t,
-        };
+        return true;
     }
-    if plane::exceeds(z, b.z) {
-        return Best {
-            found: 1,
-            z,
-            touch: t,
-        };
-    }
-    b
+    plane::exceeds(z, b.z)
 }
 
-// What was found, and v if it lies in the capsule.
+// What was found, and v if it is higher and lies in the capsule.
 fn offer(k: Capsule, best: Best, v: Point) -> Best
     ensures { λ c. ⌜ contactOf c ≡ offerOf k (contactOf best) v ⌝ }
 {
     let touch = v.touch;
-    if plane::dist2_to_segment(v.x, v.y, k.px, k.py, k.qx, k.qy) <= k.limit {
-        take_best(best, v.z, touch)
-    } else {
-        best
+    let z = v.z;
+    if !higher(best, z) {
+        return best;
     }
+    if plane::dist2_to_segment(v.x, v.y, k.px, k.py, k.qx, k.qy) <= k.limit {
+        return Best { found: 1, z, touch };
+    }
+    best
 }
 
 // What was found, and the corners.
@@ -270,6 +292,43 @@ fn edge_between(k: u32, ax: f64, ay: f64, az: f64, bx: f64, by: f64, bz: f64) ->
 
 // What was found, and where an edge crosses the capsule's boundary.
 fn offer_crossings(k: Capsule, best: Best, e: Edge) -> Best
+    ensures { λ c. ⌜ contactOf c ≡ offeredAll k (contactOf best) (crossed k e) ⌝ }
+{
+    if under(best, e) {
+        return best;
+    }
+    offer_crossed(k, best, e)
+}
+
+// Whether no point of an edge is higher than what was found: neither end, as points of the edge are computed, at 0 and at 1. Only where the numbers are of ordinary
+// size; a false says nothing.
+fn under(best: Best, e: Edge) -> bool
+    ensures { λ r. ⌜ (r ≡ true → NotAbove (contactOf best) e) ⌝ }
+{
+    let z = best.z;
+    let a = e.z + 0.0 * e.dz;
+    let b = e.z + 1.0 * e.dz;
+    if best.found == 0 {
+        return false;
+    }
+    if numbers::max(a, b) <= z {
+        return are_ordinary(a, b);
+    }
+    false
+}
+
+// Whether two numbers are of ordinary size.
+fn are_ordinary(a: f64, b: f64) -> bool
+    ensures { λ r. ⌜ (r ≡ true → Ordinary a b) ⌝ }
+{
+    if numbers::abs(a) <= 3e6 {
+        return numbers::abs(b) <= 3e6;
+    }
+    false
+}
+
+// The same of an edge that may be higher.
+fn offer_crossed(k: Capsule, best: Best, e: Edge) -> Best
     ensures { λ c. ⌜ contactOf c ≡ offeredAll k (contactOf best) (crossed k e) ⌝ }
 {
     if e.dx * e.dx + e.dy * e.dy > 0.0 {
@@ -424,9 +483,44 @@ fn offer_inner(k: Capsule, best: Best, t: Triangle) -> Best
 {
     let nz = (t.bx - t.ax) * (t.cy - t.ay) - (t.cx - t.ax) * (t.by - t.ay);
     if numbers::abs(nz) > 1e-300 {
-        return offer_places(k, best, t, rise_of(t, k.r));
+        return offer_extremes(k, best, t, rise_of(t, k.r));
     }
     best
+}
+
+// What was found, and the points of a triangle over the extreme points of the capsule, of which a single point has few.
+fn offer_extremes(k: Capsule, best: Best, t: Triangle, h: Rise) -> Best
+    ensures { λ c. ⌜ contactOf c ≡ offeredAll k (contactOf best) (each (planeOver t) (places k h)) ⌝ }
+{
+    if is_single(k) {
+        return offer_firsts(k, best, t, h);
+    }
+    offer_places(k, best, t, h)
+}
+
+// Whether both ends of the segment and all four side ends are one place, to the bit.
+fn is_single(k: Capsule) -> bool
+    ensures { λ r. ⌜ (r ≡ true → Single k) ⌝ }
+{
+    let p = Place { x: k.px, y: k.py };
+    if !same(p, Place { x: k.qx, y: k.qy }) {
+        return false;
+    }
+    if !same(p, flank_at(k, k.px, k.py, MINUS_ONE)) {
+        return false;
+    }
+    same(p, flank_at(k, k.px, k.py, 1.0))
+}
+
+// What was found, and the points over that place and over its tangent point.
+fn offer_firsts(k: Capsule, best: Best, t: Triangle, h: Rise) -> Best
+    ensures { λ c. ⌜ contactOf c ≡ offeredAll k (contactOf best) (each (planeOver t) (firsts k h)) ⌝ }
+{
+    let b = offer_over(k, best, t, end_of(k, 0));
+    if h.g > 0.0 {
+        return offer_over(k, b, t, tangent_of(k, h, 0));
+    }
+    b
 }
 
 // How a triangle rises.
@@ -436,7 +530,7 @@ fn rise_of(t: Triangle, r: f64) -> Rise
     let nz = (t.bx - t.ax) * (t.cy - t.ay) - (t.cx - t.ax) * (t.by - t.ay);
     let gx = ((t.bz - t.az) * (t.cy - t.ay) - (t.cz - t.az) * (t.by - t.ay)) / nz;
     let gy = ((t.bx - t.ax) * (t.cz - t.az) - (t.cx - t.ax) * (t.bz - t.az)) / nz;
-    let g = numbers::hypot(gx, gy);
+    let g = length_of(gx, gy);
     Rise {
         g,
         x: r * gx / g,
@@ -444,7 +538,7 @@ fn rise_of(t: Triangle, r: f64) -> Rise
     }
 }
 
-// What was found, and the points of a triangle over the extreme points of the capsule.
+// The same one after the other.
 fn offer_places(k: Capsule, best: Best, t: Triangle, h: Rise) -> Best
     ensures { λ c. ⌜ contactOf c ≡ offeredAll k (contactOf best) (each (planeOver t) (places k h)) ⌝ }
 {

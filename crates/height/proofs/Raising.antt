@@ -13,7 +13,9 @@ use Rattle.capsule.specs.Candidates.{highestIn}
 use Rattle.capsule.specs.declared.Capsule.{Capsule}
 use Rattle.walk.specs.declared.Best.{Best}
 use Rattle.grid.specs.Boxes.{boxAt}
+use Rattle.capsule.specs.Inside.{onTop}
 use Rattle.ask.specs.Ask.{raisedBy}
+use Rattle.ask.proofs.Beside.{raised-beside}
 use Rattle.height.specs.Sweep.{heightOf, diskStep}
 
 module _ (mesh boxes : List Float) (q : Capsule) (best : Best) (i : ℕ) (b : Bounds) (a : b ≡ boxAt boxes i) where
@@ -24,7 +26,8 @@ module _ (mesh boxes : List Float) (q : Capsule) (best : Best) (i : ℕ) (b : Bo
   unfolding diskStep
   raise-skips e = taken _ _ _ _ (test-is ∙ e) refl
 
-  pub raise-takes : le (b .top) (best .height) ≡ false → (t : Triangle) (k : Contact) (v : Best) → t ≡ triangleOf mesh i → k ≡ highestIn q t → v ≡ raisedBy k i best → v ≡ diskStep mesh boxes q best i
+  pub raise-takes : le (b .top) (best .height) ≡ false → (t : Triangle) (k : Contact) (v : Best) → t ≡ triangleOf mesh i → k ≡ onTop (best .height) (highestIn q t) → v ≡ raisedBy k i best → v ≡ diskStep mesh boxes q best i
   unfolding diskStep heightOf
   raise-takes e t k v f c d =
-      left _ _ _ _ (test-is ∙ e) (d ∙ ap (λ (u : Contact). raisedBy u i best) (c ∙ ap (highestIn q) f))
+      left _ _ _ _ (test-is ∙ e)
+      (d ∙ (ap (λ (u : Contact). raisedBy u i best) c ∙ (raised-beside (highestIn q t) i best ∙ ap (λ (u : Triangle). raisedBy (highestIn q u) i best) f)))

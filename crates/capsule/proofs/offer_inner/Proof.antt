@@ -10,7 +10,7 @@ returns : tie.Need-returns
 unfolding determinantOf
 returns c =
     let m = c .before .before in
-    rising _ _ _ _ _ (called-lt _ _ _ _ (m .before .abs .ensures) (m .if1 .taken)) (c .before .rise-of .ensures) (c .offer-places .ensures)
+    rising _ _ _ _ _ (called-lt _ _ _ _ (m .before .abs .ensures) (m .if1 .taken)) (c .before .rise-of .ensures) (c .offer-extremes .ensures)
 
 returns-2 : tie.Need-returns-2
 unfolding inner determinantOf

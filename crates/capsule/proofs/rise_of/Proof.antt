@@ -4,7 +4,7 @@ use Rattle.capsule.proofs.rise_of.Tie as tie
 
 returns : tie.Need-returns
 unfolding riseOf determinantOf
-returns c = rw (c .hypot .ensures)
+returns c = rw (c .length-of .ensures)
 
 pub rise-of-spec : {M : Type 1} → statement M
 rise-of-spec = tie.close (tie.spec (λ c κs. tt) returns)
