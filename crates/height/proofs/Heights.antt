@@ -93,6 +93,11 @@ module _ (mesh boxes : List Float) (q : Capsule) where
       let s = step-rises b i n in
       rises-trans b (diskStep mesh boxes q b i) _ (s .0) (fold-rises is (diskStep mesh boxes q b i) (s .1))
 
+  -- once above a limit, it stays above
+  pub stays-above : (is : List ℕ) (b : Best) (limit : Float) → lt limit (b .height) ≡ true → lt limit (fold (diskStep mesh boxes q) b is .height) ≡ true
+  stays-above is b limit l =
+      ⊎-elim (λ e. ap (λ (v : Best). lt limit (v .height)) e ∙ l) (λ m. lt-goes-on limit (b .height) _ l m) (fold-rises is b (lt-number limit (b .height) l))
+
   -- where it ends: at the floor, or above it at the contact of a triangle of the list, which it names
   pub record One (is : List ℕ) (b v : Best) : Type 0 where
     pub above : lt (b .height) (v .height) ≡ true

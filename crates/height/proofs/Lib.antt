@@ -3,3 +3,4 @@ pub mod Sweeping
 pub mod Answering
 pub mod Heights
 pub mod Demanding
+pub mod Halting

@@ -1,20 +1,27 @@
 -- Questions asked one after the other with the search's own marks: each has the answer that it has with wiped marks.
 use mathlib.Core.Bool.{Bool, true, false, cond}
-use mathlib.Core.List.{List, [], _∷_}
+use mathlib.Core.List.{List, [], _∷_, _++_, append-nil}
 use mathlib.Core.Logic.{_⊎_, inl, inr, ⊎-elim}
-use mathlib.Core.Path.{_≡_, refl, sym, ap, _∙_}
+use mathlib.Core.Path.{_≡_, refl, sym, ap, _∙_, subst}
 use Prim.Native.Nat.{ℕ, zero, suc, _+_, _≤_, _<_}
 use native.Mathlib.Omega.{arith}
 use borrow.Author.Tests.{eqb-true, eqb-false, eq-eqb, ne-eqb, ltb-true, ltb-false}
 use lib.Dec.{eqb, ltb}
+use lib.Ieee.{Float, lt}
 use lib.ListN.{length, getD, set, replicate, length-set, length-replicate, getD-replicate, List·getD-eq-default}
 use lib.Seq.{getD-set-same, getD-set-other, set-out}
+use Rattle.numbers.proofs.Branches.{by-test}
+use Rattle.walk.specs.declared.Best.{Best}
 use Rattle.walk.specs.Walk.{Walk, looked, marked, fold, walked, nextStamp, readyMarks}
 use Rattle.grid.specs.Index.{Index}
-use Rattle.height.specs.Sweep.{Sweep, sweep, capsuleFor, diskStep, capsuleWalk, sweepWalk}
+use Rattle.query.specs.Looked.{within}
+use Rattle.ask.specs.Ask.{atFloor}
+use Rattle.height.specs.Sweep.{Sweep, sweep, patchFor, capsuleFor, diskStep, capsuleWalk, sweepWalk, capsuleRun, Halted}
+use Rattle.height.proofs.Heights.{stays-above}
+use Rattle.height.proofs.Halting.{fold-append}
 use Rattle.runs.specs.declared.Run.{Run}
 use Rattle.probe.specs.Probe.{heightUnder}
-use Rattle.probe.specs.Inside.{Marked}
+use Rattle.probe.specs.Inside.{Marked, Decides}
 
 on-or-off : (b : Bool) → (b ≡ true) ⊎ (b ≡ false)
 on-or-off true = inl refl
@@ -105,6 +112,16 @@ ready-below n stamp marks m = by (eqb stamp 4294967295)
     by true = (length-replicate {A = ℕ} (length marks) 0 ∙ m .size, (λ i. rw (zeros (length marks) i) (omega arith)))
     by false = (m .size, (λ i. omega (arith, m .below i)))
 
+-- ---- a list looked at in two parts
+
+pub looked-append : (s : ℕ) (xs m ys : List ℕ) → looked s m (xs ++ ys) ≡ looked s m xs ++ looked s (marked s m (looked s m xs)) ys
+unfolding looked marked
+looked-append s [] m ys = refl
+looked-append s (x ∷ xs) m ys =
+    by-test (eqb (getD m x 0) s)
+    (λ e. rw e (looked-append s xs m ys))
+    (λ e. rw e (ap (λ (l : List ℕ). x ∷ l) (looked-append s xs (set m x s) ys)))
+
 -- ---- a sweep
 
 module _ (ix : Index) (stamp : ℕ) (marks : List ℕ) (m : Marked (ix .header .n) stamp marks) (r : Run) where
@@ -119,6 +136,44 @@ module _ (ix : Index) (stamp : ℕ) (marks : List ℕ) (m : Marked (ix .header .
   pub swept-marks : Marked (ix .header .n) (nextStamp stamp) (sweepWalk ix marks stamp under .marks)
   unfolding sweepWalk capsuleWalk walked
   swept-marks = let b = ready-below (ix .header .n) stamp marks m in marked-below (nextStamp stamp) (ix .header .n) _ (readyMarks marks stamp) (b .0) (b .1)
+
+  -- one that may be left above a limit
+  module _ (limit : Float) (w : Walk Best) (h : Halted (capsuleRun ix marks stamp (capsuleFor (ix .header) under)) (within ix (patchFor (ix .header) under)) limit w) where
+    abbrev step : Best → ℕ → Best
+    step = diskStep (ix .mesh) (ix .boxes) (capsuleFor (ix .header) under)
+
+    abbrev over : List ℕ → Best
+    over ms = fold step (atFloor (ix .header .floor)) (looked (nextStamp 0) (readyMarks (replicate (ix .header .n) 0) 0) ms)
+
+    front-value : w .value ≡ over (h .front)
+    unfolding walked
+    front-value =
+        ap (λ (u : Walk Best). u .value) (h .walk) ∙ ap (fold step (atFloor (ix .header .floor))) (looked-same _ _ _ _ (h .front) (ready-alike (ix .header .n) stamp marks m))
+
+    whole-value : heightUnder ix r ≡ over (h .front ++ h .rest) .height
+    unfolding heightUnder sweepWalk capsuleWalk walked
+    whole-value = ap (λ (ms : List ℕ). over ms .height) (h .whole)
+
+    above : lt limit (w .value .height) ≡ true → lt limit (over (h .front ++ h .rest) .height) ≡ true
+    above l =
+        let seen : List ℕ = looked (nextStamp 0) (readyMarks (replicate (ix .header .n) 0) 0) (h .front) in
+        let more : List ℕ = looked (nextStamp 0) (marked (nextStamp 0) (readyMarks (replicate (ix .header .n) 0) 0) seen) (h .rest) in
+        let e : over (h .front ++ h .rest) ≡ fold step (over (h .front)) more =
+            ap (fold step (atFloor (ix .header .floor))) (looked-append (nextStamp 0) (h .front) (readyMarks (replicate (ix .header .n) 0) 0) (h .rest)) ∙ fold-append step seen more (atFloor (ix .header .floor)) in
+        ap (λ (v : Best). lt limit (v .height)) e ∙ stays-above (ix .mesh) (ix .boxes) (capsuleFor (ix .header) under) more (over (h .front)) limit (ap (λ (v : Best). lt limit (v .height)) (sym front-value) ∙ l)
+
+    pub halted-decides : Decides limit (heightUnder ix r) (w .value .height)
+    halted-decides =
+        ⊎-elim
+        (λ e. inl (ap (λ (v : Best). v .height) front-value ∙ sym (whole-value ∙ ap (λ (ms : List ℕ). over ms .height) (ap (λ (ms : List ℕ). h .front ++ ms) e ∙ append-nil (h .front)))))
+        (λ l. inr (l, ap (lt limit) whole-value ∙ above l))
+        (h .why)
+
+    pub halted-marks : Marked (ix .header .n) (nextStamp stamp) (w .marks)
+    unfolding walked
+    halted-marks =
+        let b = ready-below (ix .header .n) stamp marks m in
+        subst (λ (u : Walk Best). Marked (ix .header .n) (nextStamp stamp) (u .marks)) (sym (h .walk)) (marked-below (nextStamp stamp) (ix .header .n) _ (readyMarks marks stamp) (b .0) (b .1))
 
 pub marked-is : (n s t : ℕ) (m k : List ℕ) → s ≡ t → m ≡ k → Marked n t k → Marked n s m
 marked-is n s t m k p q g = rw (p, q) g

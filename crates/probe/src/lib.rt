@@ -2,7 +2,8 @@
 ghost use mathlib.Core.Path.{_≡_};
 ghost use Rattle.grid.specs.Index.{indexOf};
 ghost use Rattle.probe.specs.Probe.{heightUnder, onLevel, clear};
-ghost use Rattle.probe.specs.Inside.{Askable, Marked, splitsOf};
+ghost use Rattle.probe.specs.Inside.{Askable, Marked, splitsOf, Decides, BeyondLevel};
+ghost use mathlib.Core.Bool.{true};
 use grid::Header;
 use rows::Lane;
 use runs::Run;
@@ -34,7 +35,7 @@ pub struct Judged {
     pub stamp: u32,
 }
 
-// The height under a run.
+// The height under a run, or one that is above the limit where that is.
 fn ask(
     mesh: &[f64],
     h: Header,
@@ -44,12 +45,13 @@ fn ask(
     marks: &mut [u32],
     stamp: u32,
     r: Run,
+    limit: f64,
 ) -> Asked
     requires { ⌜ Askable (indexOf (now mesh) h (now starts) (now members) (now boxes)) × Marked (h .n) stamp (now marks) ⌝ }
-    ensures { λ a. ⌜ (a .height ≡ heightUnder (indexOf (now (mesh .entry)) h (now (starts .entry)) (now (members .entry)) (now (boxes .entry))) r)
+    ensures { λ a. ⌜ Decides limit (heightUnder (indexOf (now (mesh .entry)) h (now (starts .entry)) (now (members .entry)) (now (boxes .entry))) r) (a .height)
         × Marked (h .n) (a .stamp) (now (marks .exit)) ⌝ }
 {
-    let s = height::swept_height(
+    let s = height::swept_until(
         mesh,
         h,
         starts,
@@ -62,6 +64,7 @@ fn ask(
         r.bx,
         r.by,
         h.r,
+        limit,
     );
     let best = s.best;
     Asked {
@@ -87,6 +90,7 @@ pub fn sample(
     ensures { λ o. ⌜ (o .on ≡ onLevel (heightUnder (indexOf (now (mesh .entry)) h (now (starts .entry)) (now (members .entry)) (now (boxes .entry)))) a l k)
         × Marked (h .n) (o .stamp) (now (marks .exit)) ⌝ }
 {
+    let limit = limit_over(a.level, a.level_tolerance);
     let t = ask(
         mesh,
         h,
@@ -96,11 +100,34 @@ pub fn sample(
         marks,
         stamp,
         rows::run_between(l, k, k),
+        limit,
     );
     Reading {
         on: numbers::abs(t.height - a.level) <= a.level_tolerance,
         stamp: t.stamp,
     }
+}
+
+// A limit above which no sample is on the level: infinite where twice the tolerance does not make one.
+fn limit_over(level: f64, tolerance: f64) -> f64
+    ensures { λ l. ⌜ BeyondLevel level tolerance l ⌝ }
+{
+    let l = level + 2.0 * tolerance;
+    if is_beyond(level, tolerance, l) {
+        return l;
+    }
+    f64::from_bits(0x7ff0_0000_0000_0000)
+}
+
+// Whether l is such a limit; a false says nothing.
+fn is_beyond(level: f64, tolerance: f64, l: f64) -> bool
+    ensures { λ r. ⌜ (r ≡ true → BeyondLevel level tolerance l) ⌝ }
+{
+    let d = l - level;
+    if d > tolerance {
+        return d <= 3e6;
+    }
+    false
 }
 
 // What becomes of a piece with `left` halvings left.
@@ -120,8 +147,9 @@ pub fn judge(
     ensures { λ j. ⌜ (j .kept ≡ clear (heightUnder (indexOf (now (mesh .entry)) h (now (starts .entry)) (now (members .entry)) (now (boxes .entry)))) a r)
         × (j .split ≡ splitsOf (j .kept) (a .least) left r) × Marked (h .n) (j .stamp) (now (marks .exit)) ⌝ }
 {
-    let t = ask(mesh, h, starts, members, boxes, marks, stamp, r);
-    let kept = t.height <= r.z + a.tolerance;
+    let limit = r.z + a.tolerance;
+    let t = ask(mesh, h, starts, members, boxes, marks, stamp, r, limit);
+    let kept = t.height <= limit;
     Judged {
         split: splits(kept, a.least, left, r),
         kept,

@@ -1,16 +1,16 @@
 -- `probe::ask` meets its contract: the walk's value is that with wiped marks, and no mark is above its stamp.
-use mathlib.Core.Path.{_≡_, ap, _∙_}
+use mathlib.Core.Path.{refl}
+use denote.Ref.{now}
 use native.Mathlib.Omega.{arith}
 use borrow.Author.Needs.{needs}
-use Rattle.walk.specs.declared.Best.{Best}
-use Rattle.walk.specs.Walk.{Walk}
+use Rattle.grid.specs.Index.{indexOf}
 use Rattle.query.proofs.Patches.{patch-inside}
-use Rattle.probe.proofs.Asking.{swept-value, swept-marks, marked-is}
+use Rattle.probe.proofs.Asking.{halted-decides, halted-marks, marked-is}
 use Rattle.probe.proofs.ask.Statement.{statement}
 use Rattle.probe.proofs.ask.Tie as tie
 
-swept-height-requires : tie.Need-swept-height-requires
-swept-height-requires c κs =
+swept-until-requires : tie.Need-swept-until-requires
+swept-until-requires c κs =
     let s = c .before .before .before .before .before .before in
     let q = s .pre .0 in
     let m = s .pre .1 in
@@ -20,10 +20,9 @@ swept-height-requires c κs =
 returns : tie.Need-returns
 returns c =
     let s = c .before .before .before .before .before .before .before .before .before .before in
-    let e = c .before .before .before .swept-height .ensures in (
-      ap (λ (w : Walk Best). w .value .height) (e .0) ∙ swept-value _ _ _ (s .pre .1) (s .args .r),
-      marked-is _ _ _ _ _ (e .1) (ap (λ (w : Walk Best). w .marks) (e .0)) (swept-marks _ _ _ (s .pre .1) (s .args .r)),
-    )
+    let ix = indexOf (now (s .args .mesh)) (s .args .h) (now (s .args .starts)) (now (s .args .members)) (now (s .args .boxes)) in
+    let e = c .before .before .before .swept-until .ensures in
+    (halted-decides ix _ _ (s .pre .1) (s .args .r) _ _ (e .0), marked-is _ _ _ _ _ (e .1) refl (halted-marks ix _ _ (s .pre .1) (s .args .r) _ _ (e .0)))
 
 pub ask-spec : {M : Type 1} → statement M
-ask-spec = tie.close (tie.spec swept-height-requires (λ c. search needs) returns)
+ask-spec = tie.close (tie.spec swept-until-requires (λ c. search needs) returns)
