@@ -46,9 +46,9 @@ pub struct Built {
 }
 
 // What refuses a mesh, 0 if nothing does, and which of its numbers is told.
-struct Reason {
-    refusal: u32,
-    place: u32,
+pub struct Reason {
+    pub refusal: u32,
+    pub place: u32,
 }
 
 // The index of a mesh: starts, members and boxes hold its tables, and entries that the first two do not need stay. A refused call changes none.
@@ -120,7 +120,7 @@ pub fn is_boxed(mesh: &[f64], boxes: &[f64]) -> bool
 }
 
 // Refusals 1, 23, 3, 2 and 4.
-fn refusal_of_mesh(mesh: &[f64], floor: f64, r: f64, boxes: &[f64]) -> Reason
+pub fn refusal_of_mesh(mesh: &[f64], floor: f64, r: f64, boxes: &[f64]) -> Reason
     ensures { λ w. ⌜ (w .refusal ≡ refusalOfMesh (now (mesh .entry)) floor r (now (boxes .entry)))
         × (w .place ≡ toldWith (w .refusal) (now (mesh .entry))) ⌝ }
 {
@@ -153,7 +153,7 @@ fn refusal_of_mesh(mesh: &[f64], floor: f64, r: f64, boxes: &[f64]) -> Reason
 }
 
 // Refusals 2 and 4.
-fn refusal_of_numbers(mesh: &[f64], floor: f64, r: f64) -> Reason
+pub fn refusal_of_numbers(mesh: &[f64], floor: f64, r: f64) -> Reason
     requires { ⌜ length (now mesh) ≤ 589824 ⌝ }
     ensures { λ w. ⌜ (w .refusal ≡ refusalOfNumbers (now (mesh .entry)) floor r) × (w .place ≡ toldWith (w .refusal) (now (mesh .entry))) ⌝ }
 {
@@ -182,7 +182,7 @@ fn refusal_of_numbers(mesh: &[f64], floor: f64, r: f64) -> Reason
 }
 
 // The grid over the first n triangles.
-fn grid_of(mesh: &[f64], n: usize, r: f64) -> Grid
+pub fn grid_of(mesh: &[f64], n: usize, r: f64) -> Grid
     requires { ⌜ n * 9 ≤ length (now mesh) ⌝ }
     requires { ⌜ AllGood (now mesh) ⌝ }
     requires { ⌜ (gridOf (now mesh) n r .columns < 2 ^ 64) × (gridOf (now mesh) n r .rows < 2 ^ 64) ⌝ }
@@ -338,7 +338,7 @@ fn cells_of(mesh: &[f64], g: Grid, i: usize) -> cells::Cells
 }
 
 // How many members n triangles have.
-fn total(mesh: &[f64], n: usize, g: Grid) -> usize
+pub fn total(mesh: &[f64], n: usize, g: Grid) -> usize
     requires { ⌜ Gridded (now mesh) n g ⌝ }
     ensures { λ t. ⌜ t ≡ totalOf (now (mesh .entry)) g n ⌝ }
 {
