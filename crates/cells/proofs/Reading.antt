@@ -30,7 +30,7 @@ module _ (on : Cover) (n : ℕ) where
       ([], rw (e, append-nil) refl))
 
   module _ (cells : ℕ) (s m : List ℕ) where
-    start-at : (c : ℕ) → c ≤ cells → getD (startsOf on n cells s) c 0 ≡ startOf on n c
+    pub start-at : (c : ℕ) → c ≤ cells → getD (startsOf on n cells s) c 0 ≡ startOf on n c
     unfolding startsOf
     start-at c h =
         List·getD-append (entries (startOf on n) (suc cells)) (drop (suc cells) s) 0 c (omega (arith, entries-length (startOf on n) (suc cells)))

@@ -53,7 +53,7 @@ pub fn head_usable(mesh: &[f64], h: Header, starts: &[u32]) -> bool
 }
 
 // Whether k is one of the numbers from a to e.
-fn is_from(a: usize, e: usize, k: usize) -> bool
+pub fn is_from(a: usize, e: usize, k: usize) -> bool
     ensures { λ r. ⌜ r ≡ isFrom a e k ⌝ }
 {
     if a <= k { k <= e } else { false }

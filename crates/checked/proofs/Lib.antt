@@ -1,0 +1,4 @@
+pub mod Counting
+pub mod Comparing
+pub mod Tabling
+pub mod Rebuilding
