@@ -130,6 +130,123 @@ static void the_build(void)
     expect("good again", 0, build());
 }
 
+/* ---- the rooms, and whether an index is the one of its mesh */
+
+static size_t rooms[2];
+
+static uint32_t ask_rooms(void)
+{
+    return mandrikelo_rooms(mesh, mesh_len, ground, reach, rooms);
+}
+
+static void the_rooms(void)
+{
+    part = "rooms";
+    range("floor", &ground, -1e6, 1e6, 2, ask_rooms);
+    range("r", &reach, 0, 1e6, 2, ask_rooms);
+    for (size_t k = 0; k < 18; k++)
+        range("a coordinate", mesh + k, -1e6, 1e6, 4, ask_rooms);
+    length("mesh_len", &mesh_len, 9, 1, 1, ask_rooms);
+    expect("good", 0, ask_rooms());
+    starts_len = rooms[0], members_len = rooms[1];
+    length("starts_len of a build", &starts_len, rooms[0], 5, 0, build);
+    length("members_len of a build", &members_len, rooms[1], 6, 0, build);
+    mesh_len = 0;
+    expect("an empty mesh", 3, ask_rooms());
+    expect("no starts then", 0, (uint32_t)rooms[0]);
+    expect("no members then", 0, (uint32_t)rooms[1]);
+    /* The most triangles and one more; the most members and too many. */
+    for (size_t i = 2; i <= MOST; i++)
+        memcpy(mesh + 9 * i, SQUARE, 9 * sizeof *mesh);
+    mesh_len = 9 * ((size_t)MOST + 1);
+    expect("65,537 triangles", 1, ask_rooms());
+    mesh_len = 9 * (size_t)MOST;
+    reach = 4 * 8 / 15.5;
+    expect("16,777,216 members", 0, ask_rooms());
+    expect("its starts", 257, (uint32_t)rooms[0]);
+    expect("its members", MEMBERS, (uint32_t)rooms[1]);
+    reach = 4 * 8 / 16.5;
+    expect("18,939,904 members", 6, ask_rooms());
+    expect("no starts then", 0, (uint32_t)rooms[0]);
+    mesh_len = 18, starts_len = members_len = ROOM, reach = 2;
+    expect("good again", 0, build());
+}
+
+static uint32_t check(void)
+{
+    return mandrikelo_check_index(mesh, mesh_len, measures, sizes, starts, starts_len, members, members_len, boxes, boxes_len);
+}
+
+/* A number of an index: as it is it passes, and either neighbour and its negative are told by 7. */
+static void exact(const char *name, double *place)
+{
+    const double kept = *place, other[] = {nextafter(kept, -INFINITY), nextafter(kept, INFINITY), -kept, NAN};
+    for (size_t i = 0; i < sizeof other / sizeof *other; i++) {
+        *place = other[i];
+        expect(name, 7, check());
+    }
+    *place = kept;
+    expect(name, 0, check());
+}
+
+/* A whole number of an index: one less and one more are told by 7. */
+static void exactly(const char *name, uint32_t *place)
+{
+    --*place;
+    expect(name, 7, check());
+    *place += 2;
+    expect(name, 7, check());
+    --*place;
+    expect(name, 0, check());
+}
+
+static void the_check(void)
+{
+    static const char *const MEASURE[6] = {"origin x", "origin y", "cell", "floor", "eps", "r"};
+    part = "check_index";
+    size_t cells = (size_t)sizes[1] * sizes[2], listed = starts[cells];
+    for (size_t k = 0; k < 6; k++)
+        if (k != 3 && k != 5)
+            exact(MEASURE[k], measures + k);
+    range("floor", measures + 3, -1e6, 1e6, 7, check);
+    for (size_t k = 0; k < 3; k++)
+        exactly("sizes", sizes + k);
+    for (size_t k = 0; k <= cells; k++)
+        exactly("starts", starts + k);
+    for (size_t k = 0; k < listed; k++)
+        exactly("members", members + k);
+    for (size_t k = 0; k < 10; k++)
+        exact("boxes", boxes + k);
+    length("starts_len", &starts_len, cells + 1, 7, 0, check);
+    length("members_len", &members_len, listed, 7, 0, check);
+    length("boxes_len", &boxes_len, 10, 23, 23, check);
+    length("mesh_len", &mesh_len, 18, 1, 1, check);
+    mesh_len = 27;
+    expect("a triangle more", 23, check());
+    mesh_len = 0, boxes_len = 0;
+    expect("an empty mesh", 7, check());
+    mesh_len = 9 * ((size_t)MOST + 1), boxes_len = 5 * ((size_t)MOST + 1);
+    expect("65,537 triangles", 1, check());
+    mesh_len = 18, boxes_len = 10;
+    /* The part moved without its index, which every question lets pass; and with it. */
+    for (size_t k = 0; k < 18; k += 3)
+        mesh[k] += 8;
+    expect("a part moved in x", 7, check());
+    memcpy(mesh, SQUARE, sizeof SQUARE);
+    for (size_t k = 2; k < 18; k += 3)
+        mesh[k] += 8;
+    expect("a part moved in z", 7, check());
+    memcpy(mesh, SQUARE, sizeof SQUARE);
+    double raised[6];
+    uint32_t raised_sizes[3];
+    expect("raised", 0, mandrikelo_raise(mesh, mesh_len, boxes, boxes_len, measures, sizes, 8, raised, raised_sizes, bad));
+    expect("with the old header", 7, check());
+    memcpy(measures, raised, sizeof measures);
+    expect("a part raised with its index", 0, check());
+    memcpy(mesh, SQUARE, sizeof SQUARE);
+    expect("good again", 0, build());
+}
+
 /* ---- questions; q holds the numbers of the one that is tried */
 
 static double q[9], tool[4 * 33], height[1];
@@ -750,6 +867,8 @@ int main(void)
     memcpy(mesh, SQUARE, sizeof SQUARE);
     the_names();
     the_build();
+    the_rooms();
+    the_check();
     the_questions();
     rise_and_lift();
     the_header();

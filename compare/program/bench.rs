@@ -7,6 +7,7 @@ use crate::ask;
 use crate::bed::{Asked, Bed, Kind, Room, medians, now};
 use crate::bench_parts;
 use crate::bench_um;
+use crate::checked;
 use crate::doors::raw;
 use crate::inputs;
 use crate::rng::Rng;
@@ -92,6 +93,7 @@ fn plates() {
     readers();
     let bed = bed(plate(100, 20));
     build(&bed);
+    rooms_and_check(&bed);
     heights(&bed);
     tools(&bed);
     moves(&bed);
@@ -227,6 +229,18 @@ fn build(bed: &Bed) {
             },
         ],
     );
+}
+
+/// The rooms and the check of an index, beside a rebuild, which is what camlib's program would have to do.
+fn rooms_and_check(bed: &Bed) {
+    let (as_shipped, as_doc) = (shipped::surface(&bed.mesh), doc::surface(&bed.mesh));
+    let (h, mut rooms) = (&bed.handed, [0; 2]);
+    let rebuilt = &mut || std::mem::forget(black_box(shipped::Grid::new(&as_shipped, FLOOR, RADIUS)));
+    let rebuilt_doc = &mut || std::mem::forget(black_box(doc::Grid::new(&as_doc, FLOOR, RADIUS)));
+    let ask = &mut || used(unsafe { checked::mandrikelo_rooms(bed.mesh.as_ptr(), bed.mesh.len(), FLOOR, RADIUS, rooms.as_mut_ptr()) });
+    row("rooms, 20,040 triangles", &["rooms"], 40, 1, [ask, rebuilt, rebuilt_doc]);
+    let check = &mut || used(checked::check(&bed.mesh, h));
+    row("check of an index, 20,040 triangles", &["check_index"], 40, 1, [check, rebuilt, rebuilt_doc]);
 }
 
 /// Questions over the plate at one height, from random points to ends near them.

@@ -16,6 +16,7 @@ mod bench_parts;
 mod bench_um;
 mod build;
 mod case;
+mod checked;
 mod copies;
 mod damage;
 mod distance;

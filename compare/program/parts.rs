@@ -69,6 +69,7 @@ pub const PARTS: &[Part] = &[
     crate::touched::QUESTIONS,
     crate::um::PART,
     crate::raised::PART,
+    crate::checked::PART,
 ];
 
 /// Equal bits; all NaNs count as one value.

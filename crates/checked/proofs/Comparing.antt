@@ -8,10 +8,10 @@ use native.Mathlib.Omega.{arith}
 use lib.Dec.{T}
 use lib.Ieee.{Float, nan, eq, ne}
 use lib.Ieee.Compare.{differs-from-itself}
-use lib.ListN.{length, getD}
+use lib.ListN.{length}
 use lib.Seq.{ext-getD}
 use Rattle.numbers.specs.Reals.{num}
-use Rattle.numbers.proofs.Branches.{no, by-test}
+use Rattle.numbers.proofs.Branches.{no}
 use Rattle.plane.specs.declared.Bounds.{Bounds}
 use Rattle.spans.specs.Mesh.{boxOf, epsOf}
 use Rattle.spans.specs.Axis.{stretchOf}

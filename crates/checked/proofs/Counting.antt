@@ -1,6 +1,6 @@
 -- Numbers that rise, are below n and cover a cell are no more than the cell has members, and if they are as many, they are its members. So where every cell holds
 -- such numbers and all together are as many as there should be, none is missing in any cell.
-use mathlib.Core.Bool.{Bool, true, false, cond, _&&_}
+use mathlib.Core.Bool.{Bool, true, false, _&&_}
 use mathlib.Core.List.{List, [], _∷_, _++_, append-nil}
 use mathlib.Core.Path.{_≡_, refl, ap, ap₂, sym, _∙_}
 use Prim.Native.Nat.{ℕ, zero, suc, _+_, _-_, _≤_, _<_}
@@ -8,7 +8,7 @@ use native.Mathlib.Numerals.{add-one}
 use native.Mathlib.Omega.{arith}
 use borrow.Author.Tests.{leb-true, ltb-true, le-leb, lt-leb, le-ltb, lt-ltb}
 use lib.Dec.{leb, ltb}
-use lib.ListN.{length, getD, take, drop, length-drop, drop-of-length-le}
+use lib.ListN.{length, getD, drop, length-drop, drop-of-length-le}
 use lib.Seq.{drop-cons, append-snoc, length-take-le, getD-take, getD-drop}
 use Rattle.numbers.proofs.Branches.{and-off, both-true, by-test}
 use Rattle.cells.specs.Cover.{Cover, membersOf, listed, startOf, startsOf, membersTable, stretch}
@@ -119,11 +119,12 @@ module _ (on : Cover) (c : ℕ) where
       let r = few n (i + 1) xs (omega arith) (a .3) in
       let m = members-mono on low i c (a .0) in
       let w = members-more on i c in
-      let o = weight-on _ (a .2) in
-      (omega (arith, r .0, m, w, o),
-      λ q.
-      let v = same-below low i (a .0) (omega (arith, q, r .0, m, w, o)) in
-      ap (λ (l : List ℕ). l ++ (i ∷ xs)) (sym v) ∙ sym (append-snoc (membersOf on i c) i xs) ∙ ap (λ (l : List ℕ). l ++ xs) (sym (with-one i (a .2))) ∙ r .1 (omega (arith, q, r .0, m, w, o)))
+      let o = weight-on _ (a .2) in (
+        omega (arith, r .0, m, w, o),
+        λ q.
+            let v = same-below low i (a .0) (omega (arith, q, r .0, m, w, o)) in
+            ap (λ (l : List ℕ). l ++ (i ∷ xs)) (sym v) ∙ sym (append-snoc (membersOf on i c) i xs) ∙ ap (λ (l : List ℕ). l ++ xs) (sym (with-one i (a .2))) ∙ r .1 (omega (arith, q, r .0, m, w, o)),
+      )
 
   -- the members themselves rise
   rises-members : (n : ℕ) → risesFrom here n 0 (membersOf on n c) ≡ true

@@ -1,11 +1,11 @@
 -- An index is built from its mesh exactly if building the mesh again, with the floor and r of its header and over its own tables, leaves everything as it is.
-use mathlib.Core.Bool.{Bool, true, false, cond}
+use mathlib.Core.Bool.{Bool, true, false}
 use mathlib.Core.List.{List, _++_}
 use mathlib.Core.Path.{_≡_, refl, sym, ap, subst, _∙_}
-use Prim.Native.Nat.{ℕ, suc, _+_, _*_, _^_, _%_, _≤_, _<_}
+use Prim.Native.Nat.{ℕ, suc, _+_, _%_, _≤_}
 use native.Mathlib.Omega.{arith}
-use borrow.Author.Tests.{eq-eqb, ne-eqb, eqb-true, eqb-false}
-use lib.Dec.{eqb, ltb, lit<}
+use borrow.Author.Tests.{eqb-true, eqb-false}
+use lib.Dec.{eqb, ltb}
 use lib.Ieee.{Float}
 use lib.ListN.{length, drop, length-append, length-drop}
 use lib.Seq.{drop-at}
@@ -19,7 +19,7 @@ use Rattle.grid.specs.Ladder.{demand, refuse}
 use Rattle.grid.specs.Grid.{trianglesIn, gridOf, cellsIn, coverOf}
 use Rattle.grid.specs.Boxes.{isBoxed, boxesOf}
 use Rattle.grid.specs.Header.{headerOf}
-use Rattle.grid.specs.Build.{isNowhere, refusalOfNumbers, refusalOfMesh, refusalOfGrid, refusalOfMembers, Outcome, outcome, refusedBy, acceptedWith, unless, filledOf, gridded, buildOf, toldWith}
+use Rattle.grid.specs.Build.{isNowhere, refusalOfNumbers, refusalOfMesh, refusalOfGrid, refusalOfMembers, Outcome, outcome, refusedBy, acceptedWith, unless, filledOf, gridded, buildOf}
 use Rattle.grid.specs.Index.{Index, BuiltFrom}
 use Rattle.grid.proofs.Boxing.{boxes-length}
 use Rattle.grid.proofs.Accepting.{accepted, passed, members-fit, unless-next}
@@ -154,16 +154,17 @@ module _ (ix : Index) where
         let ex = ap (λ (o : Outcome). o .boxes) e in
         let ls : length (ix .starts) ≡ length s = ap length (sym es) ∙ starts-long on count (cellsIn grid) s (passed _ _ _ b .room) in
         let lm : length (ix .members) ≡ length m = ap length (sym em) ∙ members-long on count (cellsIn grid) m (members-fit _ _ c .1) in
-        let lx : length (ix .boxes) ≡ length x = ap length (sym ex) ∙ boxes-length (ix .mesh) count ∙ sym (accepted _ _ _ _ a .five) in
-        (boxed-as (ix .mesh) floor r (ix .boxes) x lx ∙ a,
-        ap (refusalOfGrid (grid .columns) (grid .rows)) ls ∙ b,
-        sym (ap (λ (o : Outcome). o .built .header) e),
-        sym ex,
-        record {
-          few = ap (refusalOfMembers (startOf on count (cellsIn grid))) lm ∙ c;
-          starts = sym es ∙ sym (starts-again on count (cellsIn grid) s) ∙ ap (startsOf on count (cellsIn grid)) es;
-          members = sym em ∙ sym (members-again on count (cellsIn grid) m) ∙ ap (membersTable on count (cellsIn grid)) em;
-        })
+        let lx : length (ix .boxes) ≡ length x = ap length (sym ex) ∙ boxes-length (ix .mesh) count ∙ sym (accepted _ _ _ _ a .five) in (
+          boxed-as (ix .mesh) floor r (ix .boxes) x lx ∙ a,
+          ap (refusalOfGrid (grid .columns) (grid .rows)) ls ∙ b,
+          sym (ap (λ (o : Outcome). o .built .header) e),
+          sym ex,
+          record {
+            few = ap (refusalOfMembers (startOf on count (cellsIn grid))) lm ∙ c;
+            starts = sym es ∙ sym (starts-again on count (cellsIn grid) s) ∙ ap (startsOf on count (cellsIn grid)) es;
+            members = sym em ∙ sym (members-again on count (cellsIn grid) m) ∙ ap (membersTable on count (cellsIn grid)) em;
+          },
+        )
 
     apart : buildOf (ix .mesh) floor r s m x ≡ own → Facts floor r
     unfolding buildOf gridded filledOf

@@ -1,19 +1,17 @@
 -- The tables of an index whose boxes are right: what their parts tell is what is asked of them.
 use mathlib.Core.Bool.{Bool, true, _&&_}
 use mathlib.Core.List.{List}
-use mathlib.Core.Path.{_≡_, refl, sym, ap, subst, _∙_}
+use mathlib.Core.Path.{_≡_, sym, ap, subst, _∙_}
 use Prim.Native.Nat.{ℕ, _+_, _*_, _≤_, _<_}
 use native.Mathlib.Nat.{mul-le-mul}
-use native.Mathlib.Omega.{arith}
 use lib.Dec.{leb}
 use lib.Ieee.{Float}
 use lib.ListN.{length, getD}
 use Rattle.plane.specs.declared.Bounds.{Bounds}
-use Rattle.spans.specs.Mesh.{boxOf}
 use Rattle.cells.specs.Cover.{Cover, covers, startOf, stretch}
 use Rattle.grid.specs.declared.Grid.{Grid}
 use Rattle.grid.specs.Grid.{cellsIn, cellsOf, coverOf, totalOf}
-use Rattle.grid.specs.Boxes.{boxAt, boxesOf}
+use Rattle.grid.specs.Boxes.{boxesOf}
 use Rattle.grid.specs.Build.{refusalOfMembers}
 use Rattle.grid.specs.Inside.{NearBox, Gridded}
 use Rattle.grid.proofs.Boxing.{boxes-length}
@@ -70,13 +68,14 @@ module _ (mesh : List Float) (n : ℕ) (g : Grid) (boxes : List Float) (z : Grid
 
       pub tables-tell : k ≡ 0 → cellsIn g + 1 ≤ length s → getD s 0 0 ≡ 0 → getD s (cellsIn g) 0 ≡ t → (b : Bool)
           → Tells b ((c : ℕ) → c < cellsIn g → cellHolds (boxCovers boxes g) n s m c ≡ true) → Tells b (SameTables on n (cellsIn g) s m)
-      tables-tell few room first last b told =
-          (λ y.
-          let each : (c : ℕ) → c < cellsIn g → Held on n (cellsIn g) s m c = λ c h. held on n (cellsIn g) s m c (sym (holds-as c) ∙ told .0 y c h) in
-          let end : getD s (cellsIn g) 0 ≡ startOf on n (cellsIn g) = last ∙ many in
-          record {
-            few = sym asked ∙ few;
-            starts = starts-are on n (cellsIn g) s m first each end room;
-            members = members-are on n (cellsIn g) s m first each end (members-fit _ _ (sym asked ∙ few) .1);
-          },
-          λ u. told .1 (λ c h. holds-as c ∙ holds on n (cellsIn g) s m (u .starts) (u .members) c h))
+      tables-tell few room first last b told = (
+        λ y.
+            let each : (c : ℕ) → c < cellsIn g → Held on n (cellsIn g) s m c = λ c h. held on n (cellsIn g) s m c (sym (holds-as c) ∙ told .0 y c h) in
+            let end : getD s (cellsIn g) 0 ≡ startOf on n (cellsIn g) = last ∙ many in
+            record {
+              few = sym asked ∙ few;
+              starts = starts-are on n (cellsIn g) s m first each end room;
+              members = members-are on n (cellsIn g) s m first each end (members-fit _ _ (sym asked ∙ few) .1);
+            },
+        λ u. told .1 (λ c h. holds-as c ∙ holds on n (cellsIn g) s m (u .starts) (u .members) c h),
+      )

@@ -57,7 +57,15 @@ fn is_index(mesh: &[f64], h: Header, starts: &[u32], members: &[u32], boxes: &[f
 }
 
 // Whether header and tables are what the builder leaves of n triangles under a grid.
-fn is_index_under(mesh: &[f64], n: usize, g: Grid, h: Header, starts: &[u32], members: &[u32], boxes: &[f64]) -> bool
+fn is_index_under(
+    mesh: &[f64],
+    n: usize,
+    g: Grid,
+    h: Header,
+    starts: &[u32],
+    members: &[u32],
+    boxes: &[f64],
+) -> bool
     requires { ⌜ (n * 9 ≤ length (now mesh)) × (length (now boxes) ≡ n * 5) × AllGood (now mesh) ⌝ }
     requires { ⌜ (refusalOfGrid (g .columns) (g .rows) (length (now starts)) ≡ 0 → Gridded (now mesh) n g) ⌝ }
     ensures { λ b. ⌜ Tells b (SameIndex n g (indexOf (now (mesh .entry)) h (now (starts .entry)) (now (members .entry)) (now (boxes .entry)))) ⌝ }
@@ -151,7 +159,14 @@ fn are_boxes(mesh: &[f64], n: usize, boxes: &[f64]) -> bool
 }
 
 // Whether starts and members are those of n triangles under a grid, whose boxes are at hand.
-fn are_tables(mesh: &[f64], n: usize, g: Grid, starts: &[u32], members: &[u32], boxes: &[f64]) -> bool
+fn are_tables(
+    mesh: &[f64],
+    n: usize,
+    g: Grid,
+    starts: &[u32],
+    members: &[u32],
+    boxes: &[f64],
+) -> bool
     requires { ⌜ Gridded (now mesh) n g ⌝ }
     requires { ⌜ (cellsIn g + 1 ≤ length (now starts)) × (now boxes ≡ boxesOf (now mesh) n) ⌝ }
     ensures { λ b. ⌜ Tells b (SameTables (coverOf (now (mesh .entry)) g) n (cellsIn g) (now (starts .entry)) (now (members .entry))) ⌝ }
@@ -173,7 +188,8 @@ fn are_tables(mesh: &[f64], n: usize, g: Grid, starts: &[u32], members: &[u32], 
 fn cells_hold(n: usize, g: Grid, starts: &[u32], members: &[u32], boxes: &[f64]) -> bool
     requires { ⌜ Boxed n g (now boxes) ⌝ }
     requires { ⌜ cellsIn g + 1 ≤ length (now starts) ⌝ }
-    ensures { λ b. ⌜ Tells b ((c : ℕ) → c < cellsIn g → cellHolds (boxCovers (now (boxes .entry)) g) n (now (starts .entry)) (now (members .entry)) c ≡ true) ⌝ }
+    ensures { λ b. ⌜ Tells b ((c : ℕ) → c < cellsIn g
+        → cellHolds (boxCovers (now (boxes .entry)) g) n (now (starts .entry)) (now (members .entry)) c ≡ true) ⌝ }
 {
     for c in 0..g.rows * g.columns {
         if !cell_holds(n, g, starts, members, boxes, c) {

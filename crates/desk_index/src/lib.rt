@@ -30,5 +30,11 @@ pub extern "C" fn mandrikelo_check_index(
     ensures { λ k. ⌜ CheckPromise (indexFrom (now (mesh .entry)) (now (measures .entry)) (now (sizes .entry))
         (now (starts .entry)) (now (members .entry)) (now (boxes .entry))) k ⌝ }
 {
-    checked::check_index(mesh, handed::header_from(measures, sizes), starts, members, boxes)
+    checked::check_index(
+        mesh,
+        handed::header_from(measures, sizes),
+        starts,
+        members,
+        boxes,
+    )
 }

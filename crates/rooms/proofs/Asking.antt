@@ -1,5 +1,5 @@
 -- What a build of the same mesh is told: refusal by refusal, with the rooms that were told and with less.
-use mathlib.Core.Bool.{true, false, cond}
+use mathlib.Core.Bool.{true}
 use mathlib.Core.List.{List}
 use mathlib.Core.Path.{_≡_, refl, sym, ap, subst, _∙_}
 use Prim.Native.Nat.{ℕ, _+_, _*_, _^_, _≤_, _<_}
@@ -14,9 +14,9 @@ use Rattle.grid.specs.declared.Grid.{Grid}
 use Rattle.grid.specs.Ladder.{demand}
 use Rattle.grid.specs.Grid.{trianglesIn, gridOf, cellsIn, coverOf, totalOf}
 use Rattle.grid.specs.Boxes.{isBoxed, boxesOf}
-use Rattle.grid.specs.Build.{refusalOfNumbers, refusalOfMesh, refusalOfGrid, refusalOfMembers, Outcome, outcome, refusedBy, acceptedWith, unless, filledOf, gridded, buildOf}
+use Rattle.grid.specs.Build.{refusalOfMesh, refusalOfGrid, refusalOfMembers, Outcome, refusedBy, acceptedWith, unless, filledOf, gridded, buildOf}
 use Rattle.grid.specs.Inside.{Gridded}
-use Rattle.grid.proofs.Ladder.{refused-not, demanded, refuse-here, refuse-next, demand-next}
+use Rattle.grid.proofs.Ladder.{refuse-here, refuse-next}
 use Rattle.grid.proofs.Boxing.{boxes-length}
 use Rattle.grid.proofs.Gridding.{counted}
 use Rattle.grid.proofs.Accepting.{Accepted, accepted, Passed, passed, members-fit}

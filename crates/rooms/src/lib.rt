@@ -1,6 +1,5 @@
 // What a build of a mesh needs: how many starts and how many members.
 ghost use mathlib.Core.Path.{_≡_};
-ghost use lib.ListN.{length};
 ghost use Rattle.grid.specs.Build.{refusalOfGrid};
 ghost use Rattle.grid.specs.Inside.{Gridded};
 ghost use Rattle.rooms.specs.Rooms.{refusalOf, noRooms, roomsIn, roomsOf, RoomsPromise};

@@ -1,5 +1,5 @@
 -- `checked::cells_hold` meets its contract. At cell c all cells before it hold what they should. What is left of the cells falls.
-use Prim.Native.Nat.{ℕ, _+_, _-_, _*_, _≤_, _<_}
+use Prim.Native.Nat.{ℕ, _-_, _*_, _≤_, _<_}
 use mathlib.Core.Bool.{true}
 use mathlib.Core.Path.{_≡_, refl, sym, _∙_}
 use native.Mathlib.Omega.{arith}
@@ -29,9 +29,12 @@ returns c =
 loop-again : tie.Need-loop-again Inv-loop μ-loop
 loop-again c =
     let s = c .before .before .before .before .before .before .before .before in
-    let l = c .before .before .before .loop in
-    (all-more (λ (k : ℕ). cellHolds (boxCovers (now (s .args .boxes)) (s .args .g)) (s .args .n) (now (s .args .starts)) (now (s .args .members)) k ≡ true) (l .c) (l .inv .0)
-    (sym (c .before .cell-holds .ensures) ∙ not-false _ (c .if1 .left)), l .inv .1, omega arith)
+    let l = c .before .before .before .loop in (
+      all-more (λ (k : ℕ). cellHolds (boxCovers (now (s .args .boxes)) (s .args .g)) (s .args .n) (now (s .args .starts)) (now (s .args .members)) k ≡ true) (l .c) (l .inv .0)
+          (sym (c .before .cell-holds .ensures) ∙ not-false _ (c .if1 .left)),
+      l .inv .1,
+      omega arith,
+    )
 
 returns-2 : tie.Need-returns-2 Inv-loop μ-loop
 returns-2 c = let l = c .before .loop in tells-true _ refl (λ k h. l .inv .0 k (omega arith))

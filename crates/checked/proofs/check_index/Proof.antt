@@ -1,5 +1,5 @@
 -- `checked::check_index` meets its contract.
-use mathlib.Core.Path.{_≡_, sym, _∙_}
+use mathlib.Core.Path.{sym, _∙_}
 use Rattle.checked.proofs.Rebuilding.{promise-told, promise-is, promise-not}
 use Rattle.checked.proofs.check_index.Statement.{statement}
 use Rattle.checked.proofs.check_index.Tie as tie

@@ -1,7 +1,6 @@
 -- `checked::covers` meets its contract.
 use Prim.Native.Nat.{_<_}
 use mathlib.Core.Path.{refl, sym, subst⁻¹, _∙_}
-use borrow.Author.Needs.{needs}
 use borrow.Author.Tests.{not-true, not-false}
 use Rattle.numbers.proofs.Branches.{and-on, and-off}
 use Rattle.plane.specs.declared.Bounds.{Bounds}

@@ -1,5 +1,5 @@
 -- `checked::is_header` meets its contract.
-use mathlib.Core.Path.{refl, ap, _∙_, sym}
+use mathlib.Core.Path.{refl, _∙_, sym}
 use borrow.Author.Needs.{needs}
 use borrow.Author.Tests.{not-true, not-false}
 use Rattle.checked.proofs.Comparing.{tells-false, fails, header-is, header-counts, header-places, header-sizes}

@@ -1,6 +1,5 @@
 -- `checked::is_index` meets its contract.
 use mathlib.Core.Path.{_≡_, subst, subst⁻¹}
-use Prim.Native.Nat.{_*_, _≤_}
 use native.Mathlib.Omega.{arith}
 use denote.Ref.{now}
 use lib.ListN.{length}
@@ -23,10 +22,11 @@ grid-of-requires c κs = let a = accepted _ _ _ _ (c .before .before .before .be
 is-index-under-requires : tie.Need-is-index-under-requires
 is-index-under-requires c κs =
     let s = c .before .before .before .before .before in
-    let a = accepted _ _ _ _ (s .pre) in
-    ((omega (arith, a .nine), a .five, a .numbers),
-    subst⁻¹ (λ (g : Grid). refusalOfGrid (g .columns) (g .rows) (length (now (s .args .starts))) ≡ 0 → Gridded (now (s .args .mesh)) (trianglesIn (now (s .args .mesh))) g) (c .grid-of .ensures)
-    (λ e. grid-gridded _ _ _ _ a _ (passed _ _ _ e)))
+    let a = accepted _ _ _ _ (s .pre) in (
+      (omega (arith, a .nine), a .five, a .numbers),
+      subst⁻¹ (λ (g : Grid). refusalOfGrid (g .columns) (g .rows) (length (now (s .args .starts))) ≡ 0 → Gridded (now (s .args .mesh)) (trianglesIn (now (s .args .mesh))) g) (c .grid-of .ensures)
+          (λ e. grid-gridded _ _ _ _ a _ (passed _ _ _ e)),
+    )
 
 returns : tie.Need-returns
 returns c =

@@ -1,5 +1,5 @@
 -- `checked::rises` meets its contract. What is left from number j on, rising from `low`, is as the whole. What is left falls.
-use Prim.Native.Nat.{ℕ, _+_, _-_, _≤_}
+use Prim.Native.Nat.{ℕ, _-_, _≤_}
 use mathlib.Core.Path.{_≡_, refl, _∙_}
 use native.Mathlib.Omega.{arith}
 use borrow.Author.Tests.{not-true, not-false}

@@ -10,9 +10,10 @@ use Rattle.checked.proofs.same.Tie as tie
 
 returns : tie.Need-returns
 returns c =
-    let a = c .before in
-    (λ e. by-bits (a .args .x) (a .args .y) (subst T (sym (a .good .0 .1)) tt) (subst T (sym (a .good .1 .0 .1)) tt) (eqb-true _ _ e),
-    λ p. eq-eqb _ _ (ap (toBits binary64) p))
+    let a = c .before in (
+      λ e. by-bits (a .args .x) (a .args .y) (subst T (sym (a .good .0 .1)) tt) (subst T (sym (a .good .1 .0 .1)) tt) (eqb-true _ _ e),
+      λ p. eq-eqb _ _ (ap (toBits binary64) p),
+    )
 
 returns-2 : tie.Need-returns-2
 returns-2 c = (λ e. both-nan _ _ (c .if2 .taken) e, λ p. ap (λ (v : _). ne v v) (sym p) ∙ c .if2 .taken)

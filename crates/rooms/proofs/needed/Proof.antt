@@ -1,7 +1,6 @@
 -- `rooms::needed` meets its contract.
 use mathlib.Core.Path.{_≡_, sym, subst⁻¹, _∙_}
 use native.Mathlib.Omega.{arith}
-use borrow.Author.Needs.{needs}
 use denote.Ref.{now}
 use Rattle.grid.specs.declared.Grid.{Grid}
 use Rattle.grid.specs.Grid.{trianglesIn}
