@@ -45,19 +45,14 @@ int main(void)
     block(15, 10, 25, 20, 10, 14);
     printf("version %u\n", (unsigned)mandrikelo_version());
 
-    /* The index: lend more members for as long as it is refused for them. */
-    size_t n = mesh_len / 9, k = (size_t)mandrikelo_root((double)n);
-    starts_len = (k + 1) * (k + 1) + 1;
+    /* The index, in tables of the size that it needs. */
+    size_t n = mesh_len / 9, rooms[2];
+    passed("rooms", mandrikelo_rooms(mesh, mesh_len, 0, 3, rooms));
+    starts_len = rooms[0], members_len = rooms[1];
     starts = calloc(starts_len, sizeof *starts);
+    members = calloc(members_len, sizeof *members);
     marks = calloc(n, sizeof *marks);
-    members_len = n;
-    do {
-        members_len *= 2;
-        members = realloc(members, members_len * sizeof *members);
-        refusal = mandrikelo_build(mesh, mesh_len, 0, 3, starts, starts_len, members, members_len, boxes, 5 * n, measures, sizes,
-            bad);
-    } while (refusal == MANDRIKELO_REFUSED_MEMBERS);
-    passed("build", refusal);
+    passed("build", mandrikelo_build(mesh, mesh_len, 0, 3, starts, starts_len, members, members_len, boxes, 5 * n, measures, sizes, bad));
     size_t cells = (size_t)sizes[1] * sizes[2];
     printf("%u triangles in %u by %u cells, %u members\n", (unsigned)sizes[0], (unsigned)sizes[1], (unsigned)sizes[2], (unsigned)starts[cells]);
 

@@ -38,21 +38,18 @@ struct Part {
             face({{{{a[0], a[1], low}}, {{b[0], b[1], low}}, b, a}});
         }
     }
-    // Lends more members for as long as the build is refused for them.
+    // The index, in tables of the size that it needs.
     void build(double floor, double r)
     {
-        const auto k = static_cast<std::size_t>(mandrikelo_root(static_cast<double>(n())));
-        starts.resize((k + 1) * (k + 1) + 1);
-        members.resize(n());
+        std::size_t rooms[2];
+        passed(mandrikelo_rooms(mesh.data(), mesh.size(), floor, r, rooms));
+        starts.resize(rooms[0]);
+        members.resize(rooms[1]);
         marks.resize(n());
         boxes.resize(5 * n());
-        std::uint32_t bad[2], refusal;
-        do {
-            members.resize(2 * members.size());
-            refusal = mandrikelo_build(mesh.data(), mesh.size(), floor, r, starts.data(), starts.size(), members.data(), members.size(),
-                boxes.data(), boxes.size(), measures, sizes, bad);
-        } while (refusal == MANDRIKELO_REFUSED_MEMBERS);
-        passed(refusal);
+        std::uint32_t bad[2];
+        passed(mandrikelo_build(mesh.data(), mesh.size(), floor, r, starts.data(), starts.size(), members.data(), members.size(),
+            boxes.data(), boxes.size(), measures, sizes, bad));
     }
     // Calls a question or the plan: what all of them are handed comes first.
     template <class Door, class... Rest> std::uint32_t ask(Door door, Rest... rest)

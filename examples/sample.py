@@ -5,10 +5,9 @@ It prints examples/sample.out, as examples/sample.c and examples/sample.cpp do. 
 import pathlib
 import sys
 from ctypes import CDLL, c_double, c_size_t, c_uint32
-from math import isqrt
 
 LIBRARY = sys.argv[1] if len(sys.argv) > 1 else pathlib.Path(__file__).resolve().parent.parent / "target/staticlib/libmandrikelo.so"
-REFUSED_MEMBERS, REFUSED_PARAMETER, REFUSED_RUNS = 6, 9, 13
+REFUSED_PARAMETER, REFUSED_RUNS = 9, 13
 doors = CDLL(str(LIBRARY))
 
 
@@ -56,14 +55,13 @@ def main():
     mesh = doubles(block(0, 0, 40, 30, 0, 10) + block(15, 10, 25, 20, 10, 14))
     print("version", call("version"))
 
-    # The index: lend more members for as long as it is refused for them.
-    n = len(mesh) // 9
-    starts, members, marks = words((isqrt(n) + 1) ** 2 + 1), words(2 * n), words(n)
+    # The index, in tables of the size that it needs.
+    n, rooms = len(mesh) // 9, (c_size_t * 2)()
+    passed("rooms", *table(mesh), 0.0, 3.0, rooms)
+    starts, members, marks = words(rooms[0]), words(rooms[1]), words(n)
     boxes = doubles(5 * n)
     measures, sizes, bad = doubles(6), words(3), words(2)
-    while (refusal := call("build", *table(mesh), 0.0, 3.0, *table(starts), *table(members), *table(boxes), measures, sizes, bad)) == REFUSED_MEMBERS:
-        members = words(2 * len(members))
-    assert refusal == 0
+    passed("build", *table(mesh), 0.0, 3.0, *table(starts), *table(members), *table(boxes), measures, sizes, bad)
     print(f"{sizes[0]} triangles in {sizes[1]} by {sizes[2]} cells, {starts[sizes[1] * sizes[2]]} members")
     index = (*table(mesh), measures, sizes, *table(starts), *table(members), *table(boxes), *table(marks))
 
