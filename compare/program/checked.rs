@@ -1,11 +1,13 @@
 //! Two questions about an index: how much room a build needs, beside the Rust's index and beside builds with just that room and with less; and whether an
 //! index is the one of its mesh, beside a rebuild, for one index after the other with one thing wrong, or nothing.
 
+use crate::build;
 use crate::case::Case;
+use crate::damage;
 use crate::doors::{self, Handed, Lent, Word};
 use crate::inputs;
 use crate::model;
-use crate::parts::{self, Part, Tally, Verdict};
+use crate::parts::{Part, Tally, Verdict};
 use crate::raised::mandrikelo_raise;
 use crate::rng::Rng;
 
@@ -27,7 +29,7 @@ pub const PART: Part = Part {
     share: 4_000,
 };
 
-/// Kinds of wrong beyond those of `parts::damaged`.
+/// Kinds of wrong beyond those of `damage::damaged`.
 const SWAPPED: u32 = 20;
 const STEPPED: u32 = 21;
 const TURNED: u32 = 22;
@@ -63,10 +65,10 @@ fn make(rng: &mut Rng, case: u64, damage: bool) -> Case {
         }
     }
     let mut wrong = vec![NOTHING, 0, 0, 0];
-    if let Some((_, h)) = parts::handed(&mesh, floor, r) {
+    if let Some((_, h)) = build::handed(&mesh, floor, r) {
         for _ in 0..if mesh.len() < 2_000 { 40 } else { 8 } {
             if rng.one_in(4) {
-                let entries = parts::damage_of(rng, &mesh, &h);
+                let entries = damage::damage_of(rng, &mesh, &h);
                 wrong.extend(&entries[..4]);
             } else {
                 let kind = SWAPPED + rng.below(10) as u32;
@@ -118,7 +120,7 @@ fn spoil(d: &[u32], mesh: &mut Vec<f64>, h: &mut Handed) {
             h.starts[a..=b].iter_mut().for_each(|s| *s = if d[2] % 2 == 0 { *s + 1 } else { s.wrapping_sub(1) });
         }
         NOTHING => {}
-        _ => parts::damaged(d, mesh, h, &mut vec![]),
+        _ => damage::damaged(d, mesh, h, &mut vec![]),
     }
 }
 
@@ -148,7 +150,7 @@ fn rebuilt(mesh: &[f64], h: &Handed) -> u32 {
     if h.boxes.len() != 5 * n {
         return 23;
     }
-    let Some((_, afresh)) = parts::handed(mesh, h.measures[3], h.measures[5]) else {
+    let Some((_, afresh)) = build::handed(mesh, h.measures[3], h.measures[5]) else {
         return 7;
     };
     let is = same(&h.measures, &afresh.measures)
@@ -171,7 +173,7 @@ pub fn check(mesh: &[f64], h: &Handed) -> u32 {
 fn compare(case: &Case, tally: &mut Tally) -> Verdict {
     let (mesh, floor, r) = (case.f("mesh"), case.f("place")[0], case.f("place")[1]);
     agree_rooms(mesh, floor, r, tally)?;
-    let Some((_, h)) = parts::handed(mesh, floor, r) else {
+    let Some((_, h)) = build::handed(mesh, floor, r) else {
         tally.unit();
         return Ok(());
     };
@@ -206,7 +208,7 @@ fn agree_rooms(mesh: &[f64], floor: f64, r: f64, tally: &mut Tally) -> Verdict {
     if refusal != 0 {
         return if rooms.holds(&[0, 0]) { Ok(()) } else { Err(format!("rooms: refused by {refusal}, and not zero")) };
     }
-    let Some((_, h)) = parts::handed(mesh, floor, r) else {
+    let Some((_, h)) = build::handed(mesh, floor, r) else {
         return Err("rooms: the Rust builds no index".into());
     };
     if !rooms.holds(&[h.starts.len() as u64, h.members.len() as u64]) {
