@@ -197,6 +197,11 @@ pub three-on : (c d e₁ e₂ e₃ : Contact) → offerOf c (offerOf (offerOf (o
 three-on c d e₁ e₂ e₃ =
     offers c (offerOf (offerOf d e₁) e₂) e₃ ∙ ap (λ k. offerOf k e₃) (offers c (offerOf d e₁) e₂ ∙ ap (λ k. offerOf k e₂) (offers c d e₁))
 
+pub three-from : (c₀ c₁ c₂ c₃ e₁ e₂ e₃ : Contact) → c₁ ≡ offerOf c₀ e₁ → c₂ ≡ offerOf c₁ e₂ → c₃ ≡ offerOf c₂ e₃ → c₃ ≡ offerOf c₀ (offerOf (offerOf (offerOf Nothing e₁) e₂) e₃)
+three-from c₀ c₁ c₂ c₃ e₁ e₂ e₃ q₁ q₂ q₃ =
+    let n : c₀ ≡ offerOf c₀ Nothing = unfold offerOf in refl in
+    three c₀ c₁ c₂ c₃ e₁ e₂ e₃ q₁ q₂ q₃ ∙ ap (λ k. offerOf (offerOf (offerOf k e₁) e₂) e₃) n ∙ sym (three-on c₀ Nothing e₁ e₂ e₃)
+
 -- ---- what a contact raises: f of its height and touch where it takes b's place, else a
 unfoldable pub raising : {A : Type 0} → Float → (Float → Touch → A) → A → Contact → A
 raising b f a Nothing = a

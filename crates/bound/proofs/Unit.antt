@@ -27,10 +27,10 @@ use Rattle.bound.proofs.Order.{O, le-trans, neg-finite, neg-neg, neg-up
 abbrev pub I : Float
 I = fin false 1 (pos 0)
 
-abbrev Φ : Float
+abbrev pub Φ : Float
 Φ = fin false 347922205179541 (negsuc 48)
 
-phi-is : phi ≡ Φ
+pub phi-is : phi ≡ Φ
 unfolding ofBits
 phi-is = refl
 
@@ -54,7 +54,7 @@ grow u l d N D e h =
     rw e (simp (add-mul, mul-add, mul-assoc, mul-comm, mul-left-comm, zero-mul, mul-zero) (omega (arith, simp (add-mul, mul-add, mul-assoc, mul-comm, mul-left-comm) at k)))
 
 module _ (w : Float) (g : T (fits binary64 w)) (p : T (finite w)) where
-  less-up : T (le O w) → T (le (w ⊗ Φ) w)
+  pub less-up : T (le O w) → T (le (w ⊗ Φ) w)
   less-up h =
       is-le binary64 _ _ _ _ _ _ _ _ (mul-pos (den-pos w) (den-pos Φ)) (den-pos w)
       (shrink (signed.upper w) (signed.lower w) (den w) 347922205179541 (2 ^ 49) (no-lower w p h) (omega arith))

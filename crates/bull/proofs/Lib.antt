@@ -2,3 +2,4 @@ pub mod Profile
 pub mod Capping
 pub mod Taking
 pub mod Flats
+pub mod Goings

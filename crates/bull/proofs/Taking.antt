@@ -10,7 +10,8 @@ use Rattle.golden.specs.Search.{goldenMax}
 use Rattle.touch.specs.declared.Edge.{Edge}
 use Rattle.touch.specs.declared.Stretch.{Stretch}
 use Rattle.touch.specs.declared.Stretch.the-variants.{Nowhere, Between}
-use Rattle.touch.specs.Touch.{offerOf, distanceAt, reachedOf}
+use Rattle.above.specs.Above.{offerOf}
+use Rattle.touch.specs.Touch.{distanceAt, reachedOf}
 use Rattle.bull.specs.declared.Bull.{Bull}
 use Rattle.bull.specs.declared.Way.{Way}
 use Rattle.bull.specs.Bull.{bullAt, bullStretch, tooLow, bullEdge}

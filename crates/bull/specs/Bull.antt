@@ -19,7 +19,8 @@ use Rattle.touch.specs.declared.Gradient.{Gradient}
 use Rattle.touch.specs.declared.Facing.{Facing}
 use Rattle.touch.specs.declared.Facing.the-variants.{Upright, Leaning}
 use Rattle.touch.specs.declared.Rest.{Rest}
-use Rattle.touch.specs.Touch.{offerOf, edgeAb, edgeBc, edgeCa, along, distanceAt, reachedOf, facingOf, restOf, facetHeight}
+use Rattle.above.specs.Above.{offerOf}
+use Rattle.touch.specs.Touch.{edgeAb, edgeBc, edgeCa, along, distanceAt, reachedOf, facingOf, restOf, facetHeight}
 use Rattle.bull.specs.declared.Bull.{Bull}
 
 -- The cutter's height over its tip at the distance d from its axis: flat to r - rc, then the corner's arc.

@@ -1,7 +1,8 @@
 // A bull-nose cutter: its profile, and its contact with one triangle.
 ghost use mathlib.Core.Path.{_≡_};
 ghost use Rattle.plane.specs.Contacts.{edge, takeOf};
-ghost use Rattle.touch.specs.Touch.{offerOf};
+ghost use Rattle.above.specs.Above.{offerOf, soFar};
+ghost use Rattle.touch.specs.Touch.{facingOf};
 ghost use Rattle.golden.specs.Search.{rises, goldenStart, goldenStep, goldenMax};
 ghost use Rattle.bull.specs.Inside.{wayOf, wayAt};
 ghost use Rattle.bull.specs.Inside.{FlatTo};
@@ -39,8 +40,26 @@ pub fn bull_contact(t: Triangle, k: Bull) -> Contact
 pub fn bull_contact_above(t: Triangle, k: Bull, floor: f64) -> Contact
     ensures { λ c. ⌜ c ≡ bullContactAbove t k floor ⌝ }
 {
-    let c = edges(k, floor, t, vertices(k, t));
-    touch::offer(c, facet(k, t, touch::facing_of(t)))
+    contact_on(t, k, floor, Contact::Nothing)
+}
+
+// The same on top of a best so far that is the floor: what cannot exceed it is left out.
+pub fn bull_contact_on(t: Triangle, k: Bull, floor: f64) -> Contact
+    ensures { λ r. ⌜ r ≡ offerOf (soFar floor) (bullContactAbove t k floor) ⌝ }
+{
+    let on = above::so_far(floor);
+    if floor != floor {
+        return above::offer(on, bull_contact_above(t, k, floor));
+    }
+    contact_on(t, k, floor, on)
+}
+
+// The candidates on top of the contact c.
+fn contact_on(t: Triangle, k: Bull, floor: f64, c: Contact) -> Contact
+    ensures { λ r. ⌜ r ≡ offerOf (bullEdges k floor t (offerOf c (bullVertices k t))) (bullFacet k t (facingOf t)) ⌝ }
+{
+    let e = edges(k, floor, t, vertices(k, t, c));
+    above::offer(e, facet(k, t, touch::facing_of(t)))
 }
 
 // The cutter's height over its tip at the distance d from its axis.
@@ -55,20 +74,20 @@ pub fn bull_profile(d: f64, r: f64, rc: f64) -> f64
     }
 }
 
-// The vertices' candidates.
-fn vertices(k: Bull, t: Triangle) -> Contact
-    ensures { λ c. ⌜ c ≡ bullVertices k t ⌝ }
+// The contact c with the vertices' candidates.
+fn vertices(k: Bull, t: Triangle, c: Contact) -> Contact
+    ensures { λ r. ⌜ r ≡ offerOf c (bullVertices k t) ⌝ }
 {
-    let a = touch::offer(Contact::Nothing, vertex(k, 0, t.ax, t.ay, t.az));
-    let b = touch::offer(a, vertex(k, 1, t.bx, t.by, t.bz));
-    touch::offer(b, vertex(k, 2, t.cx, t.cy, t.cz))
+    let a = vertex(k, 0, t.ax, t.ay, t.az, c);
+    let b = vertex(k, 1, t.bx, t.by, t.bz, a);
+    vertex(k, 2, t.cx, t.cy, t.cz, b)
 }
 
-// The candidate of vertex n.
-fn vertex(k: Bull, n: u32, x: f64, y: f64, z: f64) -> Contact
-    ensures { λ c. ⌜ c ≡ bullVertex k n x y z ⌝ }
+// The contact c with the candidate of vertex n.
+fn vertex(k: Bull, n: u32, x: f64, y: f64, z: f64, c: Contact) -> Contact
+    ensures { λ r. ⌜ r ≡ offerOf c (bullVertex k n x y z) ⌝ }
 {
-    over(k, n, z, numbers::hypot(x - k.x, y - k.y))
+    above::offer(c, over(k, n, z, numbers::hypot(x - k.x, y - k.y)))
 }
 
 // The candidate of corner n at the distance d from the axis.

@@ -227,7 +227,7 @@ fn raise_bull_on(t: Triangle, top: f64, i: u32, k: Bull, best: Best) -> Best
     if top <= best.height {
         return best;
     }
-    ask::raise_by(bull::bull_contact_above(t, k, best.height), i, best)
+    ask::raise_by(bull::bull_contact_on(t, k, best.height), i, best)
 }
 
 // The best so far with triangle i.

@@ -1,1 +1,3 @@
 pub mod Flats
+pub mod Capping
+pub mod Goings

@@ -19,7 +19,8 @@ use Rattle.touch.specs.declared.Gradient.{Gradient}
 use Rattle.touch.specs.declared.Facing.{Facing}
 use Rattle.touch.specs.declared.Facing.the-variants.{Upright, Leaning}
 use Rattle.touch.specs.declared.Rest.{Rest}
-use Rattle.touch.specs.Touch.{offerOf, edgeAb, edgeBc, edgeCa, along, distanceAt, length2, reachedOf, facingOf, restOf, facetHeight}
+use Rattle.above.specs.Above.{offerOf}
+use Rattle.touch.specs.Touch.{edgeAb, edgeBc, edgeCa, along, distanceAt, length2, reachedOf, facingOf, restOf, facetHeight}
 use Rattle.section.specs.declared.Section.{Section}
 use Rattle.section.specs.declared.Surface.{Surface}
 use Rattle.section.specs.declared.Surface.the-variants.{Beyond, Over}

@@ -1,7 +1,8 @@
 // A section of a tool: its profile, its validity, and its contact with one triangle.
 ghost use mathlib.Core.Path.{_≡_};
+ghost use Rattle.above.specs.Above.{offerOf};
 ghost use Rattle.golden.specs.Search.{rises, goldenStart, goldenStep, goldenMax, goldenMaxBound};
-ghost use Rattle.section.specs.Inside.{FlatTo};
+ghost use Rattle.section.specs.Inside.{FlatTo, Firm};
 ghost use Rattle.section.specs.Section.{within, positiveReach, validSection, profileOf, heightOver, sectionUnder, sectionVertex, sectionVertices, sectionAt, lipschitzOf, sectionStretch, sectionEdge, sectionEdges, reachOf, sectionSloped, sectionRest, sectionFacet, sectionContact};
 use golden::Golden;
 use plane::Contact;
@@ -12,6 +13,8 @@ use touch::Facing;
 use touch::Gradient;
 use touch::Rest;
 use touch::Stretch;
+
+mod low;
 
 // A part of a tool seen from below: level to r0 at z0 over the tip, then rising to r1.
 pub struct Section {
@@ -69,8 +72,16 @@ fn within_range(x: f64, high: f64) -> bool
 pub fn section_contact(t: Triangle, x: f64, y: f64, s: Section) -> Contact
     ensures { λ c. ⌜ c ≡ sectionContact t x y s ⌝ }
 {
-    let c = edges(s, x, y, t, vertices(s, x, y, t));
-    touch::offer(c, facet(s, x, y, t, touch::facing_of(t)))
+    section_contact_on(t, x, y, s, Contact::Nothing)
+}
+
+// The same on top of the contact c: what cannot exceed c is left out.
+pub fn section_contact_on(t: Triangle, x: f64, y: f64, s: Section, c: Contact) -> Contact
+    ensures { λ r. ⌜ r ≡ offerOf c (sectionContact t x y s) ⌝ }
+{
+    let low = low::low_of(s);
+    let e = edges(s, low, x, y, t, vertices(s, low, x, y, t, c));
+    above::offer(e, facet(s, x, y, t, touch::facing_of(t)))
 }
 
 // The height of the lower surface over the tip at the distance d from the axis.
@@ -112,36 +123,46 @@ fn under(n: u32, z: f64, h: Surface) -> Contact
     }
 }
 
-// The candidate of vertex n.
-fn vertex(s: Section, x: f64, y: f64, n: u32, vx: f64, vy: f64, vz: f64) -> Contact
-    ensures { λ c. ⌜ c ≡ sectionVertex s x y n vx vy vz ⌝ }
+// The contact c with the candidate of vertex n, which is not above vz - low.
+fn vertex(s: Section, low: f64, x: f64, y: f64, n: u32, vx: f64, vy: f64, vz: f64, c: Contact) -> Contact
+    requires { ⌜ Firm s low ⌝ }
+    ensures { λ r. ⌜ r ≡ offerOf c (sectionVertex s x y n vx vy vz) ⌝ }
 {
-    under(n, vz, profile(s, numbers::hypot(vx - x, vy - y)))
+    if vz - low <= above::limit(c) {
+        return c;
+    }
+    above::offer(c, under(n, vz, profile(s, numbers::hypot(vx - x, vy - y))))
 }
 
-// The vertices' candidates.
-fn vertices(s: Section, x: f64, y: f64, t: Triangle) -> Contact
-    ensures { λ c. ⌜ c ≡ sectionVertices s x y t ⌝ }
+// The contact c with the vertices' candidates.
+fn vertices(s: Section, low: f64, x: f64, y: f64, t: Triangle, c: Contact) -> Contact
+    requires { ⌜ Firm s low ⌝ }
+    ensures { λ r. ⌜ r ≡ offerOf c (sectionVertices s x y t) ⌝ }
 {
-    let a = touch::offer(Contact::Nothing, vertex(s, x, y, 0, t.ax, t.ay, t.az));
-    let b = touch::offer(a, vertex(s, x, y, 1, t.bx, t.by, t.bz));
-    touch::offer(b, vertex(s, x, y, 2, t.cx, t.cy, t.cz))
+    let a = vertex(s, low, x, y, 0, t.ax, t.ay, t.az, c);
+    let b = vertex(s, low, x, y, 1, t.bx, t.by, t.bz, a);
+    vertex(s, low, x, y, 2, t.cx, t.cy, t.cz, b)
 }
 
 // The contact c with the edges' candidates.
-fn edges(s: Section, x: f64, y: f64, t: Triangle, c: Contact) -> Contact
+fn edges(s: Section, low: f64, x: f64, y: f64, t: Triangle, c: Contact) -> Contact
+    requires { ⌜ Firm s low ⌝ }
     ensures { λ r. ⌜ r ≡ sectionEdges s x y t c ⌝ }
 {
-    let ab = touch::offer(c, edge(s, x, y, touch::edge_ab(t)));
-    let bc = touch::offer(ab, edge(s, x, y, touch::edge_bc(t)));
-    touch::offer(bc, edge(s, x, y, touch::edge_ca(t)))
+    let ab = edge(s, low, x, y, touch::edge_ab(t), c);
+    let bc = edge(s, low, x, y, touch::edge_bc(t), ab);
+    edge(s, low, x, y, touch::edge_ca(t), bc)
 }
 
-// The candidate of an edge.
-fn edge(s: Section, x: f64, y: f64, e: Edge) -> Contact
-    ensures { λ c. ⌜ c ≡ sectionEdge s x y e ⌝ }
+// The contact c with the candidate of an edge, unless that cannot exceed c.
+fn edge(s: Section, low: f64, x: f64, y: f64, e: Edge, c: Contact) -> Contact
+    requires { ⌜ Firm s low ⌝ }
+    ensures { λ r. ⌜ r ≡ offerOf c (sectionEdge s x y e) ⌝ }
 {
-    stretch_of(s, x, y, e, touch::reached(e, x, y, s.r1))
+    if low::skips(s, low, e, above::limit(c)) {
+        return c;
+    }
+    above::offer(c, stretch_of(s, x, y, e, touch::reached(e, x, y, s.r1)))
 }
 
 // The bound over an edge's stretch.

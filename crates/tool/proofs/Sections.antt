@@ -14,9 +14,11 @@ use Rattle.reach.specs.declared.Chord.{Chord}
 use Rattle.section.specs.declared.Section.{Section}
 use Rattle.section.specs.Section.{validSection, sectionContact}
 use Rattle.section_gap.specs.Blocks.{sectionBlocks}
+use Rattle.above.specs.Above.{offerOf, soFar}
 use Rattle.walk.specs.declared.Best.{Best}
 use Rattle.query.specs.Usable.{every}
 use Rattle.ask.specs.Ask.{raisedBy}
+use Rattle.ask.proofs.Beside.{raised-beside}
 use Rattle.tool.specs.Tool.{sectionOf, widestOf, lowestOf, raisedOver}
 
 module _ (table : List Float) (i : ℕ) (s : Section) (here : s ≡ sectionOf table i) where
@@ -28,9 +30,13 @@ module _ (table : List Float) (i : ℕ) (s : Section) (here : s ≡ sectionOf ta
   unfolding lowestOf
   lower v r e p = rw (add-one i, p, e, here)
 
-  pub higher : (t : Triangle) (n : ℕ) (x y : Float) (best v r : Best) (k : Contact) → v ≡ raisedOver t n x y table best i → k ≡ sectionContact t x y s → r ≡ raisedBy k n v → r ≡ raisedOver t n x y table best (i + 1)
+  -- its candidates go on from the best so far
+  pub higher : (t : Triangle) (n : ℕ) (x y : Float) (best v r : Best) (k o : Contact) → v ≡ raisedOver t n x y table best i → o ≡ soFar (v .height) → k ≡ offerOf o (sectionContact t x y s)
+      → r ≡ raisedBy k n v → r ≡ raisedOver t n x y table best (i + 1)
   unfolding raisedOver
-  higher t n x y best v r k e p q = rw (add-one i, q, p, e, here)
+  higher t n x y best v r k o e f p q =
+      rw (add-one i, ← here, ← e)
+      (q ∙ ap (λ d. raisedBy d n v) (p ∙ ap (λ d. offerOf d (sectionContact t x y s)) f) ∙ raised-beside (sectionContact t x y s) n v)
 
   pub valid-here : (b : Bool) → b ≡ validSection s → b ≡ validSection (sectionOf table i)
   valid-here b e = e ∙ ap validSection here

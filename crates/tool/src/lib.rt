@@ -91,8 +91,9 @@ pub fn raise_over(t: Triangle, k: u32, x: f64, y: f64, table: &[f64], best: Best
     let n = table.len() / 4;
     let mut high = best;
     for i in 0..n {
+        let on = above::so_far(high.height);
         high = ask::raise_by(
-            section::section_contact(t, x, y, section_at(table, i)),
+            section::section_contact_on(t, x, y, section_at(table, i), on),
             k,
             high,
         );

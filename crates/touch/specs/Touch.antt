@@ -11,7 +11,7 @@ use Rattle.plane.specs.declared.Contact.the-variants.{Nothing, Height}
 use Rattle.plane.specs.declared.Spot.{Spot}
 use Rattle.plane.specs.declared.Spot.the-variants.{Nowhere, At}
 use Rattle.plane.specs.declared.Weights.{Weights}
-use Rattle.plane.specs.Contacts.{face, takeOf}
+use Rattle.plane.specs.Contacts.{face}
 use Rattle.plane.specs.Distance.{baryOf, atLeast}
 use Rattle.touch.specs.declared.Edge.{Edge}
 use Rattle.touch.specs.declared.Stretch.{Stretch}
@@ -20,11 +20,6 @@ use Rattle.touch.specs.declared.Gradient.{Gradient}
 use Rattle.touch.specs.declared.Facing.{Facing}
 use Rattle.touch.specs.declared.Facing.the-variants.{Upright, Leaning}
 use Rattle.touch.specs.declared.Rest.{Rest}
-
--- A contact with one candidate more.
-unfoldable pub offerOf : Contact → Contact → Contact
-offerOf c Nothing = c
-offerOf c (Height z t) = takeOf c z t
 
 -- The three edges, each from one vertex to the next, with its number.
 abbrev pub edgeAb : Triangle → Edge

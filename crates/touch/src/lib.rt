@@ -1,6 +1,6 @@
 // What the contacts of round cutters share: a triangle's edges, the stretch of an edge under a cutter, the place on a facet where a cutter rests.
 ghost use mathlib.Core.Path.{_≡_};
-ghost use Rattle.touch.specs.Touch.{offerOf, edgeAb, edgeBc, edgeCa, along, distanceAt, length2, crossedOf, reachedOf, gradientOf, facingOf, restOf, weighedOf, spotHeight, facetHeight};
+ghost use Rattle.touch.specs.Touch.{edgeAb, edgeBc, edgeCa, along, distanceAt, length2, crossedOf, reachedOf, gradientOf, facingOf, restOf, weighedOf, spotHeight, facetHeight};
 use plane::Contact;
 use plane::Spot;
 use plane::Touch;
@@ -42,16 +42,6 @@ pub struct Rest {
     pub x: f64,
     pub y: f64,
     pub drop: f64,
-}
-
-// The contact c with one candidate more.
-pub fn offer(c: Contact, candidate: Contact) -> Contact
-    ensures { λ r. ⌜ r ≡ offerOf c candidate ⌝ }
-{
-    match candidate {
-        Contact::Nothing => c,
-        Contact::Height(z, t) => plane::take(c, z, t),
-    }
 }
 
 // The edge from the first vertex to the second.

@@ -1,6 +1,7 @@
 use mathlib.Core.Path.{_≡_, refl, ap, sym, _∙_}
 use Rattle.numbers.proofs.Branches.{taken, left}
 use Rattle.ask.specs.Ask.{raisedBy}
+use Rattle.ask.proofs.Beside.{raised-beside}
 use Rattle.contact.specs.Contact.{bullRaised}
 use Rattle.contact.proofs.raise_bull_on.Statement.{statement}
 use Rattle.contact.proofs.raise_bull_on.Tie as tie
@@ -12,7 +13,8 @@ returns c = taken _ _ _ _ (c .if1 .taken) refl
 returns-2 : tie.Need-returns-2
 unfolding bullRaised
 returns-2 c = left _ _ _ _ (c .before .before .if1 .left)
-    (c .raise-by .ensures ∙ ap (λ k. raisedBy k (c .before .before .before .before .args .i) (c .before .before .before .before .args .best)) (c .before .bull-contact-above .ensures))
+    (let a = c .before .before .before .before .args in
+    c .raise-by .ensures ∙ ap (λ k. raisedBy k (a .i) (a .best)) (c .before .bull-contact-on .ensures) ∙ raised-beside _ (a .i) (a .best))
 
 pub raise-bull-on-spec : {M : Type 1} → statement M
 raise-bull-on-spec = tie.close (tie.spec returns (λ c κs. tt) (λ c κs. tt) returns-2)

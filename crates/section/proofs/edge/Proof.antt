@@ -1,11 +1,20 @@
-use mathlib.Core.Path.{_≡_, refl, ap, sym, _∙_}
-use Rattle.section.specs.Section.{sectionEdge, sectionStretch}
+use mathlib.Core.Path.{_≡_, refl, ap, _∙_, subst}
+use Rattle.numbers.proofs.Branches.{bool-called}
+use Rattle.section.specs.Section.{sectionEdge}
+use Rattle.section.specs.Inside.{lowEdge}
+use Rattle.section.proofs.Capping.{edge-stays}
 use Rattle.section.proofs.edge.Statement.{statement}
 use Rattle.section.proofs.edge.Tie as tie
 
 returns : tie.Need-returns
+returns c =
+    let a = c .before .before .before in
+    edge-stays _ _ (a .pre) _ _ _ _
+    (bool-called _ _ _ (c .before .skips .ensures ∙ ap (lowEdge (a .args .s) (a .args .low) (a .args .e)) (c .before .before .limit .ensures)) (c .if1 .taken))
+
+returns-2 : tie.Need-returns-2
 unfolding sectionEdge
-returns c = c .stretch-of .ensures ∙ ap (sectionStretch _ _ _ _) (c .before .reached .ensures)
+returns-2 c = rw (c .offer .ensures, c .before .stretch-of .ensures, c .before .before .reached .ensures)
 
 pub edge-spec : {M : Type 1} → statement M
-edge-spec = tie.close (tie.spec (λ c κs. tt) (λ c κs. tt) returns)
+edge-spec = tie.close (tie.spec (λ c κs. tt) (λ c κs. tt) returns (λ c κs. tt) (λ c κs. tt) (λ c κs. tt) returns-2)

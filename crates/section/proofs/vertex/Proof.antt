@@ -1,11 +1,20 @@
-use mathlib.Core.Path.{_≡_, refl, ap, sym, _∙_}
-use Rattle.section.specs.Section.{sectionVertex, sectionUnder, profileOf}
+use mathlib.Core.Path.{_≡_, refl, ap, _∙_, subst}
+use mathlib.Core.Bool.{true}
+use lib.Ieee.{Float, le}
+use Rattle.numbers.specs.Reals.{_⊖_}
+use Rattle.section.specs.Section.{sectionVertex}
+use Rattle.section.proofs.Capping.{vertex-stays}
 use Rattle.section.proofs.vertex.Statement.{statement}
 use Rattle.section.proofs.vertex.Tie as tie
 
 returns : tie.Need-returns
+returns c =
+    let a = c .before .before in
+    vertex-stays _ _ (a .pre) _ _ _ _ _ _ _ (subst (λ (b : Float). le (a .args .vz ⊖ a .args .low) b ≡ true) (c .before .limit .ensures) (c .if1 .taken))
+
+returns-2 : tie.Need-returns-2
 unfolding sectionVertex
-returns c = c .under .ensures ∙ ap (sectionUnder _ _) (c .before .profile .ensures ∙ ap (profileOf _) (c .before .before .hypot .ensures))
+returns-2 c = rw (c .offer .ensures, c .before .under .ensures, c .before .before .profile .ensures, c .before .before .before .hypot .ensures)
 
 pub vertex-spec : {M : Type 1} → statement M
-vertex-spec = tie.close (tie.spec (λ c κs. tt) (λ c κs. tt) (λ c κs. tt) returns)
+vertex-spec = tie.close (tie.spec (λ c κs. tt) returns (λ c κs. tt) (λ c κs. tt) (λ c κs. tt) (λ c κs. tt) returns-2)
