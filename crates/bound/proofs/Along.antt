@@ -87,66 +87,68 @@ module _ (p q : Float) (P : T (finite p)) (Q : T (finite q)) where
   pub nearest-below : (s : Float) → Between p q s → countOf (nearerOf (minOf p q) (maxOf p q)) ≤ countOf s
   nearest-below s b = nearest-count (minOf p q) (maxOf p q) s low-fine high-fine (b .fine) (b .low) (b .high)
 
-module _ (a b t : Float) (u : Unit t) (P : T (finite (at a b O))) (Q : T (finite (at a b I))) where
+-- from lo to hi
+module _ (a b lo hi t : Float) (fl : T (finite lo)) (fh : T (finite hi)) (ft : T (finite t)) (l : T (le lo t)) (h : T (le t hi)) (P : T (finite (at a b lo))) (Q : T (finite (at a b hi))) where
   fa : T (finite a)
-  fa = add-parts a (O ⊗ (b ⊖ a)) P .0
+  fa = add-parts a (lo ⊗ (b ⊖ a)) P .0
 
   abbrev e : Float
   e = b ⊖ a
 
+  fL : T (finite (lo ⊗ e))
+  fL = add-parts a (lo ⊗ e) P .1
+
+  fH : T (finite (hi ⊗ e))
+  fH = add-parts a (hi ⊗ e) Q .1
+
   fe : T (finite e)
-  fe = mul-part O e tt (add-parts a (O ⊗ e) P .1)
-
-  fO : T (finite (O ⊗ e))
-  fO = add-parts a (O ⊗ e) P .1
-
-  fI : T (finite (I ⊗ e))
-  fI = add-parts a (I ⊗ e) Q .1
-
-  ft : T (finite t)
-  ft = unit-finite t u
+  fe = mul-part lo e fl fL
 
   -- both ways round
-  up-way : T (le O e) → T (le (at a b O) (at a b t)) × T (le (at a b t) (at a b I))
-  up-way h =
-      let z = no-lower e fe h in
-      let k = mul-up O t e tt ft fe (u .low) z in
-      let l = mul-up t I e ft tt fe (u .high) z in
-      let f = finite-between (O ⊗ e) (t ⊗ e) (I ⊗ e) fO fI k l in
-      (add-right binary64 (O ⊗ e) (t ⊗ e) a fO f fa k, add-right binary64 (t ⊗ e) (I ⊗ e) a f fI fa l)
+  up-way : T (le O e) → T (le (at a b lo) (at a b t)) × T (le (at a b t) (at a b hi))
+  up-way k =
+      let z = no-lower e fe k in
+      let p = mul-up lo t e fl ft fe l z in
+      let q = mul-up t hi e ft fh fe h z in
+      let f = finite-between (lo ⊗ e) (t ⊗ e) (hi ⊗ e) fL fH p q in
+      (add-right binary64 (lo ⊗ e) (t ⊗ e) a fL f fa p, add-right binary64 (t ⊗ e) (hi ⊗ e) a f fH fa q)
 
-  down-way : T (le e O) → T (le (at a b I) (at a b t)) × T (le (at a b t) (at a b O))
-  down-way h =
-      let z = no-upper e fe h in
-      let k = mul-down O t e tt ft fe (u .low) z in
-      let l = mul-down t I e ft tt fe (u .high) z in
-      let f = finite-between (I ⊗ e) (t ⊗ e) (O ⊗ e) fI fO l k in
-      (add-right binary64 (I ⊗ e) (t ⊗ e) a fI f fa l, add-right binary64 (t ⊗ e) (O ⊗ e) a f fO fa k)
+  down-way : T (le e O) → T (le (at a b hi) (at a b t)) × T (le (at a b t) (at a b lo))
+  down-way k =
+      let z = no-upper e fe k in
+      let p = mul-down lo t e fl ft fe l z in
+      let q = mul-down t hi e ft fh fe h z in
+      let f = finite-between (hi ⊗ e) (t ⊗ e) (lo ⊗ e) fH fL q p in
+      (add-right binary64 (hi ⊗ e) (t ⊗ e) a fH f fa q, add-right binary64 (t ⊗ e) (lo ⊗ e) a f fL fa p)
 
-  pub along-between : Between (at a b O) (at a b I) (at a b t)
-  along-between =
+  pub along-on : Between (at a b lo) (at a b hi) (at a b t)
+  along-on =
       by-test (lt e O)
-      (λ l. let w = down-way (lt-le e O l) in falling _ _ P Q _ (w .0) (w .1))
-      (λ l. let w = up-way (not-below e O fe tt l) in rising _ _ P Q _ (w .0) (w .1))
+      (λ k. let w = down-way (lt-le e O k) in falling _ _ P Q _ (w .0) (w .1))
+      (λ k. let w = up-way (not-below e O fe tt k) in rising _ _ P Q _ (w .0) (w .1))
 
 -- the same as seen from x
-module _ (a b x t : Float) (u : Unit t) (P : T (finite (at a b O ⊖ x))) (Q : T (finite (at a b I ⊖ x))) where
-  p₀ : T (finite (at a b O))
-  p₀ = sub-parts (at a b O) x P .0
+module _ (a b x lo hi t : Float) (fl : T (finite lo)) (fh : T (finite hi)) (ft : T (finite t)) (l : T (le lo t)) (h : T (le t hi)) (P : T (finite (at a b lo ⊖ x))) (Q : T (finite (at a b hi ⊖ x))) where
+  p₀ : T (finite (at a b lo))
+  p₀ = sub-parts (at a b lo) x P .0
 
-  q₀ : T (finite (at a b I))
-  q₀ = sub-parts (at a b I) x Q .0
+  q₀ : T (finite (at a b hi))
+  q₀ = sub-parts (at a b hi) x Q .0
 
   fx : T (finite x)
-  fx = sub-parts (at a b O) x P .1
+  fx = sub-parts (at a b lo) x P .1
 
-  pub side-between : Between (at a b O ⊖ x) (at a b I ⊖ x) (at a b t ⊖ x)
-  side-between =
-      let b₀ = along-between a b t u p₀ q₀ in
+  pub side-on : Between (at a b lo ⊖ x) (at a b hi ⊖ x) (at a b t ⊖ x)
+  side-on =
+      let b₀ = along-on a b lo hi t fl fh ft l h p₀ q₀ in
       by-test (lt (b ⊖ a) O)
-      (λ l.
-      let w = down-way a b t u p₀ q₀ (lt-le (b ⊖ a) O l) in
-      falling _ _ P Q _ (sub-mono binary64 (at a b I) (at a b t) x q₀ (b₀ .fine) fx (w .0)) (sub-mono binary64 (at a b t) (at a b O) x (b₀ .fine) p₀ fx (w .1)))
-      (λ l.
-      let w = up-way a b t u p₀ q₀ (not-below (b ⊖ a) O (fe a b t u p₀ q₀) tt l) in
-      rising _ _ P Q _ (sub-mono binary64 (at a b O) (at a b t) x p₀ (b₀ .fine) fx (w .0)) (sub-mono binary64 (at a b t) (at a b I) x (b₀ .fine) q₀ fx (w .1)))
+      (λ k.
+      let w = down-way a b lo hi t fl fh ft l h p₀ q₀ (lt-le (b ⊖ a) O k) in
+      falling _ _ P Q _ (sub-mono binary64 (at a b hi) (at a b t) x q₀ (b₀ .fine) fx (w .0)) (sub-mono binary64 (at a b t) (at a b lo) x (b₀ .fine) p₀ fx (w .1)))
+      (λ k.
+      let w = up-way a b lo hi t fl fh ft l h p₀ q₀ (not-below (b ⊖ a) O (fe a b lo hi t fl fh ft l h p₀ q₀) tt k) in
+      rising _ _ P Q _ (sub-mono binary64 (at a b lo) (at a b t) x p₀ (b₀ .fine) fx (w .0)) (sub-mono binary64 (at a b t) (at a b hi) x (b₀ .fine) q₀ fx (w .1)))
+
+-- from 0 to 1
+pub along-between : (a b t : Float) → Unit t → T (finite (at a b O)) → T (finite (at a b I)) → Between (at a b O) (at a b I) (at a b t)
+along-between a b t u P Q = along-on a b O I t tt tt (unit-finite t u) (u .low) (u .high) P Q

@@ -32,7 +32,7 @@ module _ (f : Float → Float) where
   narrows true g h = record { a = h .x1; b = h .b; x1 = h .x2; x2 = upper-stays (g .x1) (g .b) (h .x1) (h .b); f1 = h .f2; f2 = refl }
   narrows false g h = record { a = h .a; b = h .x2; x1 = lower-stays (g .a) (g .x2) (h .a) (h .x2); x2 = h .x1; f1 = refl; f2 = h .f1 }
 
-  pub goes : (left : Golden → Bool) (lo hi : Float) (n : ℕ) → Unit lo → Unit hi → Held f (goldenAt left f lo hi n)
+  goes : (left : Golden → Bool) (lo hi : Float) (n : ℕ) → Unit lo → Unit hi → Held f (goldenAt left f lo hi n)
   unfolding goldenAt goldenStep
   goes left lo hi zero u v = starts lo hi u v
   goes left lo hi (suc n) u v = narrows (left (goldenAt left f lo hi n)) (goldenAt left f lo hi n) (goes left lo hi n u v)

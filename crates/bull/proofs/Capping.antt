@@ -1,205 +1,149 @@
--- No place of an edge gives a tip above the cap, so an edge whose cap is at most the best so far does not change it.
-use mathlib.Core.Bool.{Bool, true, false, cond, _&&_, _||_}
-use mathlib.Core.Path.{_≡_, refl, ap, sym, _∙_}
-use Prim.Native.Nat.{ℕ, _≤_}
-use native.Mathlib.Omega.{arith}
+-- No place of an edge from lo to hi gives a tip above the cap. So an edge whose cap is at most the best so far does not change it, and where the cap is at most the larger of the two
+-- ends' values the search finds that.
+use mathlib.Core.Bool.{Bool, true, false, cond}
+use mathlib.Core.Path.{_≡_, refl, ap, sym, _∙_, subst}
+use Prim.Native.Nat.{ℕ}
 use lib.Dec.{T}
-use lib.IntN.{pos}
-use lib.Ieee.{Float, nan, inf, fin, binary64, lt, le, fits, isNan, ofBits}
+use lib.Ieee.{Float, nan, inf, fin, binary64, div, lt, le, eq, fits, isNan, ofBits}
 use lib.Ieee.Scale.{finite}
-use Rattle.numbers.specs.Reals.{_⊖_, f0, f1, minOf, maxOf}
-use Rattle.numbers.specs.Hypot.{countOf, hypotOf}
-use Rattle.numbers.proofs.Branches.{no, both-true}
-use Rattle.numbers.proofs.Distances.{hypot-counts}
+use Rattle.numbers.specs.Reals.{_⊖_, _⊘_, f0, minOf, maxOf}
+use Rattle.numbers.proofs.Branches.{by-test, no}
+use Rattle.plane.specs.declared.Touch.{Touch}
+use Rattle.plane.specs.declared.Contact.{Contact}
+use Rattle.plane.specs.Contacts.{takeOf}
+use Rattle.above.specs.Inside.{limitOf}
+use Rattle.above.proofs.Above.{stays-under}
 use Rattle.golden.specs.Search.{goldenMax}
 use Rattle.touch.specs.declared.Edge.{Edge}
 use Rattle.touch.specs.Touch.{along, distanceAt}
-use Rattle.spans.specs.Mesh.{isCoordinate, isRadius}
 use Rattle.spans.proofs.Ranges.{finite-between, sub-mono}
-use Rattle.spans.proofs.Sizes.{either-of}
 use Rattle.spans.proofs.Extremes.{min-either}
-use Rattle.bound.specs.Inside.{nearerOf}
 use Rattle.bound.proofs.Order.{O, le-trans, sub-turns}
-use Rattle.bound.proofs.Roots.{distance-low, min-second, min-up}
-use Rattle.bound.proofs.Unit.{I, Unit}
-use Rattle.bound.proofs.Held.{max-under, not-above, max-stays, le-not-nan}
-use Rattle.bound.proofs.Along.{Between, at, sub-parts, along-between, side-between, nearest-below, nearest-fine}
-use Rattle.bound.proofs.Small.{M, Small, small, small-finite, small-radius, small-between, small-distance}
+use Rattle.bound.proofs.Roots.{min-second, min-up}
+use Rattle.bound.proofs.Along.{at}
+use Rattle.bound.proofs.Small.{M}
+use Rattle.caps.specs.Inside.{highOn, leastOn, tameOn}
+use Rattle.caps.proofs.Bracket.{In}
+use Rattle.caps.proofs.Inside.{ends-largest, largest-in}
+use Rattle.caps.proofs.Places.{number-of}
+use Rattle.caps.proofs.Boxes.{Ordered, places, high-fine, least-low, under-high, distance-fine, farther, least-fine}
 use Rattle.bull.specs.declared.Bull.{Bull}
 use Rattle.bull.specs.Bull.{bullProfile, bullAt}
-use Rattle.bull.specs.Inside.{sideOf, leastOf, capOf, underOf, sideTame, sidesTame, tameOf, beatenOf, isUnit}
+use Rattle.bull.specs.Inside.{baseOf, overOf, capOf}
 use Rattle.bull.proofs.Profile.{profile-finite, profile-finite′, profile-up}
-
-picked : (a b : Bool) → cond a false b ≡ true → (a ≡ false) × (b ≡ true)
-picked true b e = absurd (no e)
-picked false b e = (refl, e)
-
-chosen : (a b : Bool) → cond a b false ≡ true → (a ≡ true) × (b ≡ true)
-chosen true b e = (refl, e)
-chosen false b e = absurd (no e)
-
--- ---- one coordinate
-module _ (a b x : Float) (e : sideTame a b x ≡ true) where
-  ends : Small (at a b O ⊖ x) × Small (at a b I ⊖ x)
-  unfolding sideTame ofBits
-  ends = let t = both-true _ _ e in (small _ (t .0), small _ (t .1))
-
-  module _ (t : Float) (u : Unit t) where
-    place : Between (at a b O ⊖ x) (at a b I ⊖ x) (at a b t ⊖ x)
-    place = side-between a b x t u (small-finite _ (ends .0)) (small-finite _ (ends .1))
-
-    there : Small (at a b t ⊖ x)
-    there = small-between _ _ _ (ends .0) (ends .1) place
-
-    fine-side : T (finite (sideOf a b x))
-    unfolding sideOf ofBits
-    fine-side = nearest-fine _ _ (small-finite _ (ends .0)) (small-finite _ (ends .1))
-
-    nearer-side : countOf (sideOf a b x) ≤ countOf (at a b t ⊖ x)
-    unfolding sideOf ofBits
-    nearer-side = nearest-below _ _ (small-finite _ (ends .0)) (small-finite _ (ends .1)) _ place
-
--- ---- the distance
-module _ (k : Bull) (e : Edge) (ex : sideTame (e .ax) (e .bx) (k .x) ≡ true) (ey : sideTame (e .ay) (e .by) (k .y) ≡ true) (t : Float) (u : Unit t) where
-  abbrev sx : Float
-  sx = at (e .ax) (e .bx) t ⊖ k .x
-
-  abbrev sy : Float
-  sy = at (e .ay) (e .by) t ⊖ k .y
-
-  abbrev nx : Float
-  nx = sideOf (e .ax) (e .bx) (k .x)
-
-  abbrev ny : Float
-  ny = sideOf (e .ay) (e .by) (k .y)
-
-  tx : Small sx
-  tx = there (e .ax) (e .bx) (k .x) ex t u
-
-  ty : Small sy
-  ty = there (e .ay) (e .by) (k .y) ey t u
-
-  fx : T (finite nx)
-  fx = fine-side (e .ax) (e .bx) (k .x) ex t u
-
-  fy : T (finite ny)
-  fy = fine-side (e .ay) (e .by) (k .y) ey t u
-
-  distance-fine : T (le O (distanceAt e (k .x) (k .y) t)) × T (finite (distanceAt e (k .x) (k .y) t))
-  unfolding distanceAt
-  distance-fine = small-distance sx sy tx ty
-
-  farther : T (le (leastOf k e) (distanceAt e (k .x) (k .y) t))
-  unfolding leastOf distanceAt
-  farther = hypot-counts nx ny sx sy fx fy (small-finite sx tx) (small-finite sy ty) (nearer-side (e .ax) (e .bx) (k .x) ex t u) (nearer-side (e .ay) (e .by) (k .y) ey t u)
-
-  least-fine : T (le O (leastOf k e)) × T (finite (leastOf k e))
-  unfolding leastOf
-  least-fine = let l = distance-low nx ny fx fy in (l, finite-between O _ _ tt (distance-fine .1) l (unfold leastOf in farther))
-
--- ---- the height
-module _ (k : Bull) (e : Edge) (b : Float) (beaten : beatenOf k e b ≡ true) where
-  parts : (tameOf k e ≡ true) × (underOf k e (minOf (leastOf k e) (k .r)) b ≡ true)
-  unfolding beatenOf
-  parts = chosen _ _ beaten
-
-  tame : (isRadius (k .r) ≡ true) × (isRadius (k .rc) ≡ true) × (sideTame (e .ax) (e .bx) (k .x) ≡ true) × (sideTame (e .ay) (e .by) (k .y) ≡ true) × (sideTame (e .az) (e .bz) f0 ≡ true)
-  unfolding tameOf sidesTame
-  tame =
-      let p = both-true _ _ (parts .0) in
-      let q = both-true _ _ (p .1) in
-      let r = both-true _ _ (q .1) in
-      let s = both-true _ _ (r .1) in
-      (p .0, q .0, r .0, s .0, s .1)
-
-  abbrev d : Float
-  d = minOf (leastOf k e) (k .r)
-
-  under : (le (d ⊖ (k .r ⊖ k .rc)) f0 ≡ false) × (le (capOf k e d) b ≡ true)
-  unfolding underOf
-  under = picked _ _ (parts .1)
-
-  cap-low : T (le (capOf k e d) b)
-  cap-low = rw (under .1) tt
-
-  module _ (t : Float) (u : Unit t) where
-    r₀ : T (le O (k .r)) × T (le (k .r) M)
-    r₀ = small-radius (k .r) (tame .0)
-
-    c₀ : T (le O (k .rc)) × T (le (k .rc) M)
-    c₀ = small-radius (k .rc) (tame .1)
-
-    fr : T (finite (k .r))
-    fr = finite-between O (k .r) M tt tt (r₀ .0) (r₀ .1)
-
-    abbrev far : Float
-    far = distanceAt e (k .x) (k .y) t
-
-    lf : T (le O (leastOf k e)) × T (finite (leastOf k e))
-    lf = least-fine k e (tame .2) (tame .3) t u
-
-    d-low : T (le O d)
-    d-low = min-either (λ v. T (le O v)) (leastOf k e) (k .r) (lf .0) (r₀ .0)
-
-    d-up : T (le d (minOf far (k .r)))
-    d-up = min-up (leastOf k e) far (k .r) (lf .1) fr (farther k e (tame .2) (tame .3) t u)
-
-    d-high : T (le (minOf far (k .r)) M)
-    d-high = le-trans _ (k .r) M (min-second far (k .r) (distance-fine k e (tame .2) (tame .3) t u .1) fr) (r₀ .1)
-
-    d-most : T (le d M)
-    d-most = le-trans d (minOf far (k .r)) M d-up d-high
-
-    abbrev z : Float
-    z = at (e .az) (e .bz) t
-
-    zs : Small (at (e .az) (e .bz) O ⊖ f0) × Small (at (e .az) (e .bz) I ⊖ f0)
-    zs = ends (e .az) (e .bz) f0 (tame .4)
-
-    z₀ : T (finite (at (e .az) (e .bz) O))
-    z₀ = sub-parts _ f0 (small-finite _ (zs .0)) .0
-
-    z₁ : T (finite (at (e .az) (e .bz) I))
-    z₁ = sub-parts _ f0 (small-finite _ (zs .1)) .0
-
-    zb : Between (at (e .az) (e .bz) O) (at (e .az) (e .bz) I) z
-    zb = along-between (e .az) (e .bz) t u z₀ z₁
-
-    abbrev P : Float
-    P = bullProfile d (k .r) (k .rc)
-
-    abbrev P′ : Float
-    P′ = bullProfile (minOf far (k .r)) (k .r) (k .rc)
-
-    fP : T (finite P)
-    fP = profile-finite (k .r) (k .rc) (r₀ .0) (r₀ .1) (c₀ .0) (c₀ .1) d d-low d-most (under .0)
-
-    fP′ : T (finite P′)
-    fP′ = profile-finite′ (k .r) (k .rc) (r₀ .0) (r₀ .1) (c₀ .0) (c₀ .1) d (minOf far (k .r)) d-low d-most (under .0) d-high d-up
-
-    below-cap : T (le (bullAt k e t) (capOf k e d))
-    unfolding bullAt capOf ofBits
-    below-cap =
-        le-trans (z ⊖ P′) (z ⊖ P) (maxOf (at (e .az) (e .bz) O) (at (e .az) (e .bz) I) ⊖ P)
-        (sub-turns binary64 P P′ z fP fP′ (zb .fine) (profile-up (k .r) (k .rc) (r₀ .0) (r₀ .1) (c₀ .0) (c₀ .1) d (minOf far (k .r)) d-low d-most (under .0) d-high d-up))
-        (sub-mono binary64 z _ P (zb .fine) (either-of (λ v. T (finite v)) _ _ z₀ z₁) fP (zb .high))
-
-    at-most : lt b (bullAt k e t) ≡ false
-    at-most = not-above _ b (le-trans _ (capOf k e d) b below-cap cap-low)
-
-  pub beaten-stays : (lo hi : Float) (n : ℕ) → Unit lo → Unit hi → maxOf b (goldenMax (bullAt k e) lo hi n) ≡ b
-  beaten-stays lo hi n u v = max-stays b _ (le-not-nan _ b cap-low) (max-under (bullAt k e) b lo hi n u v at-most)
+use Rattle.bull.proofs.Bases.{Based, based, base-fine, base-low}
 
 holds : (b : Bool) → b ≡ true → T b
 holds b e = rw e tt
 
-unit : (t : Float) → T (fits binary64 t) → isUnit t ≡ true → Unit t
-unfolding isUnit ofBits
-unit t g e = let p = both-true (le f0 t) (le t f1) e in record { low = holds (le f0 t) (p .0); high = holds (le t f1) (p .1); fit = g }
+is-true : (b : Bool) → T b → b ≡ true
+is-true true t = refl
+is-true false t = absurd t
 
-pub skipped : (k : Bull) (e : Edge) (b lo hi : Float) (n : ℕ) → T (fits binary64 lo) → T (fits binary64 hi) → (isUnit lo && (isUnit hi && beatenOf k e b)) ≡ true
-    → b ≡ maxOf b (goldenMax (bullAt k e) lo hi n)
-skipped k e b lo hi n f g s =
-    let p = both-true _ _ s in
-    let q = both-true _ _ (p .1) in
-    sym (beaten-stays k e b (q .1) lo hi n (unit lo f (p .0)) (unit hi g (q .0)))
+none-le : (b : Float) → le (f0 ⊘ f0) b ≡ true → ⊥
+unfolding ofBits div le lt eq
+none-le b h = no h
+
+-- ---- below the cap
+module _ (k : Bull) (v : Based k) (e : Edge) (lo hi : Float) (f : T (fits binary64 lo)) (g : T (fits binary64 hi)) (tame : tameOn e (k .x) (k .y) lo hi ≡ true) (t : Float) (i : In lo hi t) where
+  abbrev high : Float
+  high = highOn e lo hi
+
+  fh : T (finite high)
+  fh = high-fine e (k .x) (k .y) lo hi f g tame
+
+  abbrev z : Float
+  z = at (e .az) (e .bz) t
+
+  zh : T (le z high) × T (finite z)
+  zh = under-high e (k .x) (k .y) lo hi f g tame t i
+
+  fr : T (finite (k .r))
+  fr = finite-between O (k .r) M tt tt (v .r₀) (v .r₁)
+
+  abbrev far : Float
+  far = distanceAt e (k .x) (k .y) t
+
+  df : T (le O far) × T (finite far)
+  df = distance-fine e (k .x) (k .y) lo hi f g tame t i
+
+  abbrev d′ : Float
+  d′ = minOf far (k .r)
+
+  d′-low : T (le O d′)
+  d′-low = min-either (λ w. T (le O w)) far (k .r) (df .0) (v .r₀)
+
+  d′-high : T (le d′ M)
+  d′-high = le-trans d′ (k .r) M (min-second far (k .r) (df .1) fr) (v .r₁)
+
+  abbrev P′ : Float
+  P′ = bullProfile d′ (k .r) (k .rc)
+
+  flat-cap : T (le (z ⊖ P′) (high ⊖ baseOf k))
+  flat-cap =
+      let l = base-low k v d′ d′-low d′-high in
+      le-trans (z ⊖ P′) (z ⊖ baseOf k) (high ⊖ baseOf k) (sub-turns binary64 (baseOf k) P′ z (base-fine k v) (l .1) (zh .1) (l .0))
+      (sub-mono binary64 z high (baseOf k) (zh .1) fh (base-fine k v) (zh .0))
+
+  abbrev d : Float
+  d = minOf (leastOn e (k .x) (k .y) lo hi) (k .r)
+
+  d-low : T (le O d)
+  d-low = min-either (λ w. T (le O w)) _ (k .r) (least-low e (k .x) (k .y) lo hi f g tame) (v .r₀)
+
+  d-up : T (le d d′)
+  d-up = min-up _ far (k .r) (least-fine e (k .x) (k .y) lo hi f g tame t i) fr (farther e (k .x) (k .y) lo hi f g tame t i)
+
+  d-most : T (le d M)
+  d-most = le-trans d d′ M d-up d′-high
+
+  slope-cap : le (d ⊖ (k .r ⊖ k .rc)) f0 ≡ false → T (le (z ⊖ P′) (high ⊖ bullProfile d (k .r) (k .rc)))
+  slope-cap n =
+      let P = bullProfile d (k .r) (k .rc) in
+      let fP = profile-finite (k .r) (k .rc) (v .r₀) (v .r₁) (v .c₀) (v .c₁) d d-low d-most n in
+      let fP′ = profile-finite′ (k .r) (k .rc) (v .r₀) (v .r₁) (v .c₀) (v .c₁) d d′ d-low d-most n d′-high d-up in
+      le-trans (z ⊖ P′) (z ⊖ P) (high ⊖ P)
+      (sub-turns binary64 P P′ z fP fP′ (zh .1) (profile-up (k .r) (k .rc) (v .r₀) (v .r₁) (v .c₀) (v .c₁) d d′ d-low d-most n d′-high d-up))
+      (sub-mono binary64 z high P (zh .1) fh fP (zh .0))
+
+  under-cap : T (le (bullAt k e t) (overOf k (baseOf k) high d))
+  unfolding bullAt overOf
+  under-cap = by-test (le (d ⊖ (k .r ⊖ k .rc)) f0) (λ n. rw n flat-cap) (λ n. rw n (slope-cap n))
+
+-- ---- a cap that something is above
+module _ (k : Bull) (e : Edge) (lo hi b : Float) (f : T (fits binary64 lo)) (g : T (fits binary64 hi)) (h : le (capOf k (baseOf k) e lo hi) b ≡ true) where
+  there : (le (baseOf k) f0 ≡ true) × (tameOn e (k .x) (k .y) lo hi ≡ true)
+  unfolding capOf
+  there =
+      by-test (le (baseOf k) f0)
+      (λ n. by-test (tameOn e (k .x) (k .y) lo hi) (λ m. (n, m)) (λ m. absurd (none-le b (rw (n, m) at h))))
+      (λ n. absurd (none-le b (rw n at h)))
+
+  cap-is : capOf k (baseOf k) e lo hi ≡ overOf k (baseOf k) (highOn e lo hi) (minOf (leastOn e (k .x) (k .y) lo hi) (k .r))
+  unfolding capOf
+  cap-is = rw (there .0, there .1)
+
+  is-based : Based k
+  is-based = based k (number-of _ _ (holds _ (there .0)) .0)
+
+  ordered : Ordered lo hi
+  ordered = places e (k .x) (k .y) lo hi f g (there .1)
+
+  capped : (t : Float) → In lo hi t → T (le (bullAt k e t) (capOf k (baseOf k) e lo hi))
+  capped t i = rw cap-is (under-cap k is-based e lo hi f g (there .1) t i)
+
+  pub largest-under : (n : ℕ) → le (goldenMax (bullAt k e) lo hi n) b ≡ true
+  largest-under n =
+      is-true _ (le-trans _ (capOf k (baseOf k) e lo hi) b (largest-in (bullAt k e) lo hi (ordered .low) (ordered .high) (ordered .order) (λ w. T (le w (capOf k (baseOf k) e lo hi))) n capped) (holds _ h))
+
+-- ---- as the code has it
+module _ (k : Bull) (e : Edge) (cap lo hi : Float) (f : T (fits binary64 lo)) (g : T (fits binary64 hi)) (q : cap ≡ capOf k (baseOf k) e lo hi) where
+  pub cap-stays : (c : Contact) (t : Touch) (n : ℕ) → le cap (limitOf c) ≡ true → c ≡ takeOf c (goldenMax (bullAt k e) lo hi n) t
+  cap-stays c t n h = sym (stays-under c _ t (largest-under k e lo hi (limitOf c) f g (subst (λ (w : Float). le w (limitOf c) ≡ true) q h) n))
+
+  pub cap-ends : (n : ℕ) → le cap (maxOf (bullAt k e lo) (bullAt k e hi)) ≡ true → maxOf (bullAt k e lo) (bullAt k e hi) ≡ goldenMax (bullAt k e) lo hi n
+  cap-ends n h =
+      let b = maxOf (bullAt k e lo) (bullAt k e hi) in
+      let l = subst (λ (w : Float). le w b ≡ true) q h in
+      let o = ordered k e lo hi b f g l in
+      sym (ends-largest (bullAt k e) lo hi (o .low) (o .high) (o .order) n (capOf k (baseOf k) e lo hi) (capped k e lo hi b f g l) (holds _ l))

@@ -3,3 +3,4 @@ pub mod Capping
 pub mod Taking
 pub mod Flats
 pub mod Goings
+pub mod Bases

@@ -16,6 +16,7 @@ use Rattle.spans.proofs.Sizes.{by-test, either-of, le-self, not-below, max-leas
 use Rattle.bound.proofs.Order.{O, le-trans, sub-turns, square-up}
 use Rattle.bound.proofs.Roots.{root-finite, root-le, max-up}
 use Rattle.bound.proofs.Small.{M, small-up, small-finite, small-sub, small-range, square-nonneg, square-small, square-limit, square-finite, root-limit}
+use Rattle.caps.proofs.Bracket.{less-none}
 use Rattle.bull.specs.Bull.{bullProfile}
 
 first-false : (a b : Bool) → (a || b) ≡ false → a ≡ false
@@ -130,6 +131,21 @@ module _ (r rc : Float) (r₀ : T (le O r)) (r₁ : T (le r M)) (c₀ : T (le O 
 
     pub profile-finite : T (finite (bullProfile d r rc))
     profile-finite = rw profile-is (small-sub rc (rootOf h) (small-up rc c₀ c₁) (small-up (rootOf h) (root-finite h h-fits fh h-low .0) root-small))
+
+    -- it is nowhere below what it is where s is 0
+    g-most : T (le g cc₂)
+    g-most =
+        le-trans g (cc₂ ⊖ O) cc₂ (sub-turns binary64 O (s ⊗ s) cc₂ tt fss fcc (square-nonneg s fs)) (less-none cc₂ (mul-fits binary64 rc rc) fcc)
+
+    h-most : T (le h cc₂)
+    unfolding ofBits
+    h-most = either-of (λ v. T (le v cc₂)) g O g-most (square-nonneg rc fc)
+
+    pub profile-low : T (le (rc ⊖ rootOf (rc ⊗ rc)) (bullProfile d r rc))
+    profile-low =
+        rw profile-is
+        (sub-turns binary64 (rootOf h) (rootOf cc₂) rc fr (root-finite cc₂ (mul-fits binary64 rc rc) fcc (square-nonneg rc fc) .1) fc
+        (root-le h cc₂ h-fits (mul-fits binary64 rc rc) fh fcc h-low h-most))
 
     -- ---- a larger distance
     module _ (d′ : Float) (d₁′ : T (le d′ M)) (k : T (le d d′)) where

@@ -42,3 +42,7 @@ edge-on k floor c e s r h p q = left _ _ _ _ h (rw p at q)
 pub along-way : (k : Bull) (e : Edge) (w : Way) (lo hi r : Float) → w ≡ wayOf e → r ≡ goldenMax (wayAt k w) lo hi 40 → r ≡ goldenMax (bullAt k e) lo hi 40
 unfolding wayAt bullAt distanceAt
 along-way k e w lo hi r p q = rw p at q
+
+pub way-at : (k : Bull) (e : Edge) (w : Way) (t r : Float) → w ≡ wayOf e → r ≡ wayAt k w t → r ≡ bullAt k e t
+unfolding wayAt bullAt distanceAt
+way-at k e w t r p q = rw p at q

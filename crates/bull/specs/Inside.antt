@@ -1,60 +1,37 @@
 -- What the functions inside the contact promise each other; no answer is defined here.
-use mathlib.Core.Bool.{Bool, true, false, cond, _&&_}
+use mathlib.Core.Bool.{Bool, true, cond, _&&_}
 use lib.Ieee.{Float, le}
-use Rattle.numbers.specs.Reals.{_⊕_, _⊖_, _⊗_, f0, f1, maxOf, minOf}
+use Rattle.numbers.specs.Reals.{_⊕_, _⊖_, _⊗_, _⊘_, f0, minOf}
+use Rattle.numbers.specs.Root.{rootOf}
 use Rattle.touch.specs.declared.Edge.{Edge}
-use Rattle.touch.specs.Touch.{along}
 use Rattle.spans.specs.Mesh.{isCoordinate, isRadius}
-use Rattle.bound.specs.Inside.{nearerOf}
+use Rattle.caps.specs.Inside.{highOn, leastOn, tameOn}
 use Rattle.bull.specs.declared.Bull.{Bull}
 use Rattle.bull.specs.Bull.{bullProfile}
 use Rattle.numbers.specs.Hypot.{hypotOf}
 use Rattle.bull.specs.declared.Way.{Way}
 use mathlib.Core.Path.{_≡_}
 
--- What the tip's height over an edge does not exceed. The cutter's height over its tip grows with the distance from the axis, so the edge's higher end less the
--- profile at the edge's least distance is such a height. The least distance is taken from the edge's box in plan. No answer is defined by this: an edge that cannot
--- exceed the best so far is left out, and the contact is what `Bull` says.
+-- A number that the cutter's height over its tip is nowhere below. It is 0 to the bit; that the root of rc * rc is not above rc is not shown, but asked. A NaN for numbers
+-- that are no radius.
+unfoldable pub baseOf : Bull → Float
+baseOf k = cond (isRadius (k .r) && isRadius (k .rc)) (minOf (k .rc ⊖ rootOf (k .rc ⊗ k .rc)) f0) (f0 ⊘ f0)
 
--- How near to x the coordinates from a to b come, with its sign.
-unfoldable pub sideOf : Float → Float → Float → Float
-sideOf a b x =
-    let p = along a b f0 ⊖ x in
-    let q = along a b f1 ⊖ x in
-    nearerOf (minOf p q) (maxOf p q)
+-- Whether the tip over a vertex at the height z is at most b, wherever the vertex lies: dx and dy are its place seen from the axis.
+unfoldable pub lowVertex : Float → Float → Float → Float → Float → Bool
+lowVertex base z dx dy b = le (z ⊖ base) b && (isCoordinate dx && isCoordinate dy)
 
--- The least distance of an edge's box from the axis.
-unfoldable pub leastOf : Bull → Edge → Float
-leastOf k e =
-    let u = sideOf (e .ax) (e .bx) (k .x) in
-    let v = sideOf (e .ay) (e .by) (k .y) in
-    hypotOf u v
+-- What the tip's height over an edge from lo to hi is at most. The cutter's height over its tip grows with the distance from the axis, so it is the edge's higher end less the
+-- profile at the edge's least distance, which is taken from its box in plan. Within the flat part it is the higher end less the least profile of all.
+unfoldable pub overOf : Bull → Float → Float → Float → Float
+overOf k base z d = cond (le (d ⊖ (k .r ⊖ k .rc)) f0) (z ⊖ base) (z ⊖ bullProfile d (k .r) (k .rc))
 
--- The higher end less the profile at the distance d.
-unfoldable pub capOf : Bull → Edge → Float → Float
-capOf k e d = maxOf (along (e .az) (e .bz) f0) (along (e .az) (e .bz) f1) ⊖ bullProfile d (k .r) (k .rc)
-
--- Whether that is at most b, for a d beyond the flat part.
-unfoldable pub underOf : Bull → Edge → Float → Float → Bool
-underOf k e d b = cond (le (d ⊖ (k .r ⊖ k .rc)) f0) false (le (capOf k e d) b)
-
--- Numbers of ordinary size, for which nothing overflows.
-unfoldable pub sideTame : Float → Float → Float → Bool
-sideTame a b x = isCoordinate (along a b f0 ⊖ x) && isCoordinate (along a b f1 ⊖ x)
-
-unfoldable pub sidesTame : Bull → Edge → Bool
-sidesTame k e = sideTame (e .ax) (e .bx) (k .x) && (sideTame (e .ay) (e .by) (k .y) && sideTame (e .az) (e .bz) f0)
-
-unfoldable pub tameOf : Bull → Edge → Bool
-tameOf k e = isRadius (k .r) && (isRadius (k .rc) && sidesTame k e)
-
--- Whether no place of an edge gives a tip above b.
-unfoldable pub beatenOf : Bull → Edge → Float → Bool
-beatenOf k e b = cond (tameOf k e) (underOf k e (minOf (leastOf k e) (k .r)) b) false
-
--- From 0 to 1.
-unfoldable pub isUnit : Float → Bool
-isUnit t = le f0 t && le t f1
+-- A NaN, by which nothing is left out, where the numbers are not of ordinary size.
+unfoldable pub capOf : Bull → Float → Edge → Float → Float → Float
+capOf k base e lo hi =
+    cond (le base f0)
+    (cond (tameOn e (k .x) (k .y) lo hi) (overOf k base (highOn e lo hi) (minOf (leastOn e (k .x) (k .y) lo hi) (k .r))) (f0 ⊘ f0))
+    (f0 ⊘ f0)
 
 -- An edge as the search reads it: where it starts and how far its end lies from there. The tip's height over it is `bullAt`, with the differences taken once.
 

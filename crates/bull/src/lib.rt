@@ -4,7 +4,7 @@ ghost use Rattle.plane.specs.Contacts.{edge, takeOf};
 ghost use Rattle.above.specs.Above.{offerOf, soFar};
 ghost use Rattle.touch.specs.Touch.{facingOf};
 ghost use Rattle.golden.specs.Search.{rises, goldenStart, goldenStep, goldenMax};
-ghost use Rattle.bull.specs.Inside.{wayOf, wayAt};
+ghost use Rattle.bull.specs.Inside.{wayOf, wayAt, baseOf, capOf};
 ghost use Rattle.bull.specs.Inside.{FlatTo};
 ghost use Rattle.bull.specs.Bull.{bullProfile, bullOver, bullVertex, bullVertices, bullAt, bullStretch, bestSoFar, tooLow, bullEdge, bullEdges, bullSloped, bullRest, bullFacet, bullContactAbove, bullContact};
 use golden::Golden;
@@ -58,7 +58,8 @@ pub fn bull_contact_on(t: Triangle, k: Bull, floor: f64) -> Contact
 fn contact_on(t: Triangle, k: Bull, floor: f64, c: Contact) -> Contact
     ensures { λ r. ⌜ r ≡ offerOf (bullEdges k floor t (offerOf c (bullVertices k t))) (bullFacet k t (facingOf t)) ⌝ }
 {
-    let e = edges(k, floor, t, vertices(k, t, c));
+    let base = cap::base_of(k);
+    let e = edges(k, base, floor, t, vertices(k, base, t, c));
     above::offer(e, facet(k, t, touch::facing_of(t)))
 }
 
@@ -75,19 +76,26 @@ pub fn bull_profile(d: f64, r: f64, rc: f64) -> f64
 }
 
 // The contact c with the vertices' candidates.
-fn vertices(k: Bull, t: Triangle, c: Contact) -> Contact
+fn vertices(k: Bull, base: f64, t: Triangle, c: Contact) -> Contact
+    requires { ⌜ base ≡ baseOf k ⌝ }
     ensures { λ r. ⌜ r ≡ offerOf c (bullVertices k t) ⌝ }
 {
-    let a = vertex(k, 0, t.ax, t.ay, t.az, c);
-    let b = vertex(k, 1, t.bx, t.by, t.bz, a);
-    vertex(k, 2, t.cx, t.cy, t.cz, b)
+    let a = vertex(k, base, 0, t.ax, t.ay, t.az, c);
+    let b = vertex(k, base, 1, t.bx, t.by, t.bz, a);
+    vertex(k, base, 2, t.cx, t.cy, t.cz, b)
 }
 
-// The contact c with the candidate of vertex n.
-fn vertex(k: Bull, n: u32, x: f64, y: f64, z: f64, c: Contact) -> Contact
+// The contact c with the candidate of vertex n, unless that cannot exceed c.
+fn vertex(k: Bull, base: f64, n: u32, x: f64, y: f64, z: f64, c: Contact) -> Contact
+    requires { ⌜ base ≡ baseOf k ⌝ }
     ensures { λ r. ⌜ r ≡ offerOf c (bullVertex k n x y z) ⌝ }
 {
-    above::offer(c, over(k, n, z, numbers::hypot(x - k.x, y - k.y)))
+    let dx = x - k.x;
+    let dy = y - k.y;
+    if cap::low_vertex(base, z, dx, dy, above::limit(c)) {
+        return c;
+    }
+    above::offer(c, over(k, n, z, numbers::hypot(dx, dy)))
 }
 
 // The candidate of corner n at the distance d from the axis.
@@ -108,22 +116,24 @@ fn over(k: Bull, n: u32, z: f64, d: f64) -> Contact
 }
 
 // The contact c with the edges' candidates.
-fn edges(k: Bull, floor: f64, t: Triangle, c: Contact) -> Contact
+fn edges(k: Bull, base: f64, floor: f64, t: Triangle, c: Contact) -> Contact
+    requires { ⌜ base ≡ baseOf k ⌝ }
     ensures { λ r. ⌜ r ≡ bullEdges k floor t c ⌝ }
 {
-    let ab = edge(k, floor, c, touch::edge_ab(t));
-    let bc = edge(k, floor, ab, touch::edge_bc(t));
-    edge(k, floor, bc, touch::edge_ca(t))
+    let ab = edge(k, base, floor, c, touch::edge_ab(t));
+    let bc = edge(k, base, floor, ab, touch::edge_bc(t));
+    edge(k, base, floor, bc, touch::edge_ca(t))
 }
 
 // The contact c with the candidate of an edge, unless the edge cannot exceed the floor or c.
-fn edge(k: Bull, floor: f64, c: Contact, e: Edge) -> Contact
+fn edge(k: Bull, base: f64, floor: f64, c: Contact, e: Edge) -> Contact
+    requires { ⌜ base ≡ baseOf k ⌝ }
     ensures { λ r. ⌜ r ≡ bullEdge k floor c e ⌝ }
 {
     if too_low(floor, c, e) {
         return c;
     }
-    stretch_on(k, e, c, touch::reached(e, k.x, k.y, k.r))
+    stretch_on(k, base, e, c, touch::reached(e, k.x, k.y, k.r))
 }
 
 // Whether an edge's higher end is not above the floor and the best so far.
@@ -144,43 +154,37 @@ fn best_so_far(c: Contact) -> f64
 }
 
 // The contact c with the best of an edge's stretch.
-fn stretch_on(k: Bull, e: Edge, c: Contact, s: Stretch) -> Contact
+fn stretch_on(k: Bull, base: f64, e: Edge, c: Contact, s: Stretch) -> Contact
+    requires { ⌜ base ≡ baseOf k ⌝ }
     ensures { λ r. ⌜ r ≡ offerOf c (bullStretch k e s) ⌝ }
 {
     match s {
         Stretch::Nowhere => c,
-        Stretch::Between(t0, t1) => raised(k, e, c, t0, t1),
+        Stretch::Between(t0, t1) => raised(k, base, e, c, t0, t1),
     }
 }
 
-// The contact c with the largest tip's height between two places of an edge.
-fn raised(k: Bull, e: Edge, c: Contact, lo: f64, hi: f64) -> Contact
+// The contact c with the largest tip's height between two places of an edge. Where no place there exceeds c there is no search.
+fn raised(k: Bull, base: f64, e: Edge, c: Contact, lo: f64, hi: f64) -> Contact
+    requires { ⌜ base ≡ baseOf k ⌝ }
     ensures { λ r. ⌜ r ≡ takeOf c (goldenMax (bullAt k e) lo hi 40) (edge (e .which)) ⌝ }
 {
-    match c {
-        Contact::Nothing => searched(k, e, Contact::Nothing, lo, hi),
-        Contact::Height(b, t) => higher(k, e, b, t, lo, hi),
+    let cap = cap::cap_on(k, base, e, lo, hi);
+    if cap <= above::limit(c) {
+        return c;
     }
-}
-
-// The height b, touching t, with that height. Where no place of the edge exceeds b there is no search, as it could neither raise b nor change what is touched.
-fn higher(k: Bull, e: Edge, b: f64, t: Touch, lo: f64, hi: f64) -> Contact
-    ensures { λ r. ⌜ r ≡ takeOf (Contact.Height b t) (goldenMax (bullAt k e) lo hi 40) (edge (e .which)) ⌝ }
-{
-    if cap::skips(k, e, b, lo, hi) {
-        return Contact::Height(b, t);
-    }
-    searched(k, e, Contact::Height(b, t), lo, hi)
+    searched(k, e, cap, c, lo, hi)
 }
 
 // The contact c with the height that the search finds.
-fn searched(k: Bull, e: Edge, c: Contact, lo: f64, hi: f64) -> Contact
+fn searched(k: Bull, e: Edge, cap: f64, c: Contact, lo: f64, hi: f64) -> Contact
+    requires { ⌜ cap ≡ capOf k (baseOf k) e lo hi ⌝ }
     ensures { λ r. ⌜ r ≡ takeOf c (goldenMax (bullAt k e) lo hi 40) (edge (e .which)) ⌝ }
 {
     let which = e.which;
     plane::take(
         c,
-        search(k, e, lo, hi),
+        search(k, e, cap, lo, hi),
         Touch {
             kind: plane::EDGE,
             which,
@@ -188,11 +192,19 @@ fn searched(k: Bull, e: Edge, c: Contact, lo: f64, hi: f64) -> Contact
     )
 }
 
-// The largest tip's height between two places of an edge.
-fn search(k: Bull, e: Edge, lo: f64, hi: f64) -> f64
+// The largest tip's height between two places of an edge: the larger end's, where no place exceeds it.
+fn search(k: Bull, e: Edge, cap: f64, lo: f64, hi: f64) -> f64
+    requires { ⌜ cap ≡ capOf k (baseOf k) e lo hi ⌝ }
     ensures { λ r. ⌜ r ≡ goldenMax (bullAt k e) lo hi 40 ⌝ }
 {
-    search_on(k, way_of(e), flat_of(k), lo, hi)
+    let w = way_of(e);
+    let flat = flat_of(k);
+    let low = at(k, w, flat, lo);
+    let m = numbers::max(low, at(k, w, flat, hi));
+    if cap <= m {
+        return m;
+    }
+    search_on(k, w, flat, lo, hi)
 }
 
 // A number up to which the square of a distance shows that the distance is within the flat part, so that no distance is taken there.

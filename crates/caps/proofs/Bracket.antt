@@ -4,13 +4,13 @@ use mathlib.Core.Bool.{Bool, true, false}
 use mathlib.Core.Logic.{_⊎_, inl, inr, ⊎-elim}
 use mathlib.Core.Path.{_≡_, refl, ap, sym, _∙_, subst}
 use Prim.Native.Nat.{ℕ, zero, suc, _+_, _-_, _*_, _^_, _≤_, _<_}
-use native.Mathlib.Nat.{mul-sub, mul-right-comm, mul-mul-mul-comm, zero-mul, mul-zero, mul-one, one-mul, mul-comm, mul-assoc, mul-left-comm, add-mul, mul-add, mul-pos, mul-le-mul-right, mul-le-mul-left, le-trans, le-of-eq, le-of-mul-le-mul-right, le-of-mul-le-mul-left, lt-of-lt-of-le}
+use native.Mathlib.Nat.{add-comm, mul-sub, mul-right-comm, mul-mul-mul-comm, zero-mul, mul-zero, mul-one, one-mul, mul-comm, mul-assoc, mul-left-comm, add-mul, mul-add, mul-pos, mul-le-mul-right, mul-le-mul-left, le-trans, le-of-eq, le-of-mul-le-mul-right, le-of-mul-le-mul-left, lt-of-lt-of-le}
 use native.Mathlib.Omega.{arith}
-use borrow.Author.Tests.{ltb-true, ltb-false, le-leb}
-use lib.Dec.{T, ltb, lit<, lit≤}
+use borrow.Author.Tests.{ltb-true, ltb-false, leb-true, leb-false, le-leb, lt-leb}
+use lib.Dec.{T, ltb, leb, lit≤}
 use lib.IntN.{pos, negsuc}
 use lib.Pow.{pow-pos, pow-mono}
-use lib.Ieee.{Float, nan, inf, fin, binary64, up, down, round, add, sub, mul, neg, le, fits}
+use lib.Ieee.{Float, nan, inf, fin, binary64, up, down, round, add, sub, mul, neg, lt, le, fits}
 use lib.Ieee.Exact.{HasValue, round-exact}
 use lib.Ieee.Fits.{add-fits, sub-fits, mul-fits}
 use lib.Ieee.Scale.{finite, grid, round-same, round-val, round-under}
@@ -20,12 +20,13 @@ use Rattle.numbers.specs.Hypot.{countOf}
 use Rattle.numbers.specs.Golden.{phi}
 use Rattle.numbers.proofs.Distances.{count-is}
 use Rattle.golden.specs.Search as golden
-use Rattle.spans.proofs.Signed.{upper, lower, le→parts, Is, rounded, is-le, is-sub}
+use Rattle.spans.proofs.Signed.{upper, lower, le→parts, Is, rounded, is-le, is-sub, round-neg}
 use Rattle.spans.proofs.Ranges.{finite-between, sub-mono, zero-is}
-use Rattle.spans.proofs.Sizes.{by-test}
-use Rattle.bound.proofs.Order.{O, le-trans as le-on, neg-finite, neg-upper, sub-turns, add-is, add-right, is-mul, mul-up, mul-swap, no-lower, own}
+use Rattle.spans.proofs.Sizes.{by-test, not-below}
+use Rattle.bound.proofs.Order.{O, le-trans as le-on, neg-finite, neg-neg, neg-upper, sub-turns, add-is, add-right, is-mul, mul-up, mul-swap, no-lower, own}
 use Rattle.bound.proofs.Rounded.{not-more}
-use Rattle.bound.proofs.Unit.{I, Φ, phi-is, Unit, unit-finite, less-up}
+use Rattle.bound.proofs.Unit.{I, Φ, phi-is, Unit, unit-finite, less-up, upper-stays, lower-stays}
+use Rattle.bound.proofs.Roots.{lt-le}
 
 -- ---- a number from 0 on is so many smallest f64s
 record Counted (x : Float) (n : ℕ) : Type 0 where
@@ -122,6 +123,13 @@ up-rounded : (p n c : ℕ) → n ≤ p → rounded binary64 p n c ≡ round bina
 unfolding rounded
 up-rounded p n c h = rw (le-leb n p h)
 
+down-rounded : (p n c : ℕ) → p < n → rounded binary64 p n c ≡ round binary64 true (n - p) c
+unfolding rounded
+down-rounded p n c h = rw (lt-leb n p h)
+
+round-zero : (c : ℕ) → 0 < c → round binary64 false 0 c ≡ fin false 0 (pos 0)
+round-zero c C = round-same binary64 false 0 c 0 1 C (omega arith) (omega (arith, zero-mul c)) ∙ unfold round in refl
+
 no-count : Counted (fin true 0 (pos 0)) 0
 no-count = record { fine = tt; none = refl; value = refl }
 
@@ -142,7 +150,7 @@ plus-none a g p =
     (omega (arith, mul-one (den a), mul-one (upper a), mul-one (lower a), zero-mul (den a)))
     (own a g p) (is-sub binary64 a (fin true 0 (pos 0)) p tt))
 
-less-none : (a : Float) → T (fits binary64 a) → T (finite a) → T (le (a ⊖ O) a)
+pub less-none : (a : Float) → T (fits binary64 a) → T (finite a) → T (le (a ⊖ O) a)
 less-none a g p =
     is-le binary64 _ _ _ _ _ _ _ _ (mul-pos (den-pos a) (den-pos O)) (den-pos a)
     (omega (arith, mul-one (den a), mul-one (upper a), mul-one (lower a), zero-mul (den a)))
@@ -329,3 +337,130 @@ module _ (a b : Float) (u : Unit a) (v : Unit b) (o : T (le a b)) where
   lower-within =
       rw part
       (left-over a y b (ca .0) (y-count .0) (cb .0) (ca .1) (y-count .1) (cb .1) fits-in (u .fit), le-on (b ⊖ y) (b ⊖ O) b (sub-turns binary64 O y b tt fy fb y-low) (less-none b (v .fit) fb))
+
+-- ---- either way round: where a is above b, the points are those of b..a, the upper the lower
+negated : (v : Float) (p n c : ℕ) → 0 < c → Is binary64 v p n c → Is binary64 (neg v) n p c
+negated v p n c C (inl e) =
+    by-test (leb n p)
+    (λ h.
+    let l = leb-true n p h in
+    let r : neg v ≡ round binary64 true (p - n) c = ap neg (e ∙ up-rounded p n c l) ∙ sym (round-neg binary64 (p - n) c) in
+    by-test (leb p n)
+    (λ k.
+    let m : p ≡ n = omega (arith, leb-true p n k) in
+    inr (ap neg (e ∙ up-rounded p n c l ∙ ap (λ (z : ℕ). round binary64 false z c) (none p n m) ∙ round-zero c C) ∙ unfold neg in refl, sym m))
+    (λ k. inl (r ∙ sym (down-rounded n p c (leb-false p n k)))))
+    (λ h.
+    let l = leb-false n p h in
+    inl (ap neg (e ∙ down-rounded p n c l ∙ round-neg binary64 (n - p) c) ∙ neg-neg _ ∙ sym (up-rounded n p c (omega arith))))
+  where
+    none : (p n : ℕ) → p ≡ n → p - n ≡ 0
+    none p n e = omega arith
+negated v p n c C (inr (e, m)) =
+    inl (ap neg e ∙ unfold neg in refl ∙ sym (up-rounded n p c (omega arith) ∙ ap (λ (z : ℕ). round binary64 false z c) (none p n m) ∙ round-zero c C))
+  where
+    none : (p n : ℕ) → p ≡ n → n - p ≡ 0
+    none p n e = omega arith
+
+-- two that stand for the same fraction are each at most the other
+same-fraction : (v w : Float) (p n c : ℕ) → 0 < c → Is binary64 v p n c → Is binary64 w p n c → T (le v w) × T (le w v)
+same-fraction v w p n c C i j = (is-le binary64 v w p n c p n c C C (omega arith) i j, is-le binary64 w v p n c p n c C C (omega arith) j i)
+
+module _ (a b : Float) (u : Unit a) (v : Unit b) (o : T (le b a)) where
+  ra : T (finite a)
+  ra = unit-finite a u
+
+  rb : T (finite b)
+  rb = unit-finite b v
+
+  abbrev d : Float
+  d = a ⊖ b
+
+  abbrev m : Float
+  m = b ⊖ a
+
+  fd : T (finite d)
+  fd = fw b a v u o
+
+  ways : T (le m (neg d)) × T (le (neg d) m)
+  ways =
+      same-fraction m (neg d) _ _ _ (mul-pos (den-pos b) (den-pos a)) (is-sub binary64 b a rb ra)
+      (subst (λ (c : ℕ). Is binary64 (neg d) (upper b * den a + lower a * den b) (upper a * den b + lower b * den a) c) (mul-comm (den a) (den b)) (negated d _ _ _ (mul-pos (den-pos a) (den-pos b)) (is-sub binary64 a b ra rb)))
+
+  fn : T (finite (neg d))
+  fn = neg-finite d fd
+
+  fm : T (finite m)
+  fm = finite-between (neg d) m (neg d) fn fn (ways .1) (ways .0)
+
+  parts : T (le (neg d ⊗ Φ) (neg (d ⊗ Φ))) × T (le (neg (d ⊗ Φ)) (neg d ⊗ Φ))
+  parts =
+      let n = neg-upper d in
+      same-fraction (neg d ⊗ Φ) (neg (d ⊗ Φ)) _ _ _ (mul-pos (den-pos d) (den-pos Φ))
+      (rw (n .0, n .1, n .2) at (is-mul (neg d) Φ fn tt))
+      (subst (λ (p : ℕ). Is binary64 (neg (d ⊗ Φ)) p (lower d * lower Φ + upper d * upper Φ) (den d * den Φ)) (add-comm (upper d * lower Φ) (lower d * upper Φ))
+      (subst (λ (k : ℕ). Is binary64 (neg (d ⊗ Φ)) (upper d * lower Φ + lower d * upper Φ) k (den d * den Φ)) (add-comm (upper d * upper Φ) (lower d * lower Φ))
+      (negated (d ⊗ Φ) _ _ _ (mul-pos (den-pos d) (den-pos Φ)) (is-mul d Φ fd tt))))
+
+  fp : T (finite (neg (d ⊗ Φ)))
+  fp = neg-finite (d ⊗ Φ) (fy b a v u o)
+
+  fq : T (finite (neg d ⊗ Φ))
+  fq = finite-between (neg (d ⊗ Φ)) (neg d ⊗ Φ) (neg (d ⊗ Φ)) fp fp (parts .1) (parts .0)
+
+  up₁ : T (le (m ⊗ Φ) (neg (d ⊗ Φ)))
+  up₁ = le-on (m ⊗ Φ) (neg d ⊗ Φ) (neg (d ⊗ Φ)) (mul-up m (neg d) Φ fm fn tt (ways .0) refl) (parts .0)
+
+  up₂ : T (le (neg (d ⊗ Φ)) (m ⊗ Φ))
+  up₂ = le-on (neg (d ⊗ Φ)) (neg d ⊗ Φ) (m ⊗ Φ) (parts .1) (mul-up (neg d) m Φ fn fm tt (ways .1) refl)
+
+  ft : T (finite (m ⊗ Φ))
+  ft = finite-between (neg (d ⊗ Φ)) (m ⊗ Φ) (neg (d ⊗ Φ)) fp fp up₂ up₁
+
+  turned : phi ⊗ m ≡ m ⊗ Φ
+  turned = ap (λ (z : Float). z ⊗ m) phi-is ∙ mul-swap Φ m tt fm
+
+  straight : phi ⊗ d ≡ d ⊗ Φ
+  straight = ap (λ (z : Float). z ⊗ d) phi-is ∙ mul-swap Φ d tt fd
+
+  -- a + m * phi is a - d * phi, and b - m * phi is b + d * phi
+  upper-turned : T (le b (golden.upper a b)) × T (le (golden.upper a b) a)
+  upper-turned =
+      let k = rw straight at (lower-within b a v u o) in
+      let e : a ⊖ d ⊗ Φ ≡ a ⊕ neg (d ⊗ Φ) = unfold sub in refl in
+      rw turned (
+        le-on b (a ⊖ d ⊗ Φ) (a ⊕ m ⊗ Φ) (k .0) (rw e (add-right binary64 (neg (d ⊗ Φ)) (m ⊗ Φ) a fp ft ra up₂)),
+        le-on (a ⊕ m ⊗ Φ) (a ⊖ d ⊗ Φ) a (rw e (add-right binary64 (m ⊗ Φ) (neg (d ⊗ Φ)) a ft fp ra up₁)) (k .1),
+      )
+
+  lower-turned : T (le b (golden.lower a b)) × T (le (golden.lower a b) a)
+  lower-turned =
+      let k = rw straight at (upper-within b a v u o) in
+      let e : b ⊖ neg (d ⊗ Φ) ≡ b ⊕ d ⊗ Φ = add-is binary64 b (d ⊗ Φ) in
+      rw turned (
+        le-on b (b ⊕ d ⊗ Φ) (b ⊖ m ⊗ Φ) (k .0) (rw (sym e) (sub-turns binary64 (m ⊗ Φ) (neg (d ⊗ Φ)) b ft fp rb up₁)),
+        le-on (b ⊖ m ⊗ Φ) (b ⊕ d ⊗ Φ) a (rw (sym e) (sub-turns binary64 (neg (d ⊗ Φ)) (m ⊗ Φ) b fp ft rb up₂)) (k .1),
+      )
+
+-- ---- so they never leave lo..hi
+pub record In (lo hi t : Float) : Type 0 where
+  pub unit : Unit t
+  pub low : T (le lo t)
+  pub high : T (le t hi)
+
+module _ (lo hi a b : Float) (u : In lo hi a) (v : In lo hi b) where
+  either-way : (t : Float) → (T (le a b) → T (le a t) × T (le t b)) → (T (le b a) → T (le b t) × T (le t a)) → T (le lo t) × T (le t hi)
+  either-way t f g =
+      by-test (lt b a)
+      (λ l. let k = g (lt-le b a l) in (le-on lo b t (v .low) (k .0), le-on t a hi (k .1) (u .high)))
+      (λ l. let k = f (not-below b a (unit-finite b (v .unit)) (unit-finite a (u .unit)) l) in (le-on lo a t (u .low) (k .0), le-on t b hi (k .1) (v .high)))
+
+  pub upper-in : In lo hi (golden.upper a b)
+  upper-in =
+      let k = either-way (golden.upper a b) (λ o. upper-within a b (u .unit) (v .unit) o) (λ o. upper-turned a b (u .unit) (v .unit) o) in
+      record { unit = upper-stays a b (u .unit) (v .unit); low = k .0; high = k .1 }
+
+  pub lower-in : In lo hi (golden.lower a b)
+  lower-in =
+      let k = either-way (golden.lower a b) (λ o. lower-within a b (u .unit) (v .unit) o) (λ o. lower-turned a b (u .unit) (v .unit) o) in
+      record { unit = lower-stays a b (u .unit) (v .unit); low = k .0; high = k .1 }

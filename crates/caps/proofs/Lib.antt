@@ -1,3 +1,6 @@
 pub mod Places
 pub mod Most
 pub mod Bracket
+pub mod Inside
+pub mod Boxes
+pub mod Drops

@@ -1,7 +1,6 @@
--- Where a search looks: a stretch of an edge lies from 0 to 1, and a search's largest value is the objective's at a place there. So what holds of every such value holds of it.
+-- Where a search looks: a stretch of an edge is none, or lies from 0 to 1.
 use mathlib.Core.Bool.{Bool, true, false, cond}
 use mathlib.Core.Path.{_≡_, refl, ap, sym, _∙_, subst}
-use Prim.Native.Nat.{ℕ}
 use lib.Dec.{T}
 use lib.Ieee.{Float, nan, inf, fin, binary64, neg, lt, le, eq, fits, isNan, ofBits}
 use lib.Ieee.Fits.{div-fits}
@@ -9,7 +8,6 @@ use lib.Ieee.Scale.{finite}
 use Rattle.numbers.specs.Reals.{_⊕_, _⊖_, _⊗_, _⊘_, f0, f1, f2, f4, maxOf, minOf}
 use Rattle.numbers.specs.Root.{rootOf}
 use Rattle.numbers.proofs.Branches.{either, by-test, no}
-use Rattle.golden.specs.Search.{rises, goldenAt, bestOf, goldenMax}
 use Rattle.touch.specs.declared.Edge.{Edge}
 use Rattle.touch.specs.declared.Stretch.{Stretch}
 use Rattle.touch.specs.declared.Stretch.the-variants.{Nowhere, Between}
@@ -18,7 +16,6 @@ use Rattle.spans.proofs.Sizes.{either-of, not-below, f0-is, f1-is}
 use Rattle.bound.proofs.Order.{O, le-trans}
 use Rattle.bound.proofs.Roots.{lt-le}
 use Rattle.bound.proofs.Unit.{I, Unit}
-use Rattle.bound.proofs.Held.{goes}
 
 -- ---- what is not below another, of two numbers
 pub not-less : (x y : Float) → isNan x ≡ false → isNan y ≡ false → lt x y ≡ false → T (le y x)
@@ -96,15 +93,3 @@ module _ (P : Stretch → Type 0) (none : P Nowhere) (some : (lo hi : Float) →
   reached-all e x y r =
       either P (le (length2 e) f0) Nowhere _ (λ k. none)
       (λ k. either P (lt _ f0) Nowhere (crossedOf _ _ _) (λ l. none) (λ l. crossed-all _ _ _))
-
--- ---- the largest value
-pub max-all : (P : Float → Type 0) (f : Float → Float) (lo hi : Float) (n : ℕ) → Unit lo → Unit hi → ((t : Float) → Unit t → P (f t)) → P (goldenMax f lo hi n)
-unfolding goldenMax bestOf
-max-all P f lo hi n u v k =
-    let g = goldenAt rises f lo hi n in
-    let h = goes f rises lo hi n u v in
-    either-of P (maxOf (maxOf (f lo) (f hi)) (g .f1)) (g .f2)
-    (either-of P (maxOf (f lo) (f hi)) (g .f1)
-    (either-of P (f lo) (f hi) (k lo u) (k hi v))
-    (subst P (sym (h .f1)) (k (g .x1) (h .x1))))
-    (subst P (sym (h .f2)) (k (g .x2) (h .x2)))

@@ -1,10 +1,12 @@
 -- What bounds the tip's height over an edge; no answer is defined here.
 use mathlib.Core.Bool.{Bool, cond, _&&_}
 use lib.Ieee.{Float, binary64, ofBits, le}
-use Rattle.numbers.specs.Reals.{_⊕_, _⊖_, _⊗_, f0, f1, maxOf}
+use Rattle.numbers.specs.Reals.{_⊕_, _⊖_, _⊗_, f0, f1, minOf, maxOf}
+use Rattle.numbers.specs.Hypot.{hypotOf}
 use Rattle.touch.specs.declared.Edge.{Edge}
 use Rattle.touch.specs.Touch.{along, length2}
 use Rattle.spans.specs.Mesh.{isCoordinate}
+use Rattle.bound.specs.Inside.{nearerOf}
 
 -- 2^6, 2^12, 2^22 and their squares
 abbrev pub root6 : Float
@@ -26,9 +28,31 @@ square22 = ofBits binary64 0x42b0_0000_0000_0000
 unfoldable pub rootMost : Float → Float
 rootMost q = cond (le q f1) f1 (cond (le q root12) root6 (cond (le q square12) root12 root22))
 
--- The height of an edge's higher end, as a search comes to it.
-unfoldable pub highEnd : Edge → Float
-highEnd e = maxOf (along (e .az) (e .bz) f0) (along (e .az) (e .bz) f1)
+-- The higher of an edge's heights at lo and hi, as a search comes to them.
+unfoldable pub highOn : Edge → Float → Float → Float
+highOn e lo hi = maxOf (along (e .az) (e .bz) lo) (along (e .az) (e .bz) hi)
+
+-- How near to x the coordinates between a and b come from lo to hi, with its sign.
+unfoldable pub sideOn : Float → Float → Float → Float → Float → Float
+sideOn a b x lo hi =
+    let p = along a b lo ⊖ x in
+    let q = along a b hi ⊖ x in
+    nearerOf (minOf p q) (maxOf p q)
+
+-- The least distance from the axis (x, y) of the box of an edge from lo to hi.
+unfoldable pub leastOn : Edge → Float → Float → Float → Float → Float
+leastOn e x y lo hi = hypotOf (sideOn (e .ax) (e .bx) x lo hi) (sideOn (e .ay) (e .by) y lo hi)
+
+-- Numbers of ordinary size, for which nothing overflows, and lo..hi within 0..1.
+unfoldable pub sideTame : Float → Float → Float → Float → Float → Bool
+sideTame a b x lo hi = isCoordinate (along a b lo ⊖ x) && isCoordinate (along a b hi ⊖ x)
+
+unfoldable pub inOrder : Float → Float → Bool
+inOrder lo hi = le f0 lo && (le lo hi && le hi f1)
+
+unfoldable pub tameOn : Edge → Float → Float → Float → Float → Bool
+tameOn e x y lo hi =
+    inOrder lo hi && (sideTame (e .ax) (e .bx) x lo hi && (sideTame (e .ay) (e .by) y lo hi && sideTame (e .az) (e .bz) f0 lo hi))
 
 -- Heights, rise and length of ordinary size.
 unfoldable pub tameRise : Edge → Bool

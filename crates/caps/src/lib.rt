@@ -1,6 +1,6 @@
 // What a cutter's tip over an edge is at most, so that an edge that cannot exceed the best so far is not searched. What both round cutters share.
 ghost use mathlib.Core.Path.{_≡_};
-ghost use Rattle.caps.specs.Inside.{rootMost, highEnd, tameRise};
+ghost use Rattle.caps.specs.Inside.{rootMost, highOn, sideOn, leastOn, sideTame, inOrder, tameOn, tameRise};
 use touch::Edge;
 
 // 2^12, 2^24 and 2^44, and the root of each
@@ -29,13 +29,81 @@ pub fn root_most(q: f64) -> f64
     if q <= SQUARE_12 { ROOT_12 } else { ROOT_22 }
 }
 
-// The height of an edge's higher end, as a search comes to it.
-pub fn high_end(e: Edge) -> f64
-    ensures { λ r. ⌜ r ≡ highEnd e ⌝ }
+// The higher of an edge's heights at lo and hi.
+pub fn high_on(e: Edge, lo: f64, hi: f64) -> f64
+    ensures { λ r. ⌜ r ≡ highOn e lo hi ⌝ }
 {
-    let p = e.az + 0.0 * (e.bz - e.az);
-    let q = e.az + 1.0 * (e.bz - e.az);
+    let p = e.az + lo * (e.bz - e.az);
+    let q = e.az + hi * (e.bz - e.az);
     numbers::max(p, q)
+}
+
+// The least distance from the axis (x, y) of the box of an edge from lo to hi.
+pub fn least_on(e: Edge, x: f64, y: f64, lo: f64, hi: f64) -> f64
+    ensures { λ r. ⌜ r ≡ leastOn e x y lo hi ⌝ }
+{
+    let ay = e.ay;
+    let by = e.by;
+    let u = side(e.ax, e.bx, x, lo, hi);
+    let v = side(ay, by, y, lo, hi);
+    numbers::hypot(u, v)
+}
+
+// How near to x the coordinates between a and b come from lo to hi, with its sign.
+fn side(a: f64, b: f64, x: f64, lo: f64, hi: f64) -> f64
+    ensures { λ r. ⌜ r ≡ sideOn a b x lo hi ⌝ }
+{
+    let p = a + lo * (b - a) - x;
+    let q = a + hi * (b - a) - x;
+    let low = numbers::min(p, q);
+    bound::nearer(low, numbers::max(p, q))
+}
+
+// Whether lo..hi lies within 0..1, and the edge's places at lo and hi are of ordinary size, seen from the axis.
+pub fn tame_on(e: Edge, x: f64, y: f64, lo: f64, hi: f64) -> bool
+    ensures { λ r. ⌜ r ≡ tameOn e x y lo hi ⌝ }
+{
+    let ay = e.ay;
+    let by = e.by;
+    let az = e.az;
+    let bz = e.bz;
+    if in_order(lo, hi) {
+        if side_tame(e.ax, e.bx, x, lo, hi) {
+            if side_tame(ay, by, y, lo, hi) {
+                side_tame(az, bz, 0.0, lo, hi)
+            } else {
+                false
+            }
+        } else {
+            false
+        }
+    } else {
+        false
+    }
+}
+
+// Whether 0 <= lo <= hi <= 1.
+fn in_order(lo: f64, hi: f64) -> bool
+    ensures { λ r. ⌜ r ≡ inOrder lo hi ⌝ }
+{
+    if 0.0 <= lo {
+        if lo <= hi { hi <= 1.0 } else { false }
+    } else {
+        false
+    }
+}
+
+// Whether one coordinate is of ordinary size at lo and hi, seen from x.
+fn side_tame(a: f64, b: f64, x: f64, lo: f64, hi: f64) -> bool
+    ensures { λ r. ⌜ r ≡ sideTame a b x lo hi ⌝ }
+{
+    let p = a + lo * (b - a) - x;
+    let q = a + hi * (b - a) - x;
+    if spans::is_coordinate(p) {
+        spans::is_coordinate(q)
+    } else {
+        false
+    }
 }
 
 // Whether an edge's heights, its rise and its length are of ordinary size.

@@ -33,13 +33,16 @@ use Rattle.spans.proofs.Sizes.{either-of, le-self, not-below, f0-is, max-least}
 use Rattle.bound.proofs.Order.{O, le-trans, sub-turns, add-left, add-right, mul-up, mul-down, mul-swap, no-lower, no-upper, is-mul, own}
 use Rattle.bound.proofs.Roots.{lt-le, root-finite}
 use Rattle.bound.proofs.Unit.{I, Unit, unit-finite}
-use Rattle.bound.proofs.Along.{at, along-between} 
+use Rattle.bound.proofs.Along.{at, along-between}
 use Rattle.bound.proofs.Along.{Between as Lies}
 use Rattle.bound.proofs.Small.{M, M′, Small, sum-nonneg, small, small-finite, small-up, small-sub, small-range, small-between}
 use Rattle.bound.proofs.Near.{Fine, sum-fine}
-use Rattle.caps.specs.Inside.{rootMost, highEnd, tameRise, square22}
-use Rattle.caps.proofs.Places.{not-less, number-of, reached-all, max-all}
+use Rattle.caps.specs.Inside.{rootMost, highOn, tameRise, square22}
+use Rattle.caps.proofs.Places.{not-less, number-of, reached-all}
+use Rattle.caps.proofs.Inside.{largest-in}
 use Rattle.caps.proofs.Most.{R, root-under, most-finite}
+use Rattle.caps.proofs.Bracket.{self, plus-none, none-of-zero}
+use Rattle.caps.proofs.Drops.{drop-nan, sum-nan, drop-more}
 use Rattle.section.specs.declared.Section.{Section}
 use Rattle.section.specs.declared.Surface.{Surface}
 use Rattle.section.specs.declared.Surface.the-variants.{Beyond, Over}
@@ -52,50 +55,6 @@ holds b e = rw e tt
 is-true : (b : Bool) → T b → b ≡ true
 is-true true t = refl
 is-true false t = absurd t
-
--- ---- a NaN leaves nothing out
-drop-nan : (z n b : Float) → isNan n ≡ true → le (z ⊖ n) b ≡ true → ⊥
-unfolding isNan sub neg add le lt eq
-drop-nan nan nan b e h = no h
-drop-nan (inf s) nan b e h = no h
-drop-nan (fin s m c) nan b e h = no h
-drop-nan z (inf s) b e h = no e
-drop-nan z (fin s m c) b e h = no e
-
-sum-nan : (z n x b : Float) → isNan n ≡ true → le (z ⊖ n ⊕ x) b ≡ true → ⊥
-unfolding isNan sub neg add le lt eq
-sum-nan nan nan x b e h = no h
-sum-nan (inf s) nan x b e h = no h
-sum-nan (fin s m c) nan x b e h = no h
-sum-nan z (inf s) x b e h = no e
-sum-nan z (fin s m c) x b e h = no e
-
-endless : (s : Bool) (p : Float) → T (finite p) → inf s ⊖ p ≡ inf s
-unfolding sub neg add
-endless s nan f = absurd f
-endless s (inf t) f = absurd f
-endless s (fin t n d) f = refl
-
--- ---- sums and differences with the number itself or 0
-self : (a : Float) → T (finite a) → T (le O (a ⊖ a))
-self a p =
-    is-le binary64 _ _ _ _ _ _ _ _ (omega arith) (mul-pos (den-pos a) (den-pos a)) (omega (arith, zero-mul (den a * den a), mul-one (upper a * den a + lower a * den a)))
-    zero-is (is-sub binary64 a a p p)
-
-plus-none : (a : Float) → T (fits binary64 a) → T (finite a) → T (le a (a ⊕ O))
-plus-none a g p =
-    let e : a ⊖ fin true 0 (pos 0) ≡ a ⊕ O = unfold sub neg in refl in
-    subst (λ (w : Float). T (le a w)) e
-    (is-le binary64 _ _ _ _ _ _ _ _ (den-pos a) (mul-pos (den-pos a) (den-pos (fin true 0 (pos 0))))
-    (omega (arith, mul-one (den a), mul-one (upper a), mul-one (lower a), zero-mul (den a)))
-    (own a g p) (is-sub binary64 a (fin true 0 (pos 0)) p tt))
-
--- ---- a larger drop leaves less, whatever the height
-drop-more : (z p q b : Float) → T (finite p) → T (finite q) → T (le p q) → le (z ⊖ p) b ≡ true → le (z ⊖ q) b ≡ true
-drop-more nan p q b f g h k = absurd (no (unfold sub add le lt eq in k))
-drop-more (inf s) p q b f g h k = subst (λ (v : Float). le v b ≡ true) (endless s p f ∙ sym (endless s q g)) k
-drop-more (fin s m e) p q b f g h k =
-    is-true _ (le-trans (fin s m e ⊖ q) (fin s m e ⊖ p) b (sub-turns binary64 p q (fin s m e) f g tt h) (holds _ k))
 
 -- ---- a valid section
 abbrev B : Float
@@ -158,19 +117,21 @@ coordinate-size : (x : Float) → isCoordinate x ≡ true → le (absOf x) milli
 unfolding isCoordinate
 coordinate-size x h = h
 
--- the highest surface of all
-abbrev top : Float
-top = M ⊕ two ⊗ B
+pub record Climbed (s : Section) (d : Float) : Type 0 where
+  pub place : T (finite d)
+  pub start : T (finite (s .r0))
+  pub way : T (finite (d ⊖ s .r0))
+  pub climbed : T (finite ((d ⊖ s .r0) ⊗ s .rise))
 
-none-of-zero : (y : Float) → T (finite y) → T (le O (O ⊗ y))
-none-of-zero y p =
-    is-le binary64 _ _ _ _ _ _ _ _ (omega arith) (mul-pos (den-pos O) (den-pos y)) (omega (arith, zero-mul (upper y), zero-mul (lower y), zero-mul (den y))) zero-is (is-mul O y tt p)
+-- the highest surface of all
+abbrev pub top : Float
+top = M ⊕ two ⊗ B
 
 module _ (s : Section) (v : Valid s) (g : T (fits binary64 (s .z0))) where
   sz : Small (s .z0)
   sz = small-up (s .z0) (v .z-low) (v .z-high)
 
-  fz : T (finite (s .z0))
+  pub fz : T (finite (s .z0))
   fz = small-finite (s .z0) sz
 
   near-most : T (le (s .r0) M)
@@ -179,14 +140,14 @@ module _ (s : Section) (v : Valid s) (g : T (fits binary64 (s .z0))) where
   s0 : Small (s .r0)
   s0 = small-up (s .r0) (v .near-low) near-most
 
-  f1′ : T (finite (s .r1))
+  pub f1′ : T (finite (s .r1))
   f1′ = finite-between O (s .r1) M tt tt (le-trans O (s .r0) (s .r1) (v .near-low) (v .near-high)) (v .far-high)
 
-  fr : T (finite (s .rise))
+  pub fr : T (finite (s .rise))
   fr = finite-between O (s .rise) B tt tt (v .rise-low) (v .rise-high)
 
   -- a distance beyond r0 and within r1
-  beyond : (d : Float) → le d (s .r0) ≡ false → le d (s .r1) ≡ true → T (le (s .r0) d)
+  pub beyond : (d : Float) → le d (s .r0) ≡ false → le d (s .r1) ≡ true → T (le (s .r0) d)
   beyond d e h =
       not-less d (s .r0) (number-of _ _ (holds _ h) .0) (number-of _ _ (v .near-low) .1)
       (by-test (lt d (s .r0)) (λ l. absurd (no (sym e ∙ is-true _ (lt-le d (s .r0) l)))) (λ l. l))
@@ -212,17 +173,20 @@ module _ (s : Section) (v : Valid s) (g : T (fits binary64 (s .z0))) where
     climb-low = le-trans O (O ⊗ s .rise) climb (none-of-zero (s .rise) fr) (mul-up O (d ⊖ s .r0) (s .rise) tt fm fr more (no-lower (s .rise) fr (v .rise-low)))
 
     climb-high : T (le climb (two ⊗ B))
-    climb-high = 
+    climb-high =
         le-trans climb (two ⊗ s .rise) (two ⊗ B) (mul-up (d ⊖ s .r0) two (s .rise) fm tt fr (small-range d (s .r0) sd s0 .1) (no-lower (s .rise) fr (v .rise-low)))
         (rw (mul-swap two (s .rise) tt fr) (subst (λ (w : Float). T (le (s .rise ⊗ two) w)) (mul-swap B two tt tt) (mul-up (s .rise) B two fr tt tt (v .rise-high) refl)))
 
     fc : T (finite climb)
     fc = finite-between O climb (two ⊗ B) tt (unfold mul round in tt) climb-low climb-high
 
+    pub climb-fine : Climbed s d
+    climb-fine = record { place = fd; start = small-finite _ s0; way = fm; climbed = fc }
+
     risen : T (le (s .z0) (s .z0 ⊕ climb)) × T (le (s .z0 ⊕ climb) top)
     risen = (
       le-trans (s .z0) (s .z0 ⊕ O) (s .z0 ⊕ climb) (plus-none (s .z0) g fz) (add-right binary64 O climb (s .z0) tt fc fz climb-low),
-      le-trans (s .z0 ⊕ climb) (M ⊕ climb) top (add-left binary64 (s .z0) M climb fz tt fc (v .z-high)) (add-right binary64 climb (two ⊗ B) M fc (unfold mul round in tt) tt climb-high)
+      le-trans (s .z0 ⊕ climb) (M ⊕ climb) top (add-left binary64 (s .z0) M climb fz tt fc (v .z-high)) (add-right binary64 climb (two ⊗ B) M fc (unfold mul round in tt) tt climb-high),
     )
 
   -- ---- the surface at any distance
@@ -232,8 +196,8 @@ module _ (s : Section) (v : Valid s) (g : T (fits binary64 (s .z0))) where
       either P (le d (s .r0)) (Over (s .z0)) (cond (le d (s .r1)) (Over (s .z0 ⊕ (d ⊖ s .r0) ⊗ s .rise)) Beyond)
       (λ e. some (s .z0) (le-self (s .z0) fz) (le-trans (s .z0) M top (v .z-high) (unfold add mul sum round le in tt)))
       (λ e. either P (le d (s .r1)) (Over (s .z0 ⊕ (d ⊖ s .r0) ⊗ s .rise)) Beyond
-          (λ h. let r = risen d (beyond d e h) (le-trans d (s .r1) M (holds _ h) (v .far-high)) in some _ (r .0) (r .1))
-          (λ h. none))
+      (λ h. let r = risen d (beyond d e h) (le-trans d (s .r1) M (holds _ h) (v .far-high)) in some _ (r .0) (r .1))
+      (λ h. none))
 
   -- within r1 it is there
   pub height-all : (P : Float → Type 0) → ((h : Float) → T (le (s .z0) h) → T (le h top) → P h) → (d : Float) → T (le d (s .r1)) → P (heightOver (profileOf s d))
@@ -242,16 +206,16 @@ module _ (s : Section) (v : Valid s) (g : T (fits binary64 (s .z0))) where
       either (λ w. P (heightOver w)) (le d (s .r0)) (Over (s .z0)) (cond (le d (s .r1)) (Over (s .z0 ⊕ (d ⊖ s .r0) ⊗ s .rise)) Beyond)
       (λ e. some (s .z0) (le-self (s .z0) fz) (le-trans (s .z0) M top (v .z-high) (unfold add mul sum round le in tt)))
       (λ e. either (λ w. P (heightOver w)) (le d (s .r1)) (Over (s .z0 ⊕ (d ⊖ s .r0) ⊗ s .rise)) Beyond
-          (λ h. let r = risen d (beyond d e h) (le-trans d (s .r1) M m (v .far-high)) in some _ (r .0) (r .1))
-          (λ h. absurd (no (sym h ∙ is-true _ m))))
+      (λ h. let r = risen d (beyond d e h) (le-trans d (s .r1) M m (v .far-high)) in some _ (r .0) (r .1))
+      (λ h. absurd (no (sym h ∙ is-true _ m))))
 
-  least-far : (d : Float) → T (le (minOf d (s .r1)) (s .r1))
+  pub least-far : (d : Float) → T (le (minOf d (s .r1)) (s .r1))
   unfolding minOf
   least-far d =
       either (λ w. T (le w (s .r1))) (isNan d) (s .r1) (cond (lt (s .r1) d) (s .r1) d) (λ _. le-self (s .r1) f1′)
       (λ e. either (λ w. T (le w (s .r1))) (lt (s .r1) d) (s .r1) d (λ _. le-self (s .r1) f1′) (λ l. not-less (s .r1) d (number-of _ _ (v .far-high) .0) e l))
 
-  f-top : (h : Float) → T (le (s .z0) h) → T (le h top) → T (finite h)
+  pub f-top : (h : Float) → T (le (s .z0) h) → T (le h top) → T (finite h)
   f-top h a b = finite-between (s .z0) h top fz (unfold add mul sum round in tt) a b
 
   -- ---- a vertex
@@ -272,10 +236,10 @@ module _ (s : Section) (v : Valid s) (g : T (fits binary64 (s .z0))) where
         (small _ (a .0), small _ (b .0), c .0, c .1)
 
     abbrev high : Float
-    high = highEnd e
+    high = highOn e f0 f1
 
     high-small : Small high
-    unfolding highEnd ofBits
+    unfolding highOn ofBits
     high-small =
         record { low = either-of (λ w. T (le M′ w)) _ _ (parts .0 .low) (parts .1 .low); high = either-of (λ w. T (le w M)) _ _ (parts .0 .high) (parts .1 .high) }
 
@@ -296,7 +260,7 @@ module _ (s : Section) (v : Valid s) (g : T (fits binary64 (s .z0))) where
       sm = small-between _ _ z (parts .0) (parts .1) there
 
       z-high : T (le z high)
-      unfolding highEnd ofBits
+      unfolding highOn ofBits
       z-high = there .high
 
       pub value-under : (x y : Float) → T (le (sectionAt s x y e t) C) × T (finite (sectionAt s x y e t))
@@ -305,10 +269,12 @@ module _ (s : Section) (v : Valid s) (g : T (fits binary64 (s .z0))) where
           height-all (λ h. T (le (z ⊖ h) C) × T (finite (z ⊖ h)))
           (λ h a b.
           let fh = f-top h a b in
-          let up = le-trans (z ⊖ h) (z ⊖ s .z0) C (sub-turns binary64 (s .z0) h z fz fh (small-finite z sm) a) (sub-mono binary64 z high (s .z0) (small-finite z sm) (small-finite high high-small) fz z-high) in
-          (up, finite-between (M′ ⊖ top) (z ⊖ h) C (unfold sub add neg sum mul round in tt) fC
-          (le-trans (M′ ⊖ top) (z ⊖ top) (z ⊖ h) (sub-mono binary64 M′ z top tt (small-finite z sm) (unfold add mul sum round in tt) (sm .low)) (sub-turns binary64 h top z fh (unfold add mul sum round in tt) (small-finite z sm) b))
-          up))
+          let up = le-trans (z ⊖ h) (z ⊖ s .z0) C (sub-turns binary64 (s .z0) h z fz fh (small-finite z sm) a) (sub-mono binary64 z high (s .z0) (small-finite z sm) (small-finite high high-small) fz z-high) in (
+            up,
+            finite-between (M′ ⊖ top) (z ⊖ h) C (unfold sub add neg sum mul round in tt) fC
+                (le-trans (M′ ⊖ top) (z ⊖ top) (z ⊖ h) (sub-mono binary64 M′ z top tt (small-finite z sm) (unfold add mul sum round in tt) (sm .low)) (sub-turns binary64 h top z fh (unfold add mul sum round in tt) (small-finite z sm) b))
+                up,
+          ))
           _ (least-far _)
 
     -- the search's bound
@@ -394,7 +360,7 @@ module _ (s : Section) (v : Valid s) (g : T (fits binary64 (s .z0))) where
     fL : T (finite L)
     fL = finite-between O L K tt fK L-low L-high
 
-    module _ (lo hi : Float) (u : Unit lo) (w : Unit hi) where
+    module _ (lo hi : Float) (u : Unit lo) (w : Unit hi) (o : T (le lo hi)) where
       fl : T (finite lo)
       fl = unit-finite lo u
 
@@ -456,7 +422,7 @@ module _ (s : Section) (v : Valid s) (g : T (fits binary64 (s .z0))) where
       pub bound-under : (x₀ y₀ : Float) → T (le (goldenMaxBound (sectionAt s x₀ y₀ e) lo hi (lipschitzOf s e)) (C ⊕ K ⊗ phi60))
       unfolding goldenMaxBound boundOf lipschitzOf
       bound-under x₀ y₀ =
-          let m = max-all (λ r. T (le r C) × T (finite r)) (sectionAt s x₀ y₀ e) lo hi 60 u w (λ t k. value-under t k x₀ y₀) in
+          let m = largest-in (sectionAt s x₀ y₀ e) lo hi u w o (λ r. T (le r C) × T (finite r)) 60 (λ t k. value-under t (k .unit) x₀ y₀) in
           rw phi60-is
           (le-trans (goldenMax (sectionAt s x₀ y₀ e) lo hi 60 ⊕ x) (C ⊕ x) (C ⊕ K ⊗ Φ)
           (add-left binary64 _ C x (m .1) fC fx (m .0))
@@ -466,7 +432,7 @@ module _ (s : Section) (v : Valid s) (g : T (fits binary64 (s .z0))) where
     unfolding sectionEdge
     edge-low c x y h =
         reached-all (λ k. c ≡ offerOf c (sectionStretch s x y e k)) (unfold sectionStretch offerOf in refl)
-        (λ lo hi u w o. unfold sectionStretch offerOf in sym (stays-under c _ (edge (e .which)) (is-true _ (le-trans _ (C ⊕ K ⊗ phi60) (limitOf c) (bound-under lo hi u w x y) (holds _ h)))))
+        (λ lo hi u w o. unfold sectionStretch offerOf in sym (stays-under c _ (edge (e .which)) (is-true _ (le-trans _ (C ⊕ K ⊗ phi60) (limitOf c) (bound-under lo hi u w o x y) (holds _ h)))))
         e x y (s .r1)
 
 -- ---- as the code has it
@@ -479,8 +445,8 @@ pub edge-stays : (s : Section) (low : Float) → Firm s low → (c : Contact) (x
 unfolding lowEdge
 edge-stays s low f c x y e h =
     let p = chosen _ _ h in
-    ⊎-elim (λ k. absurd (sum-nan (highEnd e) low _ (limitOf c) k (p .1)))
-    (λ k. edge-low s (valid-parts s (k .0)) (k .2) e (p .0) c x y (subst (λ (w : Float). le (highEnd e ⊖ w ⊕ (absOf (e .bz ⊖ e .az) ⊕ s .rise ⊗ rootMost (length2 e)) ⊗ phi60) (limitOf c) ≡ true) (k .1) (p .1))) f
+    ⊎-elim (λ k. absurd (sum-nan (highOn e f0 f1) low _ (limitOf c) k (p .1)))
+    (λ k. edge-low s (valid-parts s (k .0)) (k .2) e (p .0) c x y (subst (λ (w : Float). le (highOn e f0 f1 ⊖ w ⊕ (absOf (e .bz ⊖ e .az) ⊕ s .rise ⊗ rootMost (length2 e)) ⊗ phi60) (limitOf c) ≡ true) (k .1) (p .1))) f
   where
     chosen : (a b : Bool) → cond a b false ≡ true → (a ≡ true) × (b ≡ true)
     chosen true b e = (refl, e)

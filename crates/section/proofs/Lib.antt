@@ -1,3 +1,4 @@
 pub mod Flats
 pub mod Capping
 pub mod Goings
+pub mod Ends

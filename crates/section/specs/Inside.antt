@@ -4,14 +4,14 @@ use mathlib.Core.Logic.{_⊎_}
 use mathlib.Core.Path.{_≡_}
 use lib.Dec.{T}
 use lib.Ieee.{Float, binary64, le, fits, isNan}
-use Rattle.numbers.specs.Reals.{_⊕_, _⊖_, _⊗_, absOf}
+use Rattle.numbers.specs.Reals.{_⊕_, _⊖_, _⊗_, _⊘_, f0, f1, minOf, absOf}
 use Rattle.numbers.specs.Golden.{phi60}
 use Rattle.numbers.specs.Hypot.{hypotOf}
 use Rattle.touch.specs.declared.Edge.{Edge}
 use Rattle.touch.specs.Touch.{length2}
-use Rattle.caps.specs.Inside.{rootMost, highEnd, tameRise}
+use Rattle.caps.specs.Inside.{rootMost, highOn, leastOn, tameOn, tameRise}
 use Rattle.section.specs.declared.Section.{Section}
-use Rattle.section.specs.Section.{validSection}
+use Rattle.section.specs.Section.{validSection, profileOf, heightOver}
 
 pub record FlatTo (s : Section) (flat : Float) : Type 0 where
   pub near : (p q : Float) → le (p ⊗ p ⊕ q ⊗ q) flat ≡ true → T (le (hypotOf p q) (s .r0))
@@ -28,4 +28,15 @@ Firm s low = KeptIf (validSection s) (s .z0) low
 -- slope's share over the whole edge, whose length is at most `rootMost`.
 unfoldable pub lowEdge : Section → Float → Edge → Float → Bool
 lowEdge s low e b =
-    cond (tameRise e) (le (highEnd e ⊖ low ⊕ (absOf (e .bz ⊖ e .az) ⊕ s .rise ⊗ rootMost (length2 e)) ⊗ phi60) b) false
+    cond (tameRise e) (le (highOn e f0 f1 ⊖ low ⊕ (absOf (e .bz ⊖ e .az) ⊕ s .rise ⊗ rootMost (length2 e)) ⊗ phi60) b) false
+
+-- What the tip's height over an edge from lo to hi is at most. The surface grows with the distance from the axis, so it is the edge's higher end less the surface at the edge's
+-- least distance, which is taken from its box in plan. A NaN, by which nothing is left out, where the numbers are not of ordinary size.
+unfoldable pub overOf : Section → Float → Float → Float
+overOf s z d = z ⊖ heightOver (profileOf s d)
+
+unfoldable pub capOf : Section → Float → Float → Float → Edge → Float → Float → Float
+capOf s low x y e lo hi =
+    cond (le f0 low)
+    (cond (tameOn e x y lo hi) (overOf s (highOn e lo hi) (minOf (leastOn e x y lo hi) (s .r1))) (f0 ⊘ f0))
+    (f0 ⊘ f0)

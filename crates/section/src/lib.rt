@@ -124,7 +124,17 @@ fn under(n: u32, z: f64, h: Surface) -> Contact
 }
 
 // The contact c with the candidate of vertex n, which is not above vz - low.
-fn vertex(s: Section, low: f64, x: f64, y: f64, n: u32, vx: f64, vy: f64, vz: f64, c: Contact) -> Contact
+fn vertex(
+    s: Section,
+    low: f64,
+    x: f64,
+    y: f64,
+    n: u32,
+    vx: f64,
+    vy: f64,
+    vz: f64,
+    c: Contact,
+) -> Contact
     requires { ⌜ Firm s low ⌝ }
     ensures { λ r. ⌜ r ≡ offerOf c (sectionVertex s x y n vx vy vz) ⌝ }
 {
@@ -162,18 +172,22 @@ fn edge(s: Section, low: f64, x: f64, y: f64, e: Edge, c: Contact) -> Contact
     if low::skips(s, low, e, above::limit(c)) {
         return c;
     }
-    above::offer(c, stretch_of(s, x, y, e, touch::reached(e, x, y, s.r1)))
+    above::offer(
+        c,
+        stretch_of(s, low, x, y, e, touch::reached(e, x, y, s.r1)),
+    )
 }
 
 // The bound over an edge's stretch.
-fn stretch_of(s: Section, x: f64, y: f64, e: Edge, part: Stretch) -> Contact
+fn stretch_of(s: Section, low: f64, x: f64, y: f64, e: Edge, part: Stretch) -> Contact
+    requires { ⌜ Firm s low ⌝ }
     ensures { λ c. ⌜ c ≡ sectionStretch s x y e part ⌝ }
 {
     let which = e.which;
     match part {
         Stretch::Nowhere => Contact::Nothing,
         Stretch::Between(t0, t1) => Contact::Height(
-            bounded(s, x, y, e, t0, t1),
+            bounded(s, low, x, y, e, t0, t1),
             Touch {
                 kind: plane::EDGE,
                 which,
@@ -183,10 +197,11 @@ fn stretch_of(s: Section, x: f64, y: f64, e: Edge, part: Stretch) -> Contact
 }
 
 // The bound between two places of an edge.
-fn bounded(s: Section, x: f64, y: f64, e: Edge, lo: f64, hi: f64) -> f64
+fn bounded(s: Section, low: f64, x: f64, y: f64, e: Edge, lo: f64, hi: f64) -> f64
+    requires { ⌜ Firm s low ⌝ }
     ensures { λ r. ⌜ r ≡ goldenMaxBound (sectionAt s x y e) lo hi (lipschitzOf s e) ⌝ }
 {
-    golden::bound(search(s, x, y, e, lo, hi), lo, hi, lipschitz(s, e))
+    golden::bound(search(s, low, x, y, e, lo, hi), lo, hi, lipschitz(s, e))
 }
 
 // How much the tip's height changes at most along an edge.
@@ -200,11 +215,18 @@ fn lipschitz(s: Section, e: Edge) -> f64
     steep + rise * numbers::root(ex * ex + ey * ey)
 }
 
-// The largest tip's height between two places of an edge.
-fn search(s: Section, x: f64, y: f64, e: Edge, lo: f64, hi: f64) -> f64
+// The largest tip's height between two places of an edge: the larger end's, where no place exceeds it.
+fn search(s: Section, low: f64, x: f64, y: f64, e: Edge, lo: f64, hi: f64) -> f64
+    requires { ⌜ Firm s low ⌝ }
     ensures { λ r. ⌜ r ≡ goldenMax (sectionAt s x y e) lo hi 60 ⌝ }
 {
-    search_on(s, x, y, e, flat_of(s), lo, hi)
+    let flat = flat_of(s);
+    let first = at(s, x, y, e, flat, lo);
+    let m = numbers::max(first, at(s, x, y, e, flat, hi));
+    if low::cap_on(s, low, x, y, e, lo, hi) <= m {
+        return m;
+    }
+    search_on(s, x, y, e, flat, lo, hi)
 }
 
 // A number up to which the square of a distance shows that the distance is within r0, so that no distance is taken there.

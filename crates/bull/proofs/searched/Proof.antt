@@ -6,4 +6,4 @@ returns : tie.Need-returns
 returns c = taken-at _ _ _ _ _ (c .before .search .ensures) (c .take .ensures)
 
 pub searched-spec : {M : Type 1} → statement M
-searched-spec = tie.close (tie.spec (λ c κs. tt) (λ c κs. tt) returns)
+searched-spec = tie.close (tie.spec (λ c κs. c .pre) (λ c κs. tt) returns)

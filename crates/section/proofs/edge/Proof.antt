@@ -17,4 +17,4 @@ unfolding sectionEdge
 returns-2 c = rw (c .offer .ensures, c .before .stretch-of .ensures, c .before .before .reached .ensures)
 
 pub edge-spec : {M : Type 1} → statement M
-edge-spec = tie.close (tie.spec (λ c κs. tt) (λ c κs. tt) returns (λ c κs. tt) (λ c κs. tt) (λ c κs. tt) returns-2)
+edge-spec = tie.close (tie.spec (λ c κs. tt) (λ c κs. tt) returns (λ c κs. tt) (λ c κs. c .before .before .before .before .pre) (λ c κs. tt) returns-2)

@@ -21,4 +21,4 @@ unfolding sectionStretch
 returns-2 c = height-at _ _ _ _ (c .bounded .ensures) (ap (sectionStretch _ _ _ _) (sym (c .before .before .part .given .1)))
 
 pub stretch-of-spec : {M : Type 1} → statement M
-stretch-of-spec = tie.close (tie.spec (λ c. search needs) (λ c. search needs) (λ c κs. tt) returns returns-2)
+stretch-of-spec = tie.close (tie.spec (λ c. search needs) (λ c. search needs) (λ c κs. c .before .before .before .pre) returns returns-2)

@@ -8,7 +8,7 @@ returns : tie.Need-returns
 unfolding lowEdge
 returns c =
     taken _ _ _ _ (bool-called _ _ _ (c .before .before .before .tame-rise .ensures) (c .before .before .if1 .taken))
-    (rw (c .high-end .ensures, c .before .root-most .ensures, c .before .before .before .before .abs .ensures))
+    (rw (c .high-on .ensures, c .before .root-most .ensures, c .before .before .before .before .abs .ensures))
 
 returns-2 : tie.Need-returns-2
 unfolding lowEdge

@@ -1,9 +1,9 @@
-use Rattle.bull.specs.Inside.{sideOf}
-use Rattle.bull.proofs.cap.side.Statement.{statement}
-use Rattle.bull.proofs.cap.side.Tie as tie
+use Rattle.caps.specs.Inside.{sideOn}
+use Rattle.caps.proofs.side.Statement.{statement}
+use Rattle.caps.proofs.side.Tie as tie
 
 returns : tie.Need-returns
-unfolding sideOf
+unfolding sideOn
 returns c = rw (c .nearer .ensures, c .before .max .ensures, c .before .before .min .ensures)
 
 pub side-spec : {M : Type 1} → statement M

@@ -1,8 +1,8 @@
 use mathlib.Core.Path.{_≡_, refl, ap, sym, _∙_}
 use Rattle.numbers.proofs.Branches.{and-on, and-off, bool-called}
-use Rattle.bull.specs.Inside.{sideTame}
-use Rattle.bull.proofs.cap.side_tame.Statement.{statement}
-use Rattle.bull.proofs.cap.side_tame.Tie as tie
+use Rattle.caps.specs.Inside.{sideTame}
+use Rattle.caps.proofs.side_tame.Statement.{statement}
+use Rattle.caps.proofs.side_tame.Tie as tie
 
 returns : tie.Need-returns
 unfolding sideTame
