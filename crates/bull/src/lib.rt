@@ -306,7 +306,7 @@ fn facet(k: Bull, t: Triangle, f: Facing) -> Contact
 }
 
 // Where the cutter rests on a plane.
-fn rest(k: Bull, g: Gradient) -> Rest
+pub fn rest(k: Bull, g: Gradient) -> Rest
     ensures { λ r. ⌜ r ≡ bullRest k g ⌝ }
 {
     let steep = g.steep;

@@ -1,9 +1,12 @@
 // Whether a triangle blocks a bull-nose cutter on a chord.
 ghost use mathlib.Core.Path.{_≡_};
+ghost use mathlib.Core.Bool.{true, false, _&&_};
 ghost use lib.Ieee.{lt};
-ghost use Rattle.numbers.specs.Reals.{f0};
-ghost use Rattle.golden.specs.Search.{rises, goldenStart, goldenStep, goldenAt, goldenMax};
+ghost use Rattle.numbers.specs.Reals.{f0, maxOf};
+ghost use Rattle.golden.specs.Search.{rises, goldenStart, goldenStep, goldenMax};
 ghost use Rattle.bull_gap.specs.Blocks.{bullGap, bullSearched, bullBlocks};
+ghost use Rattle.bull_gap.specs.Inside.{inOrder, insideOf};
+ghost use Rattle.bull_pass.specs.Inside.{passesOf};
 use bull::Bull;
 use golden::Golden;
 use plane::Triangle;
@@ -32,10 +35,14 @@ fn searched(t: Triangle, m: Chord, r: f64, rc: f64, s: Stretch) -> bool
     }
 }
 
-// Whether the contact, lifted, stands above the tip between two places of the chord. Where it does at one of the two, no search is needed.
+// Whether the contact, lifted, stands above the tip between two places of the chord. Where the cutter surely passes there, or the contact stands above at one of
+// the two, no search is needed.
 fn stands(t: Triangle, m: Chord, r: f64, rc: f64, lo: f64, hi: f64) -> bool
     ensures { λ b. ⌜ b ≡ lt f0 (goldenMax (bullGap t m r rc) lo hi 40) ⌝ }
 {
+    if passes_between(t, m, r, rc, lo, hi) {
+        return false;
+    }
     let low = gap(t, m, r, rc, lo);
     if low > 0.0 {
         return true;
@@ -44,19 +51,81 @@ fn stands(t: Triangle, m: Chord, r: f64, rc: f64, lo: f64, hi: f64) -> bool
     if numbers::max(low, high) > 0.0 {
         return true;
     }
-    let g = search(t, m, r, rc, lo, hi);
-    golden::best(low, high, g.f1, g.f2) > 0.0
+    sought(t, m, r, rc, lo, hi, low, high)
 }
 
-// The last bracket of the search for how far it stands above at most.
-fn search(t: Triangle, m: Chord, r: f64, rc: f64, lo: f64, hi: f64) -> Golden
-    ensures { λ g. ⌜ g ≡ goldenAt rises (bullGap t m r rc) lo hi 40 ⌝ }
+// Whether the cutter surely passes between two places in order.
+fn passes_between(t: Triangle, m: Chord, r: f64, rc: f64, lo: f64, hi: f64) -> bool
+    ensures { λ b. ⌜ b ≡ (inOrder lo hi && passesOf t m r rc lo hi) ⌝ }
+{
+    if in_order(lo, hi) {
+        bull_pass::passes(t, m, r, rc, lo, hi)
+    } else {
+        false
+    }
+}
+
+// Whether 0 <= lo <= hi <= 1.
+fn in_order(lo: f64, hi: f64) -> bool
+    ensures { λ b. ⌜ b ≡ inOrder lo hi ⌝ }
+{
+    if lo >= 0.0 {
+        if lo <= hi { hi <= 1.0 } else { false }
+    } else {
+        false
+    }
+}
+
+// Whether the inner points lie in the bracket.
+fn inside(g: Golden) -> bool
+    ensures { λ b. ⌜ b ≡ insideOf g ⌝ }
+{
+    if g.a <= g.x1 {
+        if g.x1 <= g.b {
+            if g.a <= g.x2 { g.x2 <= g.b } else { false }
+        } else {
+            false
+        }
+    } else {
+        false
+    }
+}
+
+// The same by a search, the gaps at both places being low and high. It breaks off where the cutter surely passes in the bracket that it has come to, which it asks
+// before every fourth step.
+fn sought(t: Triangle, m: Chord, r: f64, rc: f64, lo: f64, hi: f64, low: f64, high: f64) -> bool
+    requires { ⌜ (low ≡ bullGap t m r rc lo) × (high ≡ bullGap t m r rc hi) × (lt f0 (maxOf low high) ≡ false) ⌝ }
+    ensures { λ b. ⌜ b ≡ lt f0 (goldenMax (bullGap t m r rc) lo hi 40) ⌝ }
 {
     let mut g = start(t, m, r, rc, lo, hi);
     for n in 0..40usize {
+        if settled(t, m, r, rc, lo, hi, g, n) {
+            return false;
+        }
         g = step(t, m, r, rc, g);
     }
-    g
+    golden::best(low, high, g.f1, g.f2) > 0.0
+}
+
+// Whether the search may break off before step n.
+fn settled(t: Triangle, m: Chord, r: f64, rc: f64, lo: f64, hi: f64, g: Golden, n: usize) -> bool
+    ensures { λ b. ⌜ (b ≡ true → (inOrder lo hi ≡ true) × (insideOf g ≡ true) × (passesOf t m r rc (g .a) (g .b) ≡ true)) ⌝ }
+{
+    let a = g.a;
+    let b = g.b;
+    if n % 4 == 3 {
+        if in_order(lo, hi) {
+            if inside(g) {
+                bull_pass::passes(t, m, r, rc, a, b)
+            } else {
+                false
+            }
+        } else {
+            false
+        }
+    } else {
+        false
+    }
 }
 
 // The search's first bracket.

@@ -1,0 +1,20 @@
+use mathlib.Core.Path.{_≡_, refl, ap, sym, _∙_}
+use Rattle.numbers.proofs.Branches.{and-on, and-off, bool-called}
+use Rattle.bull_gap.specs.Inside.{inOrder}
+use Rattle.bull_gap.proofs.in_order.Statement.{statement}
+use Rattle.bull_gap.proofs.in_order.Tie as tie
+
+returns : tie.Need-returns
+unfolding inOrder
+returns c = and-on _ _ _ (c .before .if1 .taken) (and-on _ _ _ (c .if2 .taken) refl)
+
+returns-2 : tie.Need-returns-2
+unfolding inOrder
+returns-2 c = and-on _ _ _ (c .before .if1 .taken) (and-off _ _ _ (c .if2 .left) refl)
+
+returns-3 : tie.Need-returns-3
+unfolding inOrder
+returns-3 c = and-off _ _ _ (c .if1 .left) refl
+
+pub in-order-spec : {M : Type 1} → statement M
+in-order-spec = tie.close (tie.spec returns returns-2 returns-3)

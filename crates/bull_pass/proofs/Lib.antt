@@ -1,0 +1,5 @@
+pub mod Spread
+pub mod Marching
+pub mod Blocks
+pub mod Facets
+pub mod Passing
