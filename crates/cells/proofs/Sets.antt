@@ -45,7 +45,7 @@ both-on a b e f = rw (e, f)
 off-left : (a b : Bool) → a ≡ false → (a && b) ≡ false
 off-left a b e = rw e
 
-off-right : (a b : Bool) → b ≡ false → (a && b) ≡ false
+pub off-right : (a b : Bool) → b ≡ false → (a && b) ≡ false
 off-right true b e = e
 off-right false b e = refl
 

@@ -12,15 +12,11 @@ use lib.ListN.{length, getD, drop, length-drop, drop-of-length-le}
 use lib.Seq.{drop-cons, append-snoc, length-take-le, getD-take, getD-drop}
 use Rattle.numbers.proofs.Branches.{and-off, both-true, by-test}
 use Rattle.cells.specs.Cover.{Cover, membersOf, listed, startOf, startsOf, membersTable, stretch}
-use Rattle.cells.proofs.Sets.{weight-on}
+use Rattle.cells.proofs.Sets.{off-right, weight-on}
 use Rattle.cells.proofs.Members.{members-suc, members-more, members-mono, start-more, all-members}
 use Rattle.cells.proofs.Building.{front-is, entries-are}
 use Rattle.cells.proofs.Reading.{start-at, cell-is, starts-rise, starts-within}
 use Rattle.checked.specs.Inside.{risesFrom, cellHolds}
-
-and-none : (a b : Bool) → b ≡ false → (a && b) ≡ false
-and-none true b e = e
-and-none false b e = refl
 
 -- ---- numbers that rise
 module _ (on : ℕ → Bool) where
@@ -59,10 +55,10 @@ module _ (on : ℕ → Bool) (n low j : ℕ) (part : List ℕ) (l : j < length p
   too-low h = and-off _ _ _ (lt-leb _ _ h) refl ∙ sym cut
 
   pub too-high : n ≤ getD part j 0 → false ≡ risesFrom on n low (drop j part)
-  too-high h = sym (cut ∙ and-none (leb low (getD part j 0)) _ (sym (and-off _ _ _ (le-ltb _ _ h) refl)))
+  too-high h = sym (cut ∙ off-right (leb low (getD part j 0)) _ (sym (and-off _ _ _ (le-ltb _ _ h) refl)))
 
   pub outside : on (getD part j 0) ≡ false → false ≡ risesFrom on n low (drop j part)
-  outside h = sym (cut ∙ and-none (leb low (getD part j 0)) _ (and-none (ltb (getD part j 0) n) _ (sym (and-off _ _ _ h refl))))
+  outside h = sym (cut ∙ off-right (leb low (getD part j 0)) _ (off-right (ltb (getD part j 0) n) _ (sym (and-off _ _ _ h refl))))
 
   pub goes-on : low ≤ getD part j 0 → getD part j 0 < n → on (getD part j 0) ≡ true → risesFrom on n (getD part j 0 + 1) (drop (j + 1) part) ≡ risesFrom on n low (drop j part)
   goes-on a b c = sym (cut ∙ (rw (le-leb low (getD part j 0) a, lt-ltb (getD part j 0) n b, c) refl))
