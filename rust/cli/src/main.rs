@@ -51,7 +51,8 @@ mandrikelo plan part.stl --scale 25.4 --floor 0 --radius 3 --stepover 4 \\\n    
 --moves part.csv \\\n      --clearance 20 --retract 12 --feed 11 --start 0,0,30")]
     Plan(plan::Asked),
     /// The highest point under a disk, at a point or swept along a line
-    #[command(after_help = "A line a question: the height, its bits, the triangles looked at, and what is touched there;\ntriangles, corners and edges are counted from 0, edge k from corner k to the next.\nStatus 1 if a question is refused.\n\n\
+    #[command(after_help = "A line a question: the height, its bits, the triangles looked at, and what is touched there;\n\
+triangles, corners and edges are counted from 0, edge k from corner k to the next.\nStatus 1 if a question is refused.\n\n\
 Examples:\n  mandrikelo height examples/parts/bearing_block.stl --floor -8 --radius 3 \\\n      --at 50,30 --at 0,0,100,60\n  \
 mandrikelo height examples/jobs/plate_with_boss.job                 its own questions\n  \
 mandrikelo height part.stl --floor 0 --radius 3 --points points.txt --json")]
