@@ -162,15 +162,8 @@ fn read(path: &Path) -> io::Result<(Seen, Content)> {
             ascii.feed(&chunk[..got]);
         }
     }
-    let mut seen = Seen {
-        path: path.into(),
-        form: Some(form),
-        size,
-        sha256: Some(format!("{:x}", sha.finalize())),
-        declared: None,
-        present: Some(0),
-        verdict: Verdict::Whole,
-    };
+    let sha256 = Some(format!("{:x}", sha.finalize()));
+    let mut seen = Seen { path: path.into(), form: Some(form), size, sha256, declared: None, present: Some(0), verdict: Verdict::Whole };
     let content = match form {
         Form::AsciiStl => text(&mut seen, ascii.expect("it was fed")),
         Form::BinaryStl => binary(&mut seen, &kept),

@@ -56,22 +56,7 @@ pub fn open(asked: &Asked) -> Result<Part, Trouble> {
             });
         }
     };
-    if asked.scale.is_none() && seen.form != Some(Form::Job) {
-        unit(&mesh).map_or(Ok(()), |what| {
-            Err(Trouble::use_of(
-                format!("{shown}: {what}"),
-                "say --scale 1 if it is in millimetres, --scale 25.4 if in inches, --scale 1000 if in metres",
-            ))
-        })?;
-    }
-    let scale = asked.scale.unwrap_or(1.0);
-    if seen.form == Some(Form::Job) && scale != 1.0 {
-        let what = format!("{shown} is a job: its floor, radius and questions are in its own unit");
-        return Err(Trouble::use_of(what, "leave --scale out, or make the job anew from the part"));
-    }
-    if !(scale > 0.0 && scale.is_finite()) {
-        return Err(Trouble::use_of(format!("--scale {scale} is no factor"), "say 1, 25.4, 1000 or another number over 0"));
-    }
+    let scale = scale(asked, seen.form == Some(Form::Job), &mesh)?;
     let mesh = if scale == 1.0 { mesh } else { Mesh::from_numbers(mesh.numbers().iter().map(|x| x * scale).collect()) };
     let missing = |name: &str, next: &str| Trouble::use_of(format!("{shown} is no job, so --{name} is needed"), next);
     Ok(Part {
@@ -83,6 +68,28 @@ pub fn open(asked: &Asked) -> Result<Part, Trouble> {
         raise: asked.raise,
         questions,
     })
+}
+
+/// The factor, if it is one, and if none is needed for a part of this size.
+fn scale(asked: &Asked, job: bool, mesh: &Mesh) -> Result<f64, Trouble> {
+    let shown = asked.part.display();
+    match asked.scale {
+        None => match unit(mesh).filter(|_| !job) {
+            None => Ok(1.0),
+            Some(what) => Err(Trouble::use_of(
+                format!("{shown}: {what}"),
+                "say --scale 1 if it is in millimetres, --scale 25.4 if in inches, --scale 1000 if in metres",
+            )),
+        },
+        Some(scale) if !(scale > 0.0 && scale.is_finite()) => {
+            Err(Trouble::use_of(format!("--scale {scale} is no factor"), "say 1, 25.4, 1000 or another number over 0"))
+        }
+        Some(scale) if job && scale != 1.0 => {
+            let what = format!("{shown} is a job: its floor, radius and questions are in its own unit");
+            Err(Trouble::use_of(what, "leave --scale out, or make the job anew from the part"))
+        }
+        Some(scale) => Ok(scale),
+    }
 }
 
 /// What is said of a part whose size looks like metres or inches.

@@ -185,6 +185,10 @@ fn promises(out: &mut String, planned: &Planned) {
         planned.part.radius,
         if planned.reach_tested { ", and none deeper than the cutting length less 16 tolerances" } else { "" }
     );
+    not_proved(out, planned);
+}
+
+fn not_proved(out: &mut String, planned: &Planned) {
     out.push_str("</ul>\n<p>Not proved: that the file is the part on the drawing; this program, which opened the file, drew the picture and wrote this page");
     if planned.part.seen.form == Some(Form::AsciiStl) {
         out.push_str("; the reading of an ASCII file, which carries no count");

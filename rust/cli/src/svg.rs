@@ -359,12 +359,14 @@ fn runs(out: &mut String, planned: &Planned, page: &Page) {
     }
 }
 
-/// The legend and how far down it goes.
-fn legend(planned: &Planned, rapids: &[&Move], x: f64) -> (String, f64) {
+/// A text of the legend.
+fn text(out: &mut String, x: f64, y: f64, words: &str) {
+    let _ = writeln!(out, "<text x=\"{}\" y=\"{}\">{}</text>", short(x), short(y), escape(words));
+}
+
+/// The levels in the legend, and how far down they go.
+fn levels(planned: &Planned, x: f64) -> (String, f64) {
     let (mut out, mut y) = (String::new(), TOP + 4.0);
-    let text = |out: &mut String, x: f64, y: f64, words: &str| {
-        let _ = writeln!(out, "<text x=\"{}\" y=\"{}\">{}</text>", short(x), short(y), escape(words));
-    };
     let colours = colours(planned);
     let by_level = planned.by_level();
     let line = |k: usize| format!("{}: {}, {}", rounded(planned.plan.levels[k].z, 4), many(by_level[k].0 as u64, "run"), rounded(by_level[k].1, 1));
@@ -397,6 +399,12 @@ fn legend(planned: &Planned, rapids: &[&Move], x: f64) -> (String, f64) {
         y += 16.0;
         text(&mut out, x, y, "tool under which nothing is higher");
     }
+    (out, y)
+}
+
+/// The legend and how far down it goes.
+fn legend(planned: &Planned, rapids: &[&Move], x: f64) -> (String, f64) {
+    let (mut out, mut y) = levels(planned, x);
     y += 30.0;
     let (from, to, at) = (short(x), short(x + 26.0), short(y - 4.0));
     let _ = writeln!(out, "<path d=\"M{from},{at}h18\" stroke=\"#444\" stroke-width=\"1.4\"/><path d=\"M{to},{at}l-9,-3.5v7z\" fill=\"#444\"/>");

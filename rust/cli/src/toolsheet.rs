@@ -110,7 +110,13 @@ fn tool_of(lines: &[(String, String)]) -> Result<Result<Tool, mandrikelo::Refusa
         let tool = Tool::from_sections(&sections);
         return Ok(tool.accepted().map(|()| tool));
     }
-    let has = |name: &str| seen.iter().any(|word| *word == name);
+    complete(&sheet, |name| seen.iter().any(|word| *word == name))?;
+    sheet.neck = neck_length.map(|length| Neck { length, radius_above: neck_radius.unwrap_or(0.0) });
+    Ok(Tool::from_sheet(&sheet))
+}
+
+/// Whether a sheet has every word that its shape needs.
+fn complete(sheet: &Sheet, has: impl Fn(&str) -> bool) -> Result<(), Wrong> {
     let mut needed = vec!["shape", "diameter", "cutting-length", "stickout"];
     match sheet.shape {
         Shape::Chamfer => needed.extend(["tip-diameter", "tip-height"]),
@@ -124,11 +130,10 @@ fn tool_of(lines: &[(String, String)]) -> Result<Result<Tool, mandrikelo::Refusa
     if has("neck-length") || has("radius-above-neck") {
         needed.extend(["neck-length", "radius-above-neck"]);
     }
-    if let Some(name) = needed.iter().find(|name| !has(name)) {
-        return Err(Wrong(format!("{name} is missing")));
+    match needed.iter().find(|name| !has(name)) {
+        Some(name) => Err(Wrong(format!("{name} is missing"))),
+        None => Ok(()),
     }
-    sheet.neck = neck_length.map(|length| Neck { length, radius_above: neck_radius.unwrap_or(0.0) });
-    Ok(Tool::from_sheet(&sheet))
 }
 
 fn shape(word: &str) -> Result<Shape, String> {
