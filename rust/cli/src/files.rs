@@ -133,12 +133,16 @@ pub fn in_words(error: &io::Error) -> String {
     }
 }
 
-fn read(path: &Path) -> io::Result<(Seen, Content)> {
-    // a pipe or a device would not come to an end
-    if !std::fs::metadata(path)?.is_file() {
-        return Err(io::Error::new(io::ErrorKind::Other, "not a regular file"));
+/// A file that is opened; a pipe or a device would not come to an end.
+fn regular(path: &Path) -> io::Result<File> {
+    if std::fs::metadata(path)?.is_file() {
+        return File::open(path);
     }
-    let mut file = File::open(path)?;
+    Err(io::Error::new(io::ErrorKind::Other, "not a regular file"))
+}
+
+fn read(path: &Path) -> io::Result<(Seen, Content)> {
+    let mut file = regular(path)?;
     let told = file.metadata()?.len();
     let mut kept = Vec::with_capacity(told.min(KEPT as u64) as usize + 1);
     (&mut file).take(KEPT as u64).read_to_end(&mut kept)?;

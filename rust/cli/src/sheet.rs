@@ -50,16 +50,13 @@ fn rows(pairs: &[(&str, String)]) -> String {
     format!("<table>{}</table>\n", lines.collect::<String>())
 }
 
-fn page(planned: &Planned) -> String {
-    let (name, seen) = (escape(&planned.part.name()), &planned.part.seen);
-    let mut out = format!(
-        "<!DOCTYPE html>\n<html lang=\"en\"><head><meta charset=\"utf-8\"><meta name=\"viewport\" content=\"width=device-width\">\n\
-         <title>Release sheet: {name}</title>\n<style>{STYLE}</style></head>\n<body>\n<h1>{name}</h1>\n"
-    );
+/// What is said of the file.
+fn file(planned: &Planned) -> [(&'static str, String); 9] {
+    let seen = &planned.part.seen;
     let count = |n: Option<u64>| n.map_or("none, an ASCII file carries no count".into(), thousands);
     let (low, high) = planned.part.extent();
     let size: Vec<String> = (0..3).map(|k| rounded(high[k] - low[k], 3)).collect();
-    let file = [
+    [
         ("verdict", "<span class=\"whole\">whole</span>".into()),
         ("SHA-256", format!("<code>{}</code>", seen.sha256.as_deref().unwrap_or("-"))),
         ("kind of file", seen.form.map_or("-", Form::name).into()),
@@ -72,7 +69,15 @@ fn page(planned: &Planned) -> String {
         }),
         ("size", size.join(" by ")),
         ("z", format!("{} to {}", rounded(low[2], 3), rounded(high[2], 3))),
-    ];
+    ]
+}
+
+fn page(planned: &Planned) -> String {
+    let name = escape(&planned.part.name());
+    let mut out = format!(
+        "<!DOCTYPE html>\n<html lang=\"en\"><head><meta charset=\"utf-8\"><meta name=\"viewport\" content=\"width=device-width\">\n\
+         <title>Release sheet: {name}</title>\n<style>{STYLE}</style></head>\n<body>\n<h1>{name}</h1>\n"
+    );
     let asked: Vec<(&str, String)> = planned.named().into_iter().map(|(name, value)| (name, escape(&value))).collect();
     let plan = [
         ("levels", thousands(planned.plan.levels.len() as u64)),
@@ -84,7 +89,7 @@ fn page(planned: &Planned) -> String {
     let _ = write!(
         out,
         "<div class=\"two\"><div><h2>The file</h2>{}</div><div><h2>Asked for</h2>{}</div><div><h2>The plan</h2>{}</div></div>\n",
-        rows(&file), rows(&asked), rows(&plan)
+        rows(&file(planned)), rows(&asked), rows(&plan)
     );
     let _ = write!(out, "<h2>Picture</h2>\n{}", svg::draw(planned, None, &format!("Flat runs of {}", planned.part.name())));
     levels(&mut out, planned);

@@ -67,12 +67,14 @@ impl From<String> for Wrong {
     }
 }
 
+/// A sheet on which nothing stands yet.
+const EMPTY: Sheet = Sheet {
+    shape: Shape::Beam, enclose: false, diameter: 0., tip_diameter: 0., tip_height: 0., cutting_length: 0., stickout: 0., radius_above: 0.,
+    neck: None, holders: Vec::new(),
+};
+
 fn tool_of(lines: &[(String, String)]) -> Result<Result<Tool, mandrikelo::Refusal>, Wrong> {
-    let mut sections = Vec::new();
-    let mut sheet = Sheet {
-        shape: Shape::Beam, enclose: false, diameter: 0., tip_diameter: 0., tip_height: 0., cutting_length: 0., stickout: 0., radius_above: 0.,
-        neck: None, holders: Vec::new(),
-    };
+    let (mut sections, mut sheet) = (Vec::new(), EMPTY);
     let (mut neck_length, mut neck_radius, mut seen) = (None, None, Vec::new());
     for (name, rest) in lines {
         if seen.contains(&name) && !matches!(&name[..], "holder" | "section") {
@@ -103,10 +105,10 @@ fn tool_of(lines: &[(String, String)]) -> Result<Result<Tool, mandrikelo::Refusa
             _ => return Err(Wrong(format!("{name} is no word of a sheet"))),
         }
     }
+    if !sections.is_empty() && sections.len() < lines.len() {
+        return Err(Wrong("sections stand there beside other words".into()));
+    }
     if !sections.is_empty() {
-        if sections.len() < lines.len() {
-            return Err(Wrong("sections stand there beside other words".into()));
-        }
         let tool = Tool::from_sections(&sections);
         return Ok(tool.accepted().map(|()| tool));
     }
