@@ -149,19 +149,20 @@ static inline const char *mandrikelo_refusal_text(uint32_t refusal)
     return "no such refusal";
 }
 
-/* How much room a build of this mesh needs, floor and r being those of the build: rooms[0] starts and rooms[1] members. A build with these or
- * more, and five box numbers a triangle, is accepted; with less starts it is refused by 5, with enough starts and less members by 6. Refusals in
- * their order: 1, 3, 2, 4, then 5 and 6 where no table would be large enough (columns or rows over 65,536, cells over 1,048,576; members over
- * 16,777,216): then no build of this mesh is accepted, and rooms are 0, 0. It takes no table, and less than half of a build's time. */
+/* How much room a build of this mesh needs, floor and r being those of the build: rooms[0] starts and rooms[1] members. A build with these
+ * or more, and five box numbers a triangle, is accepted; with fewer starts it is refused by 5, with enough starts and fewer members by 6.
+ * Refusals in their order: 1, 3, 2, 4, then 5 and 6 where no table would be large enough (columns or rows over 65,536, cells over
+ * 1,048,576; members over 16,777,216): then no build of this mesh is accepted, and rooms are 0, 0. It takes no table, and less than half
+ * of a build's time. */
 uint32_t mandrikelo_rooms(const double *mesh, size_t mesh_len, double floor, double r, size_t rooms[2] /* starts, members */);
 
-/* The index of a mesh, which all questions and the plan want. floor: magnitude at most 1e6; it is the lowest answer of any height.
- * r: 0 to 1e6; the radius of the plan's tool, and a hint at the size of cells, while a question may ask with any radius. `starts` gets
- * cells + 1 entries and `members` the triangle numbers of cell after cell; entries beyond those keep what they held. What suffices:
- * mandrikelo_rooms tells both; else starts_len of (k + 1) * (k + 1) + 1, where k is the root of n rounded down, and members_len by trial, 22 n
- * for nine parts of ten and never more than 16,777,216. `boxes` is five numbers a triangle, no more and no less, and gets the box of each:
- * low x, low y, high x, high y, high z. Refusals in their order: 1, 23, 3, 2, 4, 5, 6. An index is good as long as its mesh is not changed in
- * any number. */
+/* The index of a mesh, which all questions and the plan want. floor: magnitude at most 1e6; it is the lowest answer of any height. r: 0 to
+ * 1e6; the radius of the plan's tool, and a hint at the size of cells, while a question may ask with any radius. `starts` gets cells + 1
+ * entries and `members` the triangle numbers of cell after cell; entries beyond those keep what they held. What suffices: mandrikelo_rooms
+ * tells both; else starts_len of (k + 1) * (k + 1) + 1, where k is the root of n rounded down, and members_len by trial, 22 n for nine
+ * parts of ten and never more than 16,777,216. `boxes` is five numbers a triangle, no more and no less, and gets the box of each: low x,
+ * low y, high x, high y, high z. Refusals in their order: 1, 23, 3, 2, 4, 5, 6. An index is good as long as its mesh is not changed in any
+ * number. */
 uint32_t mandrikelo_build(const double *mesh, size_t mesh_len, double floor, double r,
     uint32_t *starts, size_t starts_len, uint32_t *members, size_t members_len, double *boxes, size_t boxes_len,
     double measures[6] /* origin x, origin y, cell, floor, eps, r */, uint32_t sizes[3] /* n, columns, rows */,
@@ -176,12 +177,12 @@ uint32_t mandrikelo_raise(double *mesh, size_t mesh_len, double *boxes, size_t b
     double raised[6] /* as measures */, uint32_t raised_sizes[3] /* as sizes */,
     uint32_t bad[2] /* after 4: the triangle, which of its nine numbers; else 0, 0 */);
 
-/* Whether measures, sizes and tables are the index of this mesh: 0 exactly if mandrikelo_build makes them of it, with the floor and the r that
- * stand in measures, or mandrikelo_raise has made them so; else 1, 23 or 7, an empty mesh and numbers out of their ranges included. All
- * numbers are compared to the bit, zeros of two signs too; entries of starts and members that the index does not need may hold anything.
- * Nothing is lent and nothing written. It takes about the time of a build. Call it when mesh and index may have come apart: after they were
- * read from a file or handed on by another program, when one of the two may have been changed or exchanged, and after a part was moved in
- * any way but by mandrikelo_raise. The questions and the plan do not look for it, see 7 below. */
+/* Whether measures, sizes and tables are the index of this mesh: 0 exactly if mandrikelo_build makes them of it, with the floor and the r
+ * that stand in measures, or mandrikelo_raise has made them so; else 1, 23 or 7, an empty mesh and numbers out of their ranges included.
+ * All numbers are compared to the bit, zeros of two signs too; entries of starts and members that the index does not need may hold
+ * anything. Nothing is lent and nothing written. It takes about the time of a build. Call it when mesh and index may have come apart:
+ * after they were read from a file or handed on by another program, when one of the two may have been changed or exchanged, and after a
+ * part was moved in any way but by mandrikelo_raise. The questions and the plan do not look for it, see 7 below. */
 uint32_t mandrikelo_check_index(const double *mesh, size_t mesh_len, const double measures[6], const uint32_t sizes[3],
     const uint32_t *starts, size_t starts_len, const uint32_t *members, size_t members_len,
     const double *boxes, size_t boxes_len);

@@ -48,10 +48,10 @@ pub record RoomsPromise (mesh : List Float) (floor r : Float) (q : Rooms) : Type
   -- with these rooms, or more, it is accepted
   pub enough : q .refusal ≡ 0 → (s m : List ℕ) (x : List Float) → isBoxed mesh x ≡ true → q .starts ≤ length s → q .members ≤ length m
       → buildOf mesh floor r s m x .built .refusal ≡ 0
-  -- with less starts it is refused by 5
+  -- with fewer starts it is refused by 5
   pub fewerStarts : q .refusal ≡ 0 → (s m : List ℕ) (x : List Float) → isBoxed mesh x ≡ true → length s < q .starts
       → buildOf mesh floor r s m x .built .refusal ≡ 5
-  -- with enough starts and less members it is refused by 6
+  -- with enough starts and fewer members it is refused by 6
   pub fewerMembers : q .refusal ≡ 0 → (s m : List ℕ) (x : List Float) → isBoxed mesh x ≡ true → q .starts ≤ length s → length m < q .members
       → buildOf mesh floor r s m x .built .refusal ≡ 6
   -- and where the answer is a refusal, no tables help
