@@ -1,5 +1,5 @@
 //! Links the planner's archive: ARCHIVE names it, and without it the one that `./archive` writes, target/staticlib/libmandrikelo.a.
-use std::{env, fs, path::PathBuf};
+use std::{env, path::PathBuf};
 
 fn main() {
     println!("cargo:rerun-if-env-changed=ARCHIVE");
@@ -11,15 +11,4 @@ fn main() {
     let stem = archive.file_stem().and_then(|stem| stem.to_str()).and_then(|stem| stem.strip_prefix("lib"));
     println!("cargo:rustc-link-search=native={}", folder.display());
     println!("cargo:rustc-link-lib=static={}", stem.expect("ARCHIVE is called libNAME.a"));
-    rooms(&here);
-}
-
-/// Sets `cfg(rooms)` if the header declares the door that tells the rooms of an index.
-fn rooms(here: &std::path::Path) {
-    let header = here.join("../../include/mandrikelo.h");
-    println!("cargo:rerun-if-changed={}", header.display());
-    println!("cargo:rustc-check-cfg=cfg(rooms)");
-    if fs::read_to_string(&header).is_ok_and(|text| text.contains("\nuint32_t mandrikelo_rooms(")) {
-        println!("cargo:rustc-cfg=rooms");
-    }
 }

@@ -103,7 +103,10 @@ mod c {
         pub fn mandrikelo_read_stl(
             bytes: *const u8, bytes_len: usize, mesh: *mut f64, mesh_len: usize, count: *mut [u32; 1],
         ) -> u32;
-        #[cfg(rooms)]
+        pub fn mandrikelo_check_index(
+            mesh: *const f64, mesh_len: usize, measures: *const [f64; 6], sizes: *const [u32; 3],
+            starts: *const u32, starts_len: usize, members: *const u32, members_len: usize, boxes: *const f64, boxes_len: usize,
+        ) -> u32;
         pub fn mandrikelo_rooms(mesh: *const f64, mesh_len: usize, floor: f64, r: f64, rooms: *mut [usize; 2]) -> u32;
         pub fn mandrikelo_look_over(
             bytes: *const u8, bytes_len: usize, mesh: *const f64, mesh_len: usize, measures: *const [f64; 6], sizes: *const [u32; 3],
@@ -298,8 +301,17 @@ pub fn read_stl(bytes: &[u8], mesh: &mut [f64], count: &mut [u32; 1]) -> u32 {
     unsafe { c::mandrikelo_read_stl(bytes.as_ptr(), bytes.len(), mesh.as_mut_ptr(), mesh.len(), count) }
 }
 
+/// 0 exactly when these are the index of this mesh.
+pub fn check_index(t: &Tables) -> u32 {
+    unsafe {
+        c::mandrikelo_check_index(
+            t.mesh.as_ptr(), t.mesh.len(), t.measures, t.sizes, t.starts.as_ptr(), t.starts.len(), t.members.as_ptr(), t.members.len(),
+            t.boxes.as_ptr(), t.boxes.len(),
+        )
+    }
+}
+
 /// `rooms` gets the entries of starts and of members that a build of this mesh needs.
-#[cfg(rooms)]
 pub fn rooms(mesh: &[f64], floor: f64, r: f64, rooms: &mut [usize; 2]) -> u32 {
     unsafe { c::mandrikelo_rooms(mesh.as_ptr(), mesh.len(), floor, r, rooms) }
 }

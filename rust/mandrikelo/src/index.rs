@@ -104,22 +104,33 @@ impl<'mesh> Index<'mesh> {
     /// assert_eq!(Index::build(&mesh, 0.0, 1.0).unwrap_err(), Refusal::Coordinate { triangle: 0, number: 7 });
     /// ```
     pub fn build(mesh: &'mesh Mesh, floor: f64, r: f64) -> Result<Index<'mesh>, Refusal> {
-        let (starts, mut room) = rooms(mesh, floor, r)?;
-        loop {
-            let (mut starts, mut members, mut boxes) = (vec![0; starts], vec![0; room], vec![0.; 5 * mesh.len()]);
-            let mut built = Built::default();
-            match Refusal::of(door::build(&mesh.numbers, floor, r, &mut starts, &mut members, &mut boxes, &mut built)) {
-                Err(Refusal::Members) if room < MOST_MEMBERS => room = (room * 4).min(MOST_MEMBERS),
-                Err(refusal) => return Err(refusal.at(built.bad)),
-                Ok(()) => {
-                    starts.truncate(built.sizes[1] as usize * built.sizes[2] as usize + 1);
-                    members.truncate(starts.last().map_or(0, |end| *end as usize));
-                    members.shrink_to_fit();
-                    let (starts, members) = (Arc::new(starts), Arc::new(members));
-                    return Ok(Index { mesh, measures: built.measures, sizes: built.sizes, starts, members, boxes });
-                }
-            }
+        let mut rooms = [0; 2];
+        match Refusal::of(door::rooms(&mesh.numbers, floor, r, &mut rooms)) {
+            // which coordinate it is, the build tells
+            Ok(()) | Err(Refusal::Coordinate { .. }) => {}
+            Err(refusal) => return Err(refusal),
         }
+        let (mut starts, mut members, mut boxes) = (vec![0; rooms[0]], vec![0; rooms[1]], vec![0.; 5 * mesh.len()]);
+        let mut built = Built::default();
+        let number = door::build(&mesh.numbers, floor, r, &mut starts, &mut members, &mut boxes, &mut built);
+        Refusal::of(number).map_err(|refusal| refusal.at(built.bad))?;
+        let (starts, members) = (Arc::new(starts), Arc::new(members));
+        Ok(Index { mesh, measures: built.measures, sizes: built.sizes, starts, members, boxes })
+    }
+
+    /// Asks the planner whether this is the index of its mesh, built or raised. Of an index that came from [`Index::build`] or
+    /// [`Index::raised`] it is; what else is found, refusal 7, is damaged memory.
+    ///
+    /// ```
+    /// # use mandrikelo::{Index, Mesh};
+    /// # let mesh = Mesh::from_numbers(vec![0., 0., 2., 4., 0., 2., 0., 4., 2.]);
+    /// let index = Index::build(&mesh, 0.0, 1.0)?;
+    /// index.check()?;
+    /// index.raised(0.5, &mut Mesh::default())?.check()?;
+    /// # Ok::<(), mandrikelo::Refusal>(())
+    /// ```
+    pub fn check(&self) -> Result<(), Refusal> {
+        Refusal::of(door::check_index(&self.tables()))
     }
 
     /// The index of this part on parallels: `to` gets the mesh with the amount added to every z, and what comes back is its index, the
@@ -232,26 +243,6 @@ impl<'mesh> Index<'mesh> {
             boxes: &self.boxes,
         }
     }
-}
-
-pub(crate) const MOST_MEMBERS: usize = 16_777_216;
-
-/// The entries of starts and members that a build needs, by the planner.
-#[cfg(rooms)]
-fn rooms(mesh: &Mesh, floor: f64, r: f64) -> Result<(usize, usize), Refusal> {
-    let mut rooms = [0; 2];
-    match Refusal::of(door::rooms(&mesh.numbers, floor, r, &mut rooms)) {
-        // which coordinate it is, the build tells
-        Err(Refusal::Coordinate { .. }) => Ok((0, 0)),
-        told => told.map(|()| (rooms[0], rooms[1])),
-    }
-}
-
-/// The entries of starts and members for a build: starts that always suffice, members that mostly do.
-#[cfg(not(rooms))]
-fn rooms(mesh: &Mesh, _floor: f64, _r: f64) -> Result<(usize, usize), Refusal> {
-    let side = (mesh.len() as f64).sqrt() as usize + 2;
-    Ok(((side * side + 1).min(1_048_577), (24 * mesh.len() + 64).min(MOST_MEMBERS)))
 }
 
 fn answer(number: u32, out: Answered, marks: &mut Marks) -> Result<Answer, Refusal> {

@@ -1,7 +1,10 @@
 //! Whole micrometres: version 2 of the job file, the index of such a mesh, and the set-up height.
 use crate::door::{self, BuiltUm};
-use crate::index::{Marks, MOST_MEMBERS};
+use crate::index::Marks;
 use crate::{Refusal, MOST_TRIANGLES};
+
+/// A build in micrometres is tried with more room for members up to this, which is the most that it takes.
+const MOST_MEMBERS: usize = 16_777_216;
 
 /// Triangles, nine whole numbers each: x, y, z of its three corners, in micrometres.
 #[derive(Clone, Debug, Default, PartialEq, Eq)]
