@@ -16,7 +16,7 @@ use Rattle.bound.proofs.Unit.{I, Unit, unit-finite, upper-stays, lower-stays}
 use Rattle.numbers.proofs.Branches.{both-true}
 use Rattle.bull_pass.proofs.Blocks.{holds}
 use Rattle.bull_gap.specs.Inside.{inOrder, insideOf}
-use Rattle.bull_gap.proofs.Bracket.{upper-in, lower-in, upper-back, lower-back}
+use Rattle.caps.proofs.Bracket.{upper-within as upper-in, lower-within as lower-in, upper-turned as upper-back, lower-turned as lower-back}
 
 -- t lies from lo to hi
 pub record Among (lo hi t : Float) : Type 0 where

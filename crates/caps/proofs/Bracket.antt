@@ -424,7 +424,7 @@ module _ (a b : Float) (u : Unit a) (v : Unit b) (o : T (le b a)) where
   straight = ap (λ (z : Float). z ⊗ d) phi-is ∙ mul-swap Φ d tt fd
 
   -- a + m * phi is a - d * phi, and b - m * phi is b + d * phi
-  upper-turned : T (le b (golden.upper a b)) × T (le (golden.upper a b) a)
+  pub upper-turned : T (le b (golden.upper a b)) × T (le (golden.upper a b) a)
   upper-turned =
       let k = rw straight at (lower-within b a v u o) in
       let e : a ⊖ d ⊗ Φ ≡ a ⊕ neg (d ⊗ Φ) = unfold sub in refl in
@@ -433,7 +433,7 @@ module _ (a b : Float) (u : Unit a) (v : Unit b) (o : T (le b a)) where
         le-on (a ⊕ m ⊗ Φ) (a ⊖ d ⊗ Φ) a (rw e (add-right binary64 (m ⊗ Φ) (neg (d ⊗ Φ)) a ft fp ra up₁)) (k .1),
       )
 
-  lower-turned : T (le b (golden.lower a b)) × T (le (golden.lower a b) a)
+  pub lower-turned : T (le b (golden.lower a b)) × T (le (golden.lower a b) a)
   lower-turned =
       let k = rw straight at (upper-within b a v u o) in
       let e : b ⊖ neg (d ⊗ Φ) ≡ b ⊕ d ⊗ Φ = add-is binary64 b (d ⊗ Φ) in

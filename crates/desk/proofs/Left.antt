@@ -18,7 +18,8 @@ use Rattle.header.proofs.Ands.{from-is}
 use Rattle.ask.specs.declared.Finding.{Finding}
 use Rattle.ask.specs.declared.Finding.the-variants.{Neither, Clear, Blocked}
 use Rattle.ask.specs.Ask.{findingNumber}
-use Rattle.desk.specs.Doors.{BuiltLeft, measuresOf, sizesOf, builtLeft, builtLeftBy, findingFrom}
+use Rattle.handed.specs.Handed.{measuresOf, sizesOf}
+use Rattle.desk.specs.Doors.{BuiltLeft, builtLeft, builtLeftBy, findingFrom}
 
 pub record Narrow (h : Header) : Type 0 where
   pub n : h .n < 2 ^ 32

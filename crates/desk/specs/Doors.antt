@@ -6,21 +6,13 @@ use lib.Dec.{eqb}
 use lib.Ieee.{Float}
 use lib.ListN.{getD}
 use Rattle.numbers.specs.Reals.{f0, num}
-use Rattle.grid.specs.declared.Header.{Header}
 use Rattle.grid.specs.Build.{Outcome}
-use Rattle.grid.specs.Index.{Index, indexOf}
+use Rattle.handed.specs.Handed.{measuresOf, sizesOf}
 use Rattle.ask.specs.declared.Answer.{Answer}
 use Rattle.ask.specs.declared.Ruling.{Ruling}
 use Rattle.ask.specs.declared.Finding.{Finding}
 use Rattle.ask.specs.declared.Finding.the-variants.{Neither, Clear, Blocked}
 use Rattle.ask.specs.Ask as asked
-
--- A header as C holds it: its measures (origin x, origin y, cell, floor, eps, r) and its sizes (n, columns, rows).
-abbrev pub measuresOf : Header → List Float
-measuresOf h = h .«origin_x» ∷ h .«origin_y» ∷ h .cell ∷ h .floor ∷ h .eps ∷ h .r ∷ []
-
-abbrev pub sizesOf : Header → List ℕ
-sizesOf h = h .n ∷ h .columns ∷ h .rows ∷ []
 
 -- An index built: the refusal, the three tables, measures and sizes, and which number was bad; a refusal leaves zeros in measures and sizes, and any outcome
 -- but 4 leaves zeros in the last.
@@ -44,25 +36,6 @@ builtLeftBy o =
     cond (eqb k 0)
     (builtLeft k (o .starts) (o .members) (o .boxes) (measuresOf h) (sizesOf h) bad)
     (builtLeft k (o .starts) (o .members) (o .boxes) (f0 ∷ f0 ∷ f0 ∷ f0 ∷ f0 ∷ f0 ∷ []) (0 ∷ 0 ∷ 0 ∷ []) bad)
-
--- The header that C hands over.
-unfoldable pub headerFrom : List Float → List ℕ → Header
-headerFrom fs ns =
-    record {
-      n = getD ns 0 0;
-      «origin_x» = num fs 0;
-      «origin_y» = num fs 1;
-      cell = num fs 2;
-      columns = getD ns 1 0;
-      rows = getD ns 2 0;
-      floor = num fs 3;
-      eps = num fs 4;
-      r = num fs 5;
-    }
-
--- The index that C hands over.
-abbrev pub indexFrom : List Float → List Float → List ℕ → List ℕ → List ℕ → List Float → Index
-indexFrom mesh fs ns starts members boxes = indexOf mesh (headerFrom fs ns) starts members boxes
 
 -- A height asked: the refusal, the marks, the height, the count and the stamp afterwards; the triangle that last raised the height and what of it is touched.
 pub record HeightLeft : Type 0 where

@@ -1,7 +1,8 @@
 // What C and Rust call of the index, the questions and the plan: include/mandrikelo.h declares these functions. Each hands its arguments to the
 // library and lays the answer into fixed arrays; the contract is the library's own, and asks nothing of the caller.
 ghost use mathlib.Core.Path.{_≡_};
-ghost use Rattle.desk.specs.Doors.{builtLeft, builtLeftBy, headerFrom, indexFrom, heightLeft, heightLeftBy, answerFrom};
+ghost use Rattle.handed.specs.Handed.{indexFrom};
+ghost use Rattle.desk.specs.Doors.{builtLeft, builtLeftBy, heightLeft, heightLeftBy, answerFrom};
 ghost use Rattle.desk.specs.Doors.{verdictLeft, verdictLeftBy, rulingFrom};
 ghost use Rattle.grid.specs.Build.{buildOf};
 ghost use Rattle.grid.specs.Boxes.{isBoxed};
@@ -57,30 +58,6 @@ pub extern "C" fn mandrikelo_build(
     k
 }
 
-// A size from C, as the header has it.
-fn wide(x: u32) -> usize
-    ensures { λ n. ⌜ n ≡ x ⌝ }
-{
-    x as usize
-}
-
-// The header that C hands over in two arrays.
-fn header_from(measures: &[f64; 6], sizes: &[u32; 3]) -> Header
-    ensures { λ h. ⌜ h ≡ headerFrom (now (measures .entry)) (now (sizes .entry)) ⌝ }
-{
-    Header {
-        n: wide(sizes[0]),
-        origin_x: measures[0],
-        origin_y: measures[1],
-        cell: measures[2],
-        columns: wide(sizes[1]),
-        rows: wide(sizes[2]),
-        floor: measures[3],
-        eps: measures[4],
-        r: measures[5],
-    }
-}
-
 // The highest part point under the disk of radius r swept from (px, py) to (qx, qy).
 #[no_mangle]
 pub extern "C" fn mandrikelo_max_height(
@@ -114,7 +91,7 @@ pub extern "C" fn mandrikelo_max_height(
 {
     let a = height::max_height(
         mesh,
-        header_from(measures, sizes),
+        handed::header_from(measures, sizes),
         starts,
         members,
         boxes,
@@ -171,7 +148,7 @@ pub extern "C" fn mandrikelo_max_bull(
 {
     let a = contact::max_bull(
         mesh,
-        header_from(measures, sizes),
+        handed::header_from(measures, sizes),
         starts,
         members,
         boxes,
@@ -226,7 +203,7 @@ pub extern "C" fn mandrikelo_max_sections(
 {
     let a = contact::max_sections(
         mesh,
-        header_from(measures, sizes),
+        handed::header_from(measures, sizes),
         starts,
         members,
         boxes,
@@ -293,7 +270,7 @@ pub extern "C" fn mandrikelo_bull_chord_clear(
     };
     let a = chords::bull_chord_clear(
         mesh,
-        header_from(measures, sizes),
+        handed::header_from(measures, sizes),
         starts,
         members,
         boxes,
@@ -355,7 +332,7 @@ pub extern "C" fn mandrikelo_sections_chord_clear(
     };
     let a = chords::sections_chord_clear(
         mesh,
-        header_from(measures, sizes),
+        handed::header_from(measures, sizes),
         starts,
         members,
         boxes,
@@ -508,7 +485,7 @@ pub extern "C" fn mandrikelo_plan(
         (now (boxes .entry)))
         (parametersFrom (now (parameters .entry))) (axisFrom axis) (plannedFrom k (now (lengths .exit)) (now (counts .exit)))) ⌝ }
 {
-    let h = header_from(measures, sizes);
+    let h = handed::header_from(measures, sizes);
     let p = parameters_from(parameters);
     let a = plan_along(
         mesh,

@@ -2,32 +2,8 @@
 // library and lays the verdict into a fixed array; the contract is the library's own, and asks nothing of the caller.
 ghost use mathlib.Core.Path.{_≡_};
 ghost use Rattle.look_over.specs.Verdict.{lookOverOf};
-ghost use Rattle.desk_paths.specs.Paths.{headerFrom, indexFrom, lookedLeft, lookedLeftBy, Told};
-use grid::Header;
-
-// A size from C, as the header has it.
-fn wide(x: u32) -> usize
-    ensures { λ n. ⌜ n ≡ x ⌝ }
-{
-    x as usize
-}
-
-// The header that C hands over in two arrays.
-fn header_from(measures: &[f64; 6], sizes: &[u32; 3]) -> Header
-    ensures { λ h. ⌜ h ≡ headerFrom (now (measures .entry)) (now (sizes .entry)) ⌝ }
-{
-    Header {
-        n: wide(sizes[0]),
-        origin_x: measures[0],
-        origin_y: measures[1],
-        cell: measures[2],
-        columns: wide(sizes[1]),
-        rows: wide(sizes[2]),
-        floor: measures[3],
-        eps: measures[4],
-        r: measures[5],
-    }
-}
+ghost use Rattle.handed.specs.Handed.{indexFrom};
+ghost use Rattle.desk_paths.specs.Paths.{lookedLeft, lookedLeftBy, Told};
 
 // Whether a list of moves passes, or its first bad move with the reason.
 #[no_mangle]
@@ -55,7 +31,7 @@ pub extern "C" fn mandrikelo_look_over(
     let a = look_over::look_over(
         bytes,
         mesh,
-        header_from(measures, sizes),
+        handed::header_from(measures, sizes),
         starts,
         members,
         boxes,

@@ -12,7 +12,8 @@ use Rattle.grid.specs.declared.Header.{Header}
 use Rattle.grid.specs.declared.Built.{Built}
 use Rattle.grid.specs.Build.{toldWith, refusedBy, acceptedWith}
 use Rattle.raise.specs.Raise.{lifted, toppedOf, raisedHeader, refusalOf, Raised, left, raiseOf, RaisePromise}
-use Rattle.desk_raise.specs.Raising.{measuresOf, sizesOf, headerFrom, builtFrom, RaisedLeft, raisedLeft, raisedLeftBy}
+use Rattle.handed.specs.Handed.{measuresOf, sizesOf, headerFrom}
+use Rattle.desk_raise.specs.Raising.{builtFrom, RaisedLeft, raisedLeft, raisedLeftBy}
 
 abbrev zeros : Raised → RaisedLeft
 zeros o =

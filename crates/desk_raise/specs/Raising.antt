@@ -5,31 +5,10 @@ use Prim.Native.Nat.{ℕ}
 use lib.Dec.{eqb}
 use lib.Ieee.{Float}
 use lib.ListN.{getD}
-use Rattle.numbers.specs.Reals.{f0, num}
-use Rattle.grid.specs.declared.Header.{Header}
+use Rattle.numbers.specs.Reals.{f0}
 use Rattle.grid.specs.declared.Built.{Built}
+use Rattle.handed.specs.Handed.{measuresOf, sizesOf, headerFrom}
 use Rattle.raise.specs.Raise.{Raised}
-
--- A header as C holds it: its measures (origin x, origin y, cell, floor, eps, r) and its sizes (n, columns, rows).
-abbrev pub measuresOf : Header → List Float
-measuresOf h = h .«origin_x» ∷ h .«origin_y» ∷ h .cell ∷ h .floor ∷ h .eps ∷ h .r ∷ []
-
-abbrev pub sizesOf : Header → List ℕ
-sizesOf h = h .n ∷ h .columns ∷ h .rows ∷ []
-
-unfoldable pub headerFrom : List Float → List ℕ → Header
-headerFrom fs ns =
-    record {
-      n = getD ns 0 0;
-      «origin_x» = num fs 0;
-      «origin_y» = num fs 1;
-      cell = num fs 2;
-      columns = getD ns 1 0;
-      rows = getD ns 2 0;
-      floor = num fs 3;
-      eps = num fs 4;
-      r = num fs 5;
-    }
 
 -- The answer that C reads off its arrays.
 abbrev pub builtFrom : ℕ → List Float → List ℕ → List ℕ → Built

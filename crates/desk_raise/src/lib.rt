@@ -2,32 +2,8 @@
 // fixed arrays; the contract is the library's own, and asks nothing of the caller.
 ghost use mathlib.Core.Path.{_≡_};
 ghost use Rattle.raise.specs.Raise.{raiseOf, RaisePromise};
-ghost use Rattle.desk_raise.specs.Raising.{headerFrom, builtFrom, raisedLeft, raisedLeftBy};
-use grid::Header;
-
-// A size from C, as the header has it.
-fn wide(x: u32) -> usize
-    ensures { λ n. ⌜ n ≡ x ⌝ }
-{
-    x as usize
-}
-
-// The header that C hands over in two arrays.
-fn header_from(measures: &[f64; 6], sizes: &[u32; 3]) -> Header
-    ensures { λ h. ⌜ h ≡ headerFrom (now (measures .entry)) (now (sizes .entry)) ⌝ }
-{
-    Header {
-        n: wide(sizes[0]),
-        origin_x: measures[0],
-        origin_y: measures[1],
-        cell: measures[2],
-        columns: wide(sizes[1]),
-        rows: wide(sizes[2]),
-        floor: measures[3],
-        eps: measures[4],
-        r: measures[5],
-    }
-}
+ghost use Rattle.handed.specs.Handed.{headerFrom};
+ghost use Rattle.desk_raise.specs.Raising.{builtFrom, raisedLeft, raisedLeftBy};
 
 // One amount added to every z of a mesh, with its boxes; raised and raised_sizes get the new header's measures and sizes; after 4 bad holds the triangle and which
 // of its nine numbers came first, else 0 and 0.
@@ -47,7 +23,7 @@ pub extern "C" fn mandrikelo_raise(
     ensures { λ k. ⌜ RaisePromise (now (mesh .entry)) (now (boxes .entry)) (headerFrom (now (measures .entry)) (now (sizes .entry)))
         (now (mesh .exit)) (now (boxes .exit)) (builtFrom k (now (raised .exit)) (now («raised_sizes» .exit)) (now (bad .exit))) ⌝ }
 {
-    let b = raise::raise(mesh, boxes, header_from(measures, sizes), amount);
+    let b = raise::raise(mesh, boxes, handed::header_from(measures, sizes), amount);
     let k = b.refusal;
     let triangle = b.triangle;
     let number = b.number;

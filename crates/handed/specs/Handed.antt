@@ -1,5 +1,5 @@
 -- A header and an index as C hands them over: measures (origin x, origin y, cell, floor, eps, r), sizes (n, columns, rows) and the tables.
-use mathlib.Core.List.{List}
+use mathlib.Core.List.{List, [], _∷_}
 use Prim.Native.Nat.{ℕ}
 use lib.Ieee.{Float}
 use lib.ListN.{getD}
@@ -7,6 +7,14 @@ use Rattle.numbers.specs.Reals.{num}
 use Rattle.grid.specs.declared.Header.{Header}
 use Rattle.grid.specs.Index.{Index, indexOf}
 
+-- A header laid out for C.
+abbrev pub measuresOf : Header → List Float
+measuresOf h = h .«origin_x» ∷ h .«origin_y» ∷ h .cell ∷ h .floor ∷ h .eps ∷ h .r ∷ []
+
+abbrev pub sizesOf : Header → List ℕ
+sizesOf h = h .n ∷ h .columns ∷ h .rows ∷ []
+
+-- The header that C hands over.
 unfoldable pub headerFrom : List Float → List ℕ → Header
 headerFrom fs ns =
     record {
@@ -21,5 +29,6 @@ headerFrom fs ns =
       r = num fs 5;
     }
 
+-- The index that C hands over.
 abbrev pub indexFrom : List Float → List Float → List ℕ → List ℕ → List ℕ → List Float → Index
 indexFrom mesh fs ns starts members boxes = indexOf mesh (headerFrom fs ns) starts members boxes

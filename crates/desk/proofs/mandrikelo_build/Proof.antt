@@ -1,7 +1,8 @@
 use borrow.Author.Needs.{needs}
 use mathlib.Core.Path.{ap, _∙_}
 use Rattle.grid.specs.Build.{outcome}
-use Rattle.desk.specs.Doors.{builtLeftBy, headerFrom}
+use Rattle.handed.specs.Handed.{headerFrom}
+use Rattle.desk.specs.Doors.{builtLeftBy}
 use Rattle.desk.proofs.Left.{narrow, refused-left, accepted-left}
 use Rattle.desk.proofs.mandrikelo_build.Statement.{statement}
 use Rattle.desk.proofs.mandrikelo_build.Tie as tie

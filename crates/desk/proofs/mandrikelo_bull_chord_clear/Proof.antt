@@ -2,7 +2,7 @@ use borrow.Author.Needs.{needs}
 use Rattle.reach.specs.declared.Chord.{Chord}
 use Rattle.grid.specs.Index.{indexOf}
 use Rattle.chords.specs.Chords.{bullChordOf, BullChordPromise}
-use Rattle.desk.specs.Doors.{headerFrom}
+use Rattle.handed.specs.Handed.{headerFrom}
 use Rattle.desk.proofs.Asked.{verdict-told}
 use Rattle.desk.proofs.mandrikelo_bull_chord_clear.Statement.{statement}
 use Rattle.desk.proofs.mandrikelo_bull_chord_clear.Tie as tie

@@ -3,7 +3,7 @@ use Rattle.grid.specs.Index.{indexOf}
 use Rattle.height.specs.Sweep.{sweep}
 use Rattle.height.specs.Height.{maxHeightOf}
 use Rattle.height.specs.Demand.{DiskPromise}
-use Rattle.desk.specs.Doors.{headerFrom}
+use Rattle.handed.specs.Handed.{headerFrom}
 use Rattle.desk.proofs.Asked.{height-told}
 use Rattle.desk.proofs.mandrikelo_max_height.Statement.{statement}
 use Rattle.desk.proofs.mandrikelo_max_height.Tie as tie

@@ -5,7 +5,7 @@ use Rattle.grid.specs.Index.{indexOf}
 use Rattle.terms.specs.declared.Parameters.{Parameters}
 use Rattle.plan.specs.Plan.{outcome}
 use Rattle.plan.specs.Lost.{NothingLost}
-use Rattle.desk.specs.Doors.{headerFrom}
+use Rattle.handed.specs.Handed.{headerFrom}
 use Rattle.desk.specs.Plans.{axisFrom, planAlong, planLeftBy}
 use Rattle.desk.proofs.Along.{laid, along-never, lost-laid}
 use Rattle.desk.proofs.mandrikelo_plan.Statement.{statement}

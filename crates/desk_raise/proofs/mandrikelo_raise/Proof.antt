@@ -1,6 +1,6 @@
 use borrow.Author.Needs.{needs}
 use mathlib.Core.Path.{refl}
-use Rattle.desk_raise.specs.Raising.{headerFrom}
+use Rattle.handed.specs.Handed.{headerFrom}
 use Rattle.desk_raise.proofs.Left.{refused-door, accepted-door}
 use Rattle.desk_raise.proofs.mandrikelo_raise.Statement.{statement}
 use Rattle.desk_raise.proofs.mandrikelo_raise.Tie as tie
