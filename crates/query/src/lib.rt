@@ -6,7 +6,8 @@ ghost use Rattle.grid.specs.Index.{indexOf};
 ghost use Rattle.query.specs.Asked.{isMarked, isPoint};
 ghost use Rattle.query.specs.Patch.{heldTo, axisSpan, patchOf};
 ghost use Rattle.query.specs.Looked.{UsablePromise};
-ghost use Rattle.query.specs.Inside.{sevenSquares};
+ghost use Rattle.query.specs.Inside.{sevenSquares, Tested};
+ghost use mathlib.Core.Bool.{true};
 ghost use Rattle.query.specs.Usable.{each, cornersUsable, areCoordinates, boxUsable, triangleUsable};
 ghost use Rattle.query.specs.Usable.{memberUsable, cellUsable, rowUsable, cellsUsable, usable};
 use grid::Header;
@@ -112,7 +113,8 @@ pub fn usable(
     let n = h.n;
     let columns = h.columns;
     if header::head_usable(mesh, h, starts) {
-        cells_usable(mesh, n, starts, members, boxes, marks, stamp, columns, p)
+        let mut recent = [4294967295u32; 256];
+        cells_usable(mesh, n, starts, members, boxes, marks, stamp, columns, p, &mut recent)
     } else {
         false
     }
@@ -213,6 +215,34 @@ fn member_usable(mesh: &[f64], boxes: &[f64], n: usize, marks: &[u32], stamp: u3
     }
 }
 
+// The same of a member of which `recent` may tell that it was tested: a triangle stands in several cells, one beside the other. It has a place for 256 numbers.
+fn tested(mesh: &[f64], boxes: &[f64], n: usize, marks: &[u32], stamp: u32, i: u32, recent: &mut [u32]) -> bool
+    requires { ⌜ (length (now mesh) ≡ n * 9) × (length (now marks) ≡ n) × (length (now boxes) ≡ n * 5)
+        × Tested (memberUsable (now mesh) (now boxes) n (now marks) stamp) n (now recent) ⌝ }
+    ensures { λ r. ⌜ (r ≡ memberUsable (now (mesh .entry)) (now (boxes .entry)) n (now (marks .entry)) stamp i)
+        × (r ≡ true → Tested (memberUsable (now (mesh .entry)) (now (boxes .entry)) n (now (marks .entry)) stamp) n (now (recent .exit))) ⌝ }
+{
+    let k = place_of(i);
+    if i as usize >= n {
+        return false;
+    }
+    if recent[k] == i {
+        return true;
+    }
+    if member_usable(mesh, boxes, n, marks, stamp, i as usize) {
+        recent[k] = i;
+        return true;
+    }
+    false
+}
+
+// The place of number i.
+fn place_of(i: u32) -> usize
+    ensures { λ k. ⌜ k < 256 ⌝ }
+{
+    (i % 256) as usize
+}
+
 // Whether each number of one cell can be looked at.
 fn members_usable(
     mesh: &[f64],
@@ -221,12 +251,15 @@ fn members_usable(
     marks: &[u32],
     stamp: u32,
     part: &[u32],
+    recent: &mut [u32],
 ) -> bool
-    requires { ⌜ (length (now mesh) ≡ n * 9) × (length (now marks) ≡ n) × (length (now boxes) ≡ n * 5) ⌝ }
-    ensures { λ r. ⌜ r ≡ each (memberUsable (now (mesh .entry)) (now (boxes .entry)) n (now (marks .entry)) stamp) (now (part .entry)) ⌝ }
+    requires { ⌜ (length (now mesh) ≡ n * 9) × (length (now marks) ≡ n) × (length (now boxes) ≡ n * 5)
+        × Tested (memberUsable (now mesh) (now boxes) n (now marks) stamp) n (now recent) ⌝ }
+    ensures { λ r. ⌜ (r ≡ each (memberUsable (now (mesh .entry)) (now (boxes .entry)) n (now (marks .entry)) stamp) (now (part .entry)))
+        × (r ≡ true → Tested (memberUsable (now (mesh .entry)) (now (boxes .entry)) n (now (marks .entry)) stamp) n (now (recent .exit))) ⌝ }
 {
     for j in 0..part.len() {
-        if !member_usable(mesh, boxes, n, marks, stamp, part[j] as usize) {
+        if !tested(mesh, boxes, n, marks, stamp, part[j], recent) {
             return false;
         }
     }
@@ -243,16 +276,19 @@ fn cell_usable(
     marks: &[u32],
     stamp: u32,
     c: usize,
+    recent: &mut [u32],
 ) -> bool
-    requires { ⌜ (length (now mesh) ≡ n * 9) × (length (now marks) ≡ n) × (c + 1 < length (now starts)) × (length (now boxes) ≡ n * 5) ⌝ }
-    ensures { λ r. ⌜ r
-        ≡ cellUsable (memberUsable (now (mesh .entry)) (now (boxes .entry)) n (now (marks .entry)) stamp) (now (starts .entry)) (now (members .entry)) c ⌝ }
+    requires { ⌜ (length (now mesh) ≡ n * 9) × (length (now marks) ≡ n) × (c + 1 < length (now starts)) × (length (now boxes) ≡ n * 5)
+        × Tested (memberUsable (now mesh) (now boxes) n (now marks) stamp) n (now recent) ⌝ }
+    ensures { λ r. ⌜ (r
+        ≡ cellUsable (memberUsable (now (mesh .entry)) (now (boxes .entry)) n (now (marks .entry)) stamp) (now (starts .entry)) (now (members .entry)) c)
+        × (r ≡ true → Tested (memberUsable (now (mesh .entry)) (now (boxes .entry)) n (now (marks .entry)) stamp) n (now (recent .exit))) ⌝ }
 {
     let a = starts[c] as usize;
     let e = starts[c + 1] as usize;
     if a <= e {
         if e <= members.len() {
-            members_usable(mesh, boxes, n, marks, stamp, &members[a..e])
+            members_usable(mesh, boxes, n, marks, stamp, &members[a..e], recent)
         } else {
             false
         }
@@ -274,11 +310,14 @@ fn row_usable(
     x0: usize,
     x1: usize,
     y: usize,
+    recent: &mut [u32],
 ) -> bool
-    requires { ⌜ (length (now mesh) ≡ n * 9) × (length (now marks) ≡ n) × (y * columns + x1 < length (now starts)) × (length (now boxes) ≡ n * 5) ⌝ }
-    ensures { λ r. ⌜ r
+    requires { ⌜ (length (now mesh) ≡ n * 9) × (length (now marks) ≡ n) × (y * columns + x1 < length (now starts)) × (length (now boxes) ≡ n * 5)
+        × Tested (memberUsable (now mesh) (now boxes) n (now marks) stamp) n (now recent) ⌝ }
+    ensures { λ r. ⌜ (r
         ≡ rowUsable (memberUsable (now (mesh .entry)) (now (boxes .entry)) n (now (marks .entry)) stamp) (now (starts .entry)) (now
-        (members .entry)) columns x0 x1 y ⌝ }
+        (members .entry)) columns x0 x1 y)
+        × (r ≡ true → Tested (memberUsable (now (mesh .entry)) (now (boxes .entry)) n (now (marks .entry)) stamp) n (now (recent .exit))) ⌝ }
 {
     for x in x0..x1 {
         if !cell_usable(
@@ -290,6 +329,7 @@ fn row_usable(
             marks,
             stamp,
             y * columns + x,
+            recent,
         ) {
             return false;
         }
@@ -308,12 +348,15 @@ fn cells_usable(
     stamp: u32,
     columns: usize,
     p: Patch,
+    recent: &mut [u32],
 ) -> bool
     requires { ⌜ (length (now mesh) ≡ n * 9) × (length (now marks) ≡ n) × (p .x1 ≤ columns) × (p .y1 * columns < length (now starts))
-        × (length (now boxes) ≡ n * 5) ⌝ }
-    ensures { λ r. ⌜ r
+        × (length (now boxes) ≡ n * 5)
+        × Tested (memberUsable (now mesh) (now boxes) n (now marks) stamp) n (now recent) ⌝ }
+    ensures { λ r. ⌜ (r
         ≡ cellsUsable (memberUsable (now (mesh .entry)) (now (boxes .entry)) n (now (marks .entry)) stamp) (now (starts .entry)) (now
-        (members .entry)) columns p ⌝ }
+        (members .entry)) columns p)
+        × (r ≡ true → Tested (memberUsable (now (mesh .entry)) (now (boxes .entry)) n (now (marks .entry)) stamp) n (now (recent .exit))) ⌝ }
 {
     let x0 = p.x0;
     let x1 = p.x1;
@@ -332,6 +375,7 @@ fn cells_usable(
             x0,
             x1,
             y,
+            recent,
         ) {
             return false;
         }

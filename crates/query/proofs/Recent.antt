@@ -1,0 +1,48 @@
+-- What is remembered of the members that passed.
+use mathlib.Core.Bool.{Bool, true, false}
+use mathlib.Core.List.{List}
+use mathlib.Core.Path.{_≡_, sym, ap, _∙_}
+use Prim.Native.Nat.{ℕ, _≤_, _<_}
+use native.Mathlib.Omega.{arith}
+use borrow.Author.Tests.{eqb-true, eqb-false, le-ltb}
+use lib.Dec.{eqb}
+use lib.Ieee.{Float}
+use lib.ListN.{length, getD, set, replicate, length-set, length-replicate, getD-replicate}
+use lib.Seq.{getD-set-same, getD-set-other}
+use Rattle.numbers.proofs.Branches.{by-test}
+use Rattle.query.specs.Usable.{memberUsable}
+use Rattle.query.specs.Inside.{Tested}
+
+module _ (test : ℕ → Bool) (n : ℕ) where
+  -- none at the start
+  pub none-tested : (v : ℕ) → n ≤ v → Tested test n (replicate 256 v)
+  none-tested v l =
+      record {
+        size = length-replicate {A = ℕ} 256 v;
+        each = λ k h below. let e : _≡_ {A = ℕ} (getD (replicate 256 v) k 0) v = getD-replicate 256 k v 0 h in absurd (omega (arith, e));
+      }
+
+  -- one more
+  pub tested-more : (recent : List ℕ) (k i : ℕ) → k < 256 → test i ≡ true → Tested test n recent → Tested test n (set recent k i)
+  tested-more recent k i h t r =
+      record {
+        size = length-set recent k i ∙ r .size;
+        each = λ j l below.
+            by-test (eqb j k)
+            (λ e.
+            let q : j ≡ k = eqb-true j k e in
+            let g : getD (set recent k i) j 0 ≡ i = rw q (getD-set-same recent k i 0 (omega (arith, r .size))) in
+            rw g t)
+            (λ e.
+            let g : getD (set recent k i) j 0 ≡ getD recent j 0 = getD-set-other recent k j i 0 (eqb-false j k e) in
+            rw g (r .each j l (rw g at below)));
+      }
+
+  -- one that is remembered passed
+  pub tested-there : (recent : List ℕ) (k i : ℕ) → k < 256 → i < n → getD recent k 0 ≡ i → Tested test n recent → true ≡ test i
+  tested-there recent k i h l e r = sym (rw e at (r .each k h (rw e l)))
+
+-- a number that is no triangle's does not pass
+pub not-below : (mesh boxes : List Float) (n : ℕ) (marks : List ℕ) (stamp i : ℕ) → n ≤ i → false ≡ memberUsable mesh boxes n marks stamp i
+unfolding memberUsable
+not-below mesh boxes n marks stamp i h = rw (le-ltb i n h)
