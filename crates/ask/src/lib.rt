@@ -10,8 +10,8 @@ use plane::Touch;
 use query::Patch;
 use walk::Best;
 
-// A height question's answer: its refusal or 0, the height, how many triangles were looked at, and the stamp; then the triangle that last raised the height and what
-// of it is touched, its kind and which of three, all 0 for the floor.
+// A height question's answer: its refusal or 0, the height, how many triangles were looked at, and the stamp; then the triangle that last raised the
+// height and what of it is touched, its kind and which of three, all 0 for the floor.
 pub struct Answer {
     pub refusal: u32,
     pub height: f64,

@@ -261,7 +261,7 @@ module _ (a b : Float) (k : ℕ) (A : Bounded k a) (B : Bounded k b) where
       (omega (
         arith,
         going (lower a) (upper a) (den a) (lower b) (upper b) (den b) k less more (den-pos b) (omega arith) (omega arith) (A .below) (B .below)
-        (lower t) (upper t) (den t) j (u .below),
+            (lower t) (upper t) (den t) j (u .below),
       ))
 
 -- ---- what the tests of a magnitude and of a radius say

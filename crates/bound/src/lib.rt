@@ -10,9 +10,8 @@ const NEARLY_ONE: f64 = 0.9999999999999991;
 
 const MINUS_ONE: f64 = -1.0;
 
-// A number up to which the sum of two squares shows that the distance is within w, so that no distance is taken there: a little less than the square of w, or
-// a number below every
-// square.
+// A number up to which the sum of two squares shows that the distance is within w, so that no distance is taken there: a little less than the square
+// of w, or a number below every square.
 pub fn within(w: f64) -> f64
     ensures { λ f. ⌜ Within w f ⌝ }
 {

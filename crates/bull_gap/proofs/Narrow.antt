@@ -131,6 +131,8 @@ unfolding inOrder ofBits
 in-unit lo hi g h e =
     let p = both-true _ _ e in
     let q = both-true _ _ (p .1) in
-    let o = holds (le lo hi) (q .0) in
-    (record { low = holds (le O lo) (p .0); high = le-trans lo hi I o (holds (le hi I) (q .1)); fit = g },
-    record { low = le-trans O lo hi (holds (le O lo) (p .0)) o; high = holds (le hi I) (q .1); fit = h }, o)
+    let o = holds (le lo hi) (q .0) in (
+      record { low = holds (le O lo) (p .0); high = le-trans lo hi I o (holds (le hi I) (q .1)); fit = g },
+      record { low = le-trans O lo hi (holds (le O lo) (p .0)) o; high = holds (le hi I) (q .1); fit = h },
+      o,
+    )

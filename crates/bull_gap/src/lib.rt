@@ -35,8 +35,8 @@ fn searched(t: Triangle, m: Chord, r: f64, rc: f64, s: Stretch) -> bool
     }
 }
 
-// Whether the contact, lifted, stands above the tip between two places of the chord. Where the cutter surely passes there, or the contact stands above at one of
-// the two, no search is needed.
+// Whether the contact, lifted, stands above the tip between two places of the chord. Where the cutter surely passes there, or the contact stands
+// above at one of the two, no search is needed.
 fn stands(t: Triangle, m: Chord, r: f64, rc: f64, lo: f64, hi: f64) -> bool
     ensures { λ b. ⌜ b ≡ lt f0 (goldenMax (bullGap t m r rc) lo hi 40) ⌝ }
 {
@@ -91,8 +91,8 @@ fn inside(g: Golden) -> bool
     }
 }
 
-// The same by a search, the gaps at both places being low and high. It breaks off where the cutter surely passes in the bracket that it has come to, which it asks
-// before every fourth step.
+// The same by a search, the gaps at both places being low and high. It breaks off where the cutter surely passes in the bracket that it has come to,
+// which it asks before every fourth step.
 fn sought(t: Triangle, m: Chord, r: f64, rc: f64, lo: f64, hi: f64, low: f64, high: f64) -> bool
     requires { ⌜ (low ≡ bullGap t m r rc lo) × (high ≡ bullGap t m r rc hi) × (lt f0 (maxOf low high) ≡ false) ⌝ }
     ensures { λ b. ⌜ b ≡ lt f0 (goldenMax (bullGap t m r rc) lo hi 40) ⌝ }

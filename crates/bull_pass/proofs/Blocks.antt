@@ -153,16 +153,20 @@ module _ (r rc : Float) (r₀ : T (le O r)) (r₁ : T (le r M)) (c₀ : T (le O 
         by-test (le s f0)
         (λ e. let q : f0 ≡ bullProfile d r rc = unfold bullProfile in taken (le s f0) f0 f0 (rc ⊖ rootOf (maxOf (cc ⊖ s ⊗ s) f0)) e refl in rw (sym q, f0-is) (le-self O tt, tt))
         (λ e. let q : rc ⊖ rootOf (h e) ≡ bullProfile d r rc = unfold bullProfile in left (le s f0) (rc ⊖ rootOf (h e)) f0 (rc ⊖ rootOf (h e)) e refl in
-          ((rw (sym q) (beyond-low e)), profile-finite r rc r₀ r₁ c₀ c₁ d d₀ d₁ e))
+        ((rw (sym q) (beyond-low e)), profile-finite r rc r₀ r₁ c₀ c₁ d d₀ d₁ e))
 
   pub profile-rises : (d d′ : Float) → T (le O d) → T (le d d′) → T (le d′ M) → T (le (bullProfile d r rc) (bullProfile d′ r rc)) × T (finite (bullProfile d r rc)) × T (le O (bullProfile d′ r rc)) × T (finite (bullProfile d′ r rc))
   profile-rises d d′ a b c =
       let d₁ = le-trans d d′ M b c in
       let low = profile-low d a d₁ in
-      let high = profile-low d′ (le-trans O d d′ a b) c in
-      (by-test (le (d ⊖ (r ⊖ rc)) f0)
-      (λ e. let q : f0 ≡ bullProfile d r rc = unfold bullProfile in taken (le (d ⊖ (r ⊖ rc)) f0) f0 f0 (rc ⊖ rootOf (maxOf (cc ⊖ (d ⊖ (r ⊖ rc)) ⊗ (d ⊖ (r ⊖ rc))) f0)) e refl in rw (sym q, f0-is) (high .0))
-      (λ e. profile-up r rc r₀ r₁ c₀ c₁ d d′ a d₁ e c b), low .1, high .0, high .1)
+      let high = profile-low d′ (le-trans O d d′ a b) c in (
+        by-test (le (d ⊖ (r ⊖ rc)) f0)
+            (λ e. let q : f0 ≡ bullProfile d r rc = unfold bullProfile in taken (le (d ⊖ (r ⊖ rc)) f0) f0 f0 (rc ⊖ rootOf (maxOf (cc ⊖ (d ⊖ (r ⊖ rc)) ⊗ (d ⊖ (r ⊖ rc))) f0)) e refl in rw (sym q, f0-is) (high .0))
+            (λ e. profile-up r rc r₀ r₁ c₀ c₁ d d′ a d₁ e c b),
+        low .1,
+        high .0,
+        high .1,
+      )
 
 -- ---- one side
 module _ (low high a b p x : Float) (e : sideTame low high a b ≡ true) (lp : T (le low p)) (ph : T (le p high)) (ax : T (le a x)) (xb : T (le x b)) where

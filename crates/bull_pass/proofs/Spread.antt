@@ -92,9 +92,10 @@ module _ (x y t c : Float) (fx : T (finite x)) (fy : T (finite y)) (ft : T (fini
 -- ---- differences and quotients
 pub minus-between : (x y p q m n : Float) → T (finite p) → T (finite q) → T (finite m) → T (finite n) → T (finite x) → T (finite y) → T (le p x) → T (le x q) → T (le m y) → T (le y n)
     → T (le (p ⊖ n) (x ⊖ y)) × T (le (x ⊖ y) (q ⊖ m))
-minus-between x y p q m n fp fq fm fn fx fy a b c d =
-    (le-trans (p ⊖ n) (x ⊖ n) (x ⊖ y) (sub-mono binary64 p x n fp fx fn a) (sub-turns binary64 y n x fy fn fx d),
-    le-trans (x ⊖ y) (q ⊖ y) (q ⊖ m) (sub-mono binary64 x q y fx fq fy b) (sub-turns binary64 m y q fm fy fq c))
+minus-between x y p q m n fp fq fm fn fx fy a b c d = (
+  le-trans (p ⊖ n) (x ⊖ n) (x ⊖ y) (sub-mono binary64 p x n fp fx fn a) (sub-turns binary64 y n x fy fn fx d),
+  le-trans (x ⊖ y) (q ⊖ y) (q ⊖ m) (sub-mono binary64 x q y fx fq fy b) (sub-turns binary64 m y q fm fy fq c),
+)
 
 pub div-parts : (x y : Float) → T (finite (div binary64 x y)) → T (finite x)
 unfolding div

@@ -30,8 +30,15 @@ stripOf m r rc lo hi =
     let xb = along (m .ax) (m .bx) hi in
     let ya = along (m .ay) (m .by) lo in
     let yb = along (m .ay) (m .by) hi in
-    record { «low_x» = minOf xa xb; «high_x» = maxOf xa xb; «low_y» = minOf ya yb; «high_y» = maxOf ya yb;
-             high = minOf (along (m .az) (m .bz) lo) (along (m .az) (m .bz) hi) ⊖ m .lift; r = r; rc = rc }
+    record {
+      «low_x» = minOf xa xb;
+      «high_x» = maxOf xa xb;
+      «low_y» = minOf ya yb;
+      «high_y» = maxOf ya yb;
+      high = minOf (along (m .az) (m .bz) lo) (along (m .az) (m .bz) hi) ⊖ m .lift;
+      r = r;
+      rc = rc;
+    }
 
 -- Numbers of ordinary size, and a height that keeps its promise as it is computed.
 unfoldable pub axisFair : Float → Float → Float → Float → Bool
@@ -83,8 +90,13 @@ edgeBlock e lo hi =
     let xb = along (e .ax) (e .bx) hi in
     let ya = along (e .ay) (e .by) lo in
     let yb = along (e .ay) (e .by) hi in
-    record { «low_x» = minOf xa xb; «high_x» = maxOf xa xb; «low_y» = minOf ya yb; «high_y» = maxOf ya yb;
-             z = maxOf (along (e .az) (e .bz) lo) (along (e .az) (e .bz) hi) }
+    record {
+      «low_x» = minOf xa xb;
+      «high_x» = maxOf xa xb;
+      «low_y» = minOf ya yb;
+      «high_y» = maxOf ya yb;
+      z = maxOf (along (e .az) (e .bz) lo) (along (e .az) (e .bz) hi);
+    }
 
 unfoldable pub cornersPass : Strip → Triangle → Bool
 cornersPass k t =

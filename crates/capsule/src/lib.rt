@@ -300,8 +300,8 @@ fn offer_crossings(k: Capsule, best: Best, e: Edge) -> Best
     offer_crossed(k, best, e)
 }
 
-// Whether no point of an edge is higher than what was found: neither end, as points of the edge are computed, at 0 and at 1. Only where the numbers are of ordinary
-// size; a false says nothing.
+// Whether no point of an edge is higher than what was found: neither end, as points of the edge are computed, at 0 and at 1. Only where the numbers
+// are of ordinary size; a false says nothing.
 fn under(best: Best, e: Edge) -> bool
     ensures { λ r. ⌜ (r ≡ true → NotAbove (contactOf best) e) ⌝ }
 {

@@ -338,7 +338,14 @@ fn raise_tool(mesh: &[f64], boxes: &[f64], a: Axis, table: &[f64], best: Best, i
     ensures { λ r. ⌜ r ≡ toolStep (now (mesh .entry)) (now (boxes .entry)) a (now (table .entry)) best i ⌝ }
 {
     let b = grid::box_at(boxes, i as usize);
-    raise_tool_on(plane::triangle_at(mesh, i as usize), b.top, i, a, table, best)
+    raise_tool_on(
+        plane::triangle_at(mesh, i as usize),
+        b.top,
+        i,
+        a,
+        table,
+        best,
+    )
 }
 
 // Looks at triangle i, unless its mark is the stamp.

@@ -136,7 +136,8 @@ pub extern "C" fn mandrikelo_max_in_capsule(
     height: &mut [f64; 1],
     touched: &mut [u32; 2],
 ) -> bool
-    ensures { λ b. ⌜ contactLeft b (now (height .exit)) (now (touched .exit)) ≡ contactLeftBy (maxInCapsule (triangleOf (now (triangle .entry)) 0) px py qx qy r eps) ⌝ }
+    ensures { λ b. ⌜ contactLeft b (now (height .exit)) (now (touched .exit))
+        ≡ contactLeftBy (maxInCapsule (triangleOf (now (triangle .entry)) 0) px py qx qy r eps) ⌝ }
 {
     lay(
         capsule::max_in_capsule(plane::triangle_at(triangle, 0), px, py, qx, qy, r, eps),
@@ -165,7 +166,8 @@ pub extern "C" fn mandrikelo_bull_contact(
     height: &mut [f64; 1],
     touched: &mut [u32; 2],
 ) -> bool
-    ensures { λ b. ⌜ contactLeft b (now (height .exit)) (now (touched .exit)) ≡ contactLeftBy (bullContactAbove (triangleOf (now (triangle .entry)) 0) (record { x = px; y = py; r = r; rc = rc }) floor) ⌝ }
+    ensures { λ b. ⌜ contactLeft b (now (height .exit)) (now (touched .exit))
+        ≡ contactLeftBy (bullContactAbove (triangleOf (now (triangle .entry)) 0) (record { x = px; y = py; r = r; rc = rc }) floor) ⌝ }
 {
     let k = Bull {
         x: px,
@@ -190,7 +192,8 @@ pub extern "C" fn mandrikelo_section_contact(
     height: &mut [f64; 1],
     touched: &mut [u32; 2],
 ) -> bool
-    ensures { λ b. ⌜ contactLeft b (now (height .exit)) (now (touched .exit)) ≡ contactLeftBy (sectionContact (triangleOf (now (triangle .entry)) 0) px py (sectionFrom (now (section .entry)))) ⌝ }
+    ensures { λ b. ⌜ contactLeft b (now (height .exit)) (now (touched .exit))
+        ≡ contactLeftBy (sectionContact (triangleOf (now (triangle .entry)) 0) px py (sectionFrom (now (section .entry)))) ⌝ }
 {
     let s = Section {
         z0: section[0],

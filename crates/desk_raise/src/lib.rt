@@ -5,8 +5,8 @@ ghost use Rattle.raise.specs.Raise.{raiseOf, RaisePromise};
 ghost use Rattle.handed.specs.Handed.{headerFrom};
 ghost use Rattle.desk_raise.specs.Raising.{builtFrom, raisedLeft, raisedLeftBy};
 
-// One amount added to every z of a mesh, with its boxes; raised and raised_sizes get the new header's measures and sizes; after 4 bad holds the triangle and which
-// of its nine numbers came first, else 0 and 0.
+// One amount added to every z of a mesh, with its boxes; raised and raised_sizes get the new header's measures and sizes; after 4 bad holds the
+// triangle and which of its nine numbers came first, else 0 and 0.
 #[no_mangle]
 pub extern "C" fn mandrikelo_raise(
     mesh: &mut [f64],

@@ -1,5 +1,5 @@
-// What C and Rust call in whole micrometres: include/mandrikelo.h declares these functions. Each hands its arguments to the library and lays the answer into fixed
-// arrays; the contract is the library's own, and asks nothing of the caller.
+// What C and Rust call in whole micrometres: include/mandrikelo.h declares these functions. Each hands its arguments to the library and lays the
+// answer into fixed arrays; the contract is the library's own, and asks nothing of the caller.
 ghost use mathlib.Core.Path.{_≡_};
 ghost use Prim.Native.Nat.{_/_};
 ghost use lib.ListN.{length};
@@ -9,12 +9,13 @@ ghost use Rattle.um.specs.Build.{buildOf};
 ghost use Rattle.um.specs.Index.{BuildPromise};
 ghost use Rattle.setup.specs.Answer.{setupHeightOf};
 ghost use Rattle.setup.specs.Demand.{SetupPromise};
-ghost use Rattle.desk_um.specs.Doors.{jobLeft, jobLeftBy, builtLeft, builtLeftBy, headerFrom, indexFrom, questionFrom, heightLeft, heightLeftBy, answerFrom};
+ghost use Rattle.desk_um.specs.Doors.{jobLeft, jobLeftBy, builtLeft, builtLeftBy, headerFrom, indexFrom, questionFrom, heightLeft};
+ghost use Rattle.desk_um.specs.Doors.{heightLeftBy, answerFrom};
 use setup::Question;
 use um::Header;
 
-// Reads a job of version 2 into the lent tables; measures get the floor and the radius, sizes the numbers of triangles and questions. After 19 the first of sizes
-// holds how many triangles stand whole before the cut.
+// Reads a job of version 2 into the lent tables; measures get the floor and the radius, sizes the numbers of triangles and questions. After 19 the
+// first of sizes holds how many triangles stand whole before the cut.
 #[no_mangle]
 pub extern "C" fn mandrikelo_read_job_um(
     bytes: &[u8],
@@ -39,7 +40,8 @@ pub extern "C" fn mandrikelo_read_job_um(
     refusal
 }
 
-// Builds the index of a mesh in starts and members; measures and sizes hold its header. After 4, bad holds the triangle and which of its nine numbers came first.
+// Builds the index of a mesh in starts and members; measures and sizes hold its header. After 4, bad holds the triangle and which of its nine numbers
+// came first.
 #[no_mangle]
 pub extern "C" fn mandrikelo_build_um(
     mesh: &[i32],

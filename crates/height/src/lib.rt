@@ -275,7 +275,11 @@ fn raise(mesh: &[f64], boxes: &[f64], q: Capsule, best: Best, i: u32) -> Best
     if b.top <= best.height {
         return best;
     }
-    ask::raise_by(capsule::highest_above(q, plane::triangle_at(mesh, i as usize), best.height), i, best)
+    ask::raise_by(
+        capsule::highest_above(q, plane::triangle_at(mesh, i as usize), best.height),
+        i,
+        best,
+    )
 }
 
 // Looks at triangle i, unless its mark is the stamp.

@@ -70,9 +70,11 @@ pub fn look_over(
     ensures { λ a. ⌜ ended a (now (marks .exit))
         ≡ lookOverOf (now (bytes .entry)) (indexOf (now (mesh .entry)) h (now (starts .entry)) (now (members .entry)) (now (boxes .entry)))
         (now (marks .entry)) (now (table .entry)) tolerance ⌝ }
-    ensures { λ a. ⌜ (a .refusal ≡ 0 → Judged (now (bytes .entry)) (indexOf (now (mesh .entry)) h (now (starts .entry)) (now (members .entry)) (now (boxes .entry)))
+    ensures { λ a. ⌜ (a .refusal ≡ 0 → Judged (now (bytes .entry))
+        (indexOf (now (mesh .entry)) h (now (starts .entry)) (now (members .entry)) (now (boxes .entry)))
         (now (table .entry)) tolerance (a .verdict)) ⌝ }
-    ensures { λ a. ⌜ OwnCutsPass (indexOf (now (mesh .entry)) h (now (starts .entry)) (now (members .entry)) (now (boxes .entry))) (now (table .entry)) tolerance ⌝ }
+    ensures { λ a. ⌜ OwnCutsPass
+        (indexOf (now (mesh .entry)) h (now (starts .entry)) (now (members .entry)) (now (boxes .entry))) (now (table .entry)) tolerance ⌝ }
 {
     let k = refusal(
         bytes,
@@ -181,7 +183,8 @@ fn refusal_of_tool(
     table: &[f64],
 ) -> u32
     requires { ⌜ isBoxed (now mesh) (now boxes) ≡ true ⌝ }
-    ensures { λ k. ⌜ k ≡ refusalOfTool (indexOf (now (mesh .entry)) h (now (starts .entry)) (now (members .entry)) (now (boxes .entry))) (now (table .entry)) ⌝ }
+    ensures { λ k. ⌜ k ≡ refusalOfTool
+        (indexOf (now (mesh .entry)) h (now (starts .entry)) (now (members .entry)) (now (boxes .entry))) (now (table .entry)) ⌝ }
 {
     if !tool::is_tool(table) {
         return 8;
@@ -325,7 +328,8 @@ fn try_move(
 ) -> Tried
     requires { ⌜ Answerable (indexOf (now mesh) h (now starts) (now members) (now boxes)) (now table) × Marked (h .n) stamp (now marks) × Placed m ⌝ }
     requires { ⌜ (reach ≡ widestOf (now table) (sectionsIn (now table))) × (low ≡ lowestOf (now table) (sectionsIn (now table))) ⌝ }
-    ensures { λ a. ⌜ (a .fault ≡ faultOf (indexOf (now (mesh .entry)) h (now (starts .entry)) (now (members .entry)) (now (boxes .entry))) (now (table .entry)) tolerance m)
+    ensures { λ a. ⌜ (a .fault ≡ faultOf
+        (indexOf (now (mesh .entry)) h (now (starts .entry)) (now (members .entry)) (now (boxes .entry))) (now (table .entry)) tolerance m)
         × Marked (h .n) (a .stamp) (now (marks .exit)) ⌝ }
 {
     let kind = m.kind;
@@ -363,7 +367,8 @@ fn rapid(
 ) -> Tried
     requires { ⌜ Answerable (indexOf (now mesh) h (now starts) (now members) (now boxes)) (now table) × Marked (h .n) stamp (now marks) × Placed m ⌝ }
     requires { ⌜ (reach ≡ widestOf (now table) (sectionsIn (now table))) × (low ≡ lowestOf (now table) (sectionsIn (now table))) ⌝ }
-    ensures { λ a. ⌜ (a .fault ≡ faultOfRapid (indexOf (now (mesh .entry)) h (now (starts .entry)) (now (members .entry)) (now (boxes .entry))) (now (table .entry)) m)
+    ensures { λ a. ⌜ (a .fault ≡ faultOfRapid
+        (indexOf (now (mesh .entry)) h (now (starts .entry)) (now (members .entry)) (now (boxes .entry))) (now (table .entry)) m)
         × Marked (h .n) (a .stamp) (now (marks .exit)) ⌝ }
 {
     let a = m.start;

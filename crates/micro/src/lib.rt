@@ -56,14 +56,14 @@ pub fn number_at(mesh: &[i32], k: usize) -> u64
 pub fn is_coordinate(k: u64) -> bool
     ensures { λ b. ⌜ b ≡ isCoordinate k ⌝ }
 {
-    if 1147483648 <= k { k <= 3147483648 } else { false }
+    1147483648 <= k && k <= 3147483648
 }
 
 // Whether a counted number can be a radius.
 pub fn is_radius(k: u64) -> bool
     ensures { λ b. ⌜ b ≡ isRadius k ⌝ }
 {
-    if 2147483648 <= k { k <= 3147483648 } else { false }
+    2147483648 <= k && k <= 3147483648
 }
 
 pub fn lower(a: u64, b: u64) -> u64

@@ -22,18 +22,18 @@ phi60-is = power-is ∙ ap (λ x. powerOf x 59) phi-is
 pub worked : Worked
 unfolding rootOf rootOfUnits nearestRoot wholeRoot size units odd round roundDownOf infinite countOf evenRoot hypotOfCount hypotOf isNan
 worked = record {
-    nine = refl;
-    smallest = refl;
-    largest = refl;
-    minus-zero = refl;
-    minus-four = refl;
-    infinite = refl;
-    low-hypot = refl;
-    high-hypot = refl;
-    tie = refl;
-    beyond = refl;
-    within = refl;
-    zeros = refl;
-    minus-half = refl;
-    stays = refl;
-  }
+  nine = refl;
+  smallest = refl;
+  largest = refl;
+  minus-zero = refl;
+  minus-four = refl;
+  infinite = refl;
+  low-hypot = refl;
+  high-hypot = refl;
+  tie = refl;
+  beyond = refl;
+  within = refl;
+  zeros = refl;
+  minus-half = refl;
+  stays = refl;
+}

@@ -21,7 +21,6 @@ use lib.Ieee.Scale.{finite}
 use Rattle.numbers.specs.Reals.{f0, absOf}
 use Rattle.numbers.specs.Hypot.{infinite, NearestEven, evenRoot, countOf, hypotOfCount, hypotOf, HypotBetween}
 use Rattle.numbers.proofs.Counts.{Count, counted, fits-signed, same}
-
 use Rattle.numbers.proofs.Signs.{le→under}
 use Rattle.numbers.proofs.Units.{four}
 use Rattle.numbers.proofs.Squares.{square-twice}

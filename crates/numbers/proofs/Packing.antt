@@ -62,8 +62,7 @@ packed q k h p l = go (eq-or-lt-of-le h) p (side q)
     go : (q ≡ 2 ^ 53) ⊎ (q < 2 ^ 53) → (k ≡ 0) ⊎ (2 ^ 52 ≤ q) → (2 ^ 52 ≤ q) ⊎ (q < 2 ^ 52) → (ofBits binary64 (k * 2 ^ 52 + q) ≡ units binary64 false q k) × T (not (nanBits binary64 (k * 2 ^ 52 + q)))
     go (inl e) p s =
         let K = high k (subst (λ (z : ℕ). k * 2 ^ 52 + z < infiniteBits) e l) in
-        subst (λ (z : ℕ). (ofBits binary64 (k * 2 ^ 52 + z) ≡ units binary64 false z k) × T (not (nanBits binary64 (k * 2 ^ 52 + z)))) (sym e)
-        (
+        subst (λ (z : ℕ). (ofBits binary64 (k * 2 ^ 52 + z) ≡ units binary64 false z k) × T (not (nanBits binary64 (k * 2 ^ 52 + z)))) (sym e) (
           ap (ofBits binary64) (sym (field k)) ∙ plain-pattern (2 ^ 52) (suc k) (lit≤ tt) (lit< tt) K ∙ carried k,
           subst (λ (z : ℕ). T (not (nanBits binary64 z))) (field k) (plain-no-nan (2 ^ 52) (suc k) (lit≤ tt) (lit< tt) K),
         )
@@ -73,8 +72,7 @@ packed q k h p l = go (eq-or-lt-of-le h) p (side q)
         none : (q : ℕ) → 2 ^ 52 ≤ q → q < 2 ^ 52 → ⊥
         none q a b = omega arith
     go (inr u) (inl p) (inr s) =
-        subst (λ (z : ℕ). (ofBits binary64 (z * 2 ^ 52 + q) ≡ units binary64 false q z) × T (not (nanBits binary64 (z * 2 ^ 52 + q)))) (sym p)
-        (
+        subst (λ (z : ℕ). (ofBits binary64 (z * 2 ^ 52 + q) ≡ units binary64 false q z) × T (not (nanBits binary64 (z * 2 ^ 52 + q)))) (sym p) (
           ap (ofBits binary64) (sym (zero-add (0 * 2 ^ 52 + q))) ∙ made false 0 q (lit< tt) s ∙ subnormal false q ∙ low-units q s,
           subst (λ (z : ℕ). T (not (nanBits binary64 z))) (zero-add (0 * 2 ^ 52 + q)) (made-no-nan false 0 q (lit< tt) s),
         )

@@ -67,8 +67,7 @@ alone a b l h f =
     let B = sized b (below a b l h) in
     let w = A .whole in
     let d : 2 ^ 52 ≤ digitsOf a = some (A .enough) in
-    let k = packed (digitsOf a) (placeOf a) (weak _ (A .few)) (A .enough) (subst (λ (z : ℕ). z < infiniteBits) (sym w) h) in
-    (
+    let k = packed (digitsOf a) (placeOf a) (weak _ (A .few)) (A .enough) (subst (λ (z : ℕ). z < infiniteBits) (sym w) h) in (
       ap (ofBits binary64) (sym w) ∙ k .0 ∙ sym (hit (far (digitsOf a) (digitsOf b) (placeOf a) (placeOf b) d (A .few) (B .few) f)) ∙ sizes-finite a b h,
       subst (λ (z : ℕ). T (not (nanBits binary64 z))) w (k .1),
     )

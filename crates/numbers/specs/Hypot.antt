@@ -23,9 +23,8 @@ countOf nan = 0
 countOf (inf s) = 0
 countOf (fin s m e) = m * up e * 2 ^ 1074 / down e
 
--- The whole number nearest to the root of n / 4 ^ k, for an n below 4 ^ (53 + k): with r the whole part of that root, r or r + 1 by how n compares with the
--- square of
--- the middle, r + 1/2, both taken four times; at the middle the even one of the two.
+-- The whole number nearest to the root of n / 4 ^ k, for an n below 4 ^ (53 + k): with r the whole part of that root, r or r + 1 by how n compares
+-- with the square of the middle, r + 1/2, both taken four times; at the middle the even one of the two.
 unfoldable pub evenRoot : ℕ → ℕ → ℕ
 evenRoot n k =
     let r = wholeRoot 53 (n / 4 ^ k) in
@@ -40,20 +39,17 @@ hypotOfCount n = let k = (size n - 105) / 2 in units binary64 false (evenRoot n 
 unfoldable pub hypotOf : Float → Float → Float
 hypotOf x y = cond (infinite x || infinite y) (inf false) (cond (isNan x || isNan y) nan (hypotOfCount (countOf x * countOf x + countOf y * countOf y)))
 
--- q is the whole number nearest to the root of n / 4c, ties to even: n lies between (2 * q - 1)^2 * c and (2 * q + 1)^2 * c, the squares of the middles to
--- q's neighbours, all
--- taken four times; and it is one of the two only where q is even.
+-- q is the whole number nearest to the root of n / 4c, ties to even: n lies between (2 * q - 1)^2 * c and (2 * q + 1)^2 * c, the squares of the
+-- middles to q's neighbours, all taken four times; and it is one of the two only where q is even.
 pub record NearestEven (n c q : ℕ) : Type 0 where
   pub above : (2 * q - 1) * (2 * q - 1) * c ≤ n
   pub below : n ≤ (2 * q + 1) * (2 * q + 1) * c
   pub tie-above : (2 * q - 1) * (2 * q - 1) * c ≡ n → q % 2 ≡ 0
   pub tie-below : n ≡ (2 * q + 1) * (2 * q + 1) * c → q % 2 ≡ 0
 
--- What makes z the f64 nearest to the root of x*x + y*y, x and y being finite. Counted in smallest f64s their magnitudes are p and r, and z is q * 2 ^ k, q
--- having 53 digits
--- or k being 0; q is nearest by squares. Where q * 2 ^ k leaves the range, z is plus infinity. (At the least q of 53 digits the lower neighbour is only half
--- as far, but there
--- p * p + r * r is not below the square of q: that is `least`.)
+-- What makes z the f64 nearest to the root of x*x + y*y, x and y being finite. Counted in smallest f64s their magnitudes are p and r, and z is q * 2
+-- ^ k, q having 53 digits or k being 0; q is nearest by squares. Where q * 2 ^ k leaves the range, z is plus infinity. (At the least q of 53 digits
+-- the lower neighbour is only half as far, but there p * p + r * r is not below the square of q: that is `least`.)
 pub record HypotBetween (x y z : Float) : Type 0 where
   pub p : ℕ
   pub r : ℕ

@@ -1,5 +1,6 @@
--- Document 01, "Numbers": the operators of IEEE 754-2019 at binary64, each rounded once; the constants of the source and of document 01, by their bits, each decimal
--- fraction with a line that computes it as the rounding of a quotient; max, min, the magnitude and the clamp. At the end a line for each constant says what number its bits are.
+-- Document 01, "Numbers": the operators of IEEE 754-2019 at binary64, each rounded once; the constants of the source and of document 01, by their
+-- bits, each decimal fraction with a line that computes it as the rounding of a quotient; max, min, the magnitude and the clamp. At the end a line
+-- for each constant says what number its bits are.
 use mathlib.Core.Bool.{true, false, cond}
 use mathlib.Core.Path.{_≡_, refl}
 use mathlib.Core.List.{List}

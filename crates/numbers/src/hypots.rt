@@ -36,7 +36,13 @@ pub fn of_sizes(a: u64, b: u64, z: f64) -> f64
         return f64::from_bits(a);
     }
     if std::num::wrapping_sub_u64(p, 512) >= 1023 {
-        return by_guess(a, b, k, near_sum(a & roots::FRACTION, b & roots::FRACTION, k), 1022);
+        return by_guess(
+            a,
+            b,
+            k,
+            near_sum(a & roots::FRACTION, b & roots::FRACTION, k),
+            1022,
+        );
     }
     by_guess(a, b, k, z, p)
 }
@@ -129,7 +135,12 @@ fn columns(x: u64, u: u64, f: u64, c: u64) -> u64
     let x0 = x & 0x7ff_ffff;
     let u1 = u >> 27;
     let u0 = u & 0x7ff_ffff;
-    settled(x1 * x1 + u1 * u1, x1 * x0 + u1 * u0, x0 * x0 + u0 * u0 + 2 * (u1 * f), c)
+    settled(
+        x1 * x1 + u1 * u1,
+        x1 * x0 + u1 * u0,
+        x0 * x0 + u0 * u0 + 2 * (u1 * f),
+        c,
+    )
 }
 
 // The check. One of s - 1, s and s + 1, if c2 * 2^54 + c1 * 2^28 + c0 and 2^29 more lie between the squares of its two middles, taken four times; else 0.
@@ -162,12 +173,21 @@ fn steps(u: u64, w: u64) -> Stride
     ensures { λ r. ⌜ (r .count ≤ 2) × (r .length ≡ r .count * w) × (r .length ≤ u) ⌝ }
 {
     if u <= w {
-        return Stride { count: 0, length: 0 };
+        return Stride {
+            count: 0,
+            length: 0,
+        };
     }
     if u <= 2 * w {
-        return Stride { count: 1, length: w };
+        return Stride {
+            count: 1,
+            length: w,
+        };
     }
-    Stride { count: 2, length: 2 * w }
+    Stride {
+        count: 2,
+        length: 2 * w,
+    }
 }
 
 // hypot of the magnitudes with the bits a and b, a being the larger, digit by digit. Beside a zero it is a, so that two zeros, as of a point's own distance,

@@ -1,5 +1,5 @@
-// Document 01, "Numbers": what the planner does with one or two f64s beside +, -, *, / and comparing. Each function is equal to its definition in specs/, on every
-// f64. `laws` holds theorems on them.
+// Document 01, "Numbers": what the planner does with one or two f64s beside +, -, *, / and comparing. Each function is equal to its definition in
+// specs/, on every f64. `laws` holds theorems on them.
 ghost use mathlib.Core.Path.{_≡_};
 ghost use mathlib.Core.Bool.{true, false, cond, _||_};
 ghost use Prim.Native.Nat.{_+_, _*_, _/_, _^_, _<_};
@@ -65,8 +65,8 @@ pub fn clamp_unit(t: f64) -> f64
     }
 }
 
-// The root of x, correctly rounded. The bits are taken apart into sign, exponent and fraction; one test at the start settles all normal numbers above zero, whose
-// sign is clear and whose fraction has a leading digit.
+// The root of x, correctly rounded. The bits are taken apart into sign, exponent and fraction; one test at the start settles all normal numbers above
+// zero, whose sign is clear and whose fraction has a leading digit.
 pub fn root(x: f64) -> f64
     ensures { λ r. ⌜ r ≡ rootOf x ⌝ }
 {
@@ -84,8 +84,9 @@ pub fn root(x: f64) -> f64
     root_below_normal(x)
 }
 
-// The largest whole number not above x. Where the magnitude is 1 or more, `behind` masks the digits that stand behind the point. A negative number grows by all of them
-// before they are masked off, so that it moves away from zero unless it is whole; a carry out of the fraction goes to the exponent, as it should.
+// The largest whole number not above x. Where the magnitude is 1 or more, `behind` masks the digits that stand behind the point. A negative number
+// grows by all of them before they are masked off, so that it moves away from zero unless it is whole; a carry out of the fraction goes to the
+// exponent, as it should.
 pub fn round_down(x: f64) -> f64
     ensures { λ r. ⌜ r ≡ roundDownOf x ⌝ }
 {

@@ -1,5 +1,5 @@
-// The root of a number above zero, m * 2^e: which significand is nearest is decided in whole numbers. A float gives a candidate, whole numbers check it, and where
-// it fails the root is found digit by digit.
+// The root of a number above zero, m * 2^e: which significand is nearest is decided in whole numbers. A float gives a candidate, whole numbers check
+// it, and where it fails the root is found digit by digit.
 ghost use mathlib.Core.Path.{_≡_};
 ghost use mathlib.Core.Bool.{true, false};
 ghost use Prim.Native.Nat.{_+_, _*_, _/_, _%_, _^_, _≤_, _<_};

@@ -103,7 +103,10 @@ fn carried(hi: u64, lo: u64) -> Wide
     requires { ⌜ (hi < 2 ^ 60) × (lo < 2 ^ 60) ⌝ }
     ensures { λ r. ⌜ (r .lo < 2 ^ 55) × (r .hi * 2 ^ 55 + r .lo ≡ hi * 2 ^ 55 + lo) ⌝ }
 {
-    Wide { hi: hi + (lo >> 55), lo: lo & LOW }
+    Wide {
+        hi: hi + (lo >> 55),
+        lo: lo & LOW,
+    }
 }
 
 // v / 2^c, its last digit set where anything was lost
@@ -115,7 +118,13 @@ fn lowered(v: Wide, c: u64) -> Wide
     let lo = v.lo;
     let low = (lo >> c) + ((hi << (55 - c)) & LOW);
     if lo & ((1u64 << c) - 1) == 0 {
-        return Wide { hi: hi >> c, lo: low };
+        return Wide {
+            hi: hi >> c,
+            lo: low,
+        };
     }
-    Wide { hi: hi >> c, lo: low | 1 }
+    Wide {
+        hi: hi >> c,
+        lo: low | 1,
+    }
 }

@@ -46,9 +46,9 @@ still-waits b z w h l =
     by-test (isNan z)
     (λ m. nan-waits z w m)
     (λ m. by-test (isNan b)
-        (λ n. absurd (no (sym h ∙ (beside-nan z b n ∙ rw m))))
-        (λ n. let up = sym (beside-number w b n) ∙ l in
-            beside-number z w (lt-number b w up) ∙ never w z (λ g. no (sym h ∙ (beside-number z b n ∙ lt-goes-on b w z up g)))))
+    (λ n. absurd (no (sym h ∙ (beside-nan z b n ∙ rw m))))
+    (λ n. let up = sym (beside-number w b n) ∙ l in
+    beside-number z w (lt-number b w up) ∙ never w z (λ g. no (sym h ∙ (beside-number z b n ∙ lt-goes-on b w z up g)))))
 
 -- a height that the larger of two leaves as it was takes no place
 pub larger-waits : (b z : Float) → maxOf b z ≡ b → exceedsOf z b ≡ false

@@ -35,7 +35,8 @@ pub const EDGE: u32 = 2;
 
 pub const FACE: u32 = 3;
 
-// What of a triangle is touched: its kind is 1 for a corner, 2 for an edge and 3 for the face, and `which` of the three corners or edges, from 0 on; 0 for the face.
+// What of a triangle is touched: its kind is 1 for a corner, 2 for an edge and 3 for the face, and `which` of the three corners or edges, from 0 on;
+// 0 for the face.
 pub struct Touch {
     pub kind: u32,
     pub which: u32,

@@ -159,7 +159,7 @@ module _ (ix : Index) (stamp : ℕ) (marks : List ℕ) (m : Marked (ix .header .
         let seen : List ℕ = looked (nextStamp 0) (readyMarks (replicate (ix .header .n) 0) 0) (h .front) in
         let more : List ℕ = looked (nextStamp 0) (marked (nextStamp 0) (readyMarks (replicate (ix .header .n) 0) 0) seen) (h .rest) in
         let e : over (h .front ++ h .rest) ≡ fold step (over (h .front)) more =
-            ap (fold step (atFloor (ix .header .floor))) (looked-append (nextStamp 0) (h .front) (readyMarks (replicate (ix .header .n) 0) 0) (h .rest)) ∙ fold-append step seen more (atFloor (ix .header .floor)) in
+        ap (fold step (atFloor (ix .header .floor))) (looked-append (nextStamp 0) (h .front) (readyMarks (replicate (ix .header .n) 0) 0) (h .rest)) ∙ fold-append step seen more (atFloor (ix .header .floor)) in
         ap (λ (v : Best). lt limit (v .height)) e ∙ stays-above (ix .mesh) (ix .boxes) (capsuleFor (ix .header) under) more (over (h .front)) limit (ap (λ (v : Best). lt limit (v .height)) (sym front-value) ∙ l)
 
     pub halted-decides : Decides limit (heightUnder ix r) (w .value .height)

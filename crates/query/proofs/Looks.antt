@@ -132,75 +132,75 @@ ready-fresh marks stamp i l h =
 module _ (on : Cover) (n columns rows : ℕ) (starts members marks : List ℕ) (stamp : ℕ) (p : Patch)
     (is : (c : ℕ) → c < rows * columns → cell starts members c ≡ membersOf on n c)
     (passes : (x y k : ℕ) → p .x0 ≤ x → x < p .x1 → p .y0 ≤ y → y < p .y1 → k < length (cell starts members (y * columns + x))
-        → (getD (cell starts members (y * columns + x)) k 0 < n) × (getD marks (getD (cell starts members (y * columns + x)) k 0) 0 ≤ stamp))
+    → (getD (cell starts members (y * columns + x)) k 0 < n) × (getD marks (getD (cell starts members (y * columns + x)) k 0) 0 ≤ stamp))
     (marked : n ≤ length marks) (right : p .x1 ≤ columns) (top : p .y1 ≤ rows)
   where
-  abbrev numbers : List ℕ
-  numbers = block starts members columns (p .x0) (p .x1) (p .y0) (p .y1)
+    abbrev numbers : List ℕ
+    numbers = block starts members columns (p .x0) (p .x1) (p .y0) (p .y1)
 
-  in-cells : (x y : ℕ) → x < p .x1 → y < p .y1 → y * columns + x < rows * columns
-  in-cells x y a b = omega (arith, in-rows columns (x + 1) y rows (omega arith) (omega arith))
+    in-cells : (x y : ℕ) → x < p .x1 → y < p .y1 → y * columns + x < rows * columns
+    in-cells x y a b = omega (arith, in-rows columns (x + 1) y rows (omega arith) (omega arith))
 
-  -- in a cell of the question a triangle stands once if it covers the cell, and else not
-  in-cell : (i x y : ℕ) → x < p .x1 → y < p .y1 → i < n → times i (cell starts members (y * columns + x)) ≡ weight (on i (y * columns + x))
-  in-cell i x y a b l = ap (times i) (is (y * columns + x) (in-cells x y a b)) ∙ once on (y * columns + x) n i l
+    -- in a cell of the question a triangle stands once if it covers the cell, and else not
+    in-cell : (i x y : ℕ) → x < p .x1 → y < p .y1 → i < n → times i (cell starts members (y * columns + x)) ≡ weight (on i (y * columns + x))
+    in-cell i x y a b l = ap (times i) (is (y * columns + x) (in-cells x y a b)) ∙ once on (y * columns + x) n i l
 
-  stands : (i : ℕ) → SharesCell on n columns p i → 0 < times i numbers
-  stands i s =
-      let t : times i (cell starts members (s .y * columns + s .x)) ≡ 1 = rw (in-cell i (s .x) (s .y) (s .column .1) (s .row .1) (s .triangle), s .covers) in
-      over-has (row starts members columns (p .x0) (p .x1)) (p .y0) (p .y1 - p .y0) i (s .y) (s .row .0) (omega arith)
-      (over-has (λ x. cell starts members (s .y * columns + x)) (p .x0) (p .x1 - p .x0) i (s .x) (s .column .0) (omega arith) (omega arith))
+    stands : (i : ℕ) → SharesCell on n columns p i → 0 < times i numbers
+    stands i s =
+        let t : times i (cell starts members (s .y * columns + s .x)) ≡ 1 = rw (in-cell i (s .x) (s .y) (s .column .1) (s .row .1) (s .triangle), s .covers) in
+        over-has (row starts members columns (p .x0) (p .x1)) (p .y0) (p .y1 - p .y0) i (s .y) (s .row .0) (omega arith)
+        (over-has (λ x. cell starts members (s .y * columns + x)) (p .x0) (p .x1 - p .x0) i (s .x) (s .column .0) (omega arith) (omega arith))
 
-  -- and where it stands, the two share that cell
-  shares : (i : ℕ) → 0 < times i numbers → SharesCell on n columns p i
-  shares i t =
-      let b = over-in (row starts members columns (p .x0) (p .x1)) (p .y0) (p .y1 - p .y0) i t in
-      let a = over-in (λ x. cell starts members (b .at * columns + x)) (p .x0) (p .x1 - p .x0) i (b .stands) in
-      let k = place-of i (cell starts members (b .at * columns + a .at)) (a .stands) in
-      let x1 : a .at < p .x1 = omega arith in
-      let y1 : b .at < p .y1 = omega arith in
-      let m = passes (a .at) (b .at) (k .at) (a .from) x1 (b .from) y1 (k .inside) .0 in
-      let l : i < n = rw (k .is) at m in
-      record {
-        triangle = l;
-        x = a .at;
-        y = b .at;
-        column = (a .from, x1);
-        row = (b .from, y1);
-        covers = some (on i (b .at * columns + a .at)) (rw (in-cell i (a .at) (b .at) x1 y1 l) at (a .stands));
-      }
-    where
-      some : (b : Bool) → 0 < weight b → b ≡ true
-      some true l = refl
-      some false l = absurd (omega arith)
+    -- and where it stands, the two share that cell
+    shares : (i : ℕ) → 0 < times i numbers → SharesCell on n columns p i
+    shares i t =
+        let b = over-in (row starts members columns (p .x0) (p .x1)) (p .y0) (p .y1 - p .y0) i t in
+        let a = over-in (λ x. cell starts members (b .at * columns + x)) (p .x0) (p .x1 - p .x0) i (b .stands) in
+        let k = place-of i (cell starts members (b .at * columns + a .at)) (a .stands) in
+        let x1 : a .at < p .x1 = omega arith in
+        let y1 : b .at < p .y1 = omega arith in
+        let m = passes (a .at) (b .at) (k .at) (a .from) x1 (b .from) y1 (k .inside) .0 in
+        let l : i < n = rw (k .is) at m in
+        record {
+          triangle = l;
+          x = a .at;
+          y = b .at;
+          column = (a .from, x1);
+          row = (b .from, y1);
+          covers = some (on i (b .at * columns + a .at)) (rw (in-cell i (a .at) (b .at) x1 y1 l) at (a .stands));
+        }
+      where
+        some : (b : Bool) → 0 < weight b → b ≡ true
+        some true l = refl
+        some false l = absurd (omega arith)
 
-  -- its mark is not the new stamp
-  not-marked : (i : ℕ) → 0 < times i numbers → (i < length marks) × (getD (readyMarks marks stamp) i 0 ≡ nextStamp stamp → ⊥)
-  not-marked i t =
-      let s = shares i t in
-      let k = place-of i (cell starts members (s .y * columns + s .x)) (omega (arith, rw (s .covers) at (in-cell i (s .x) (s .y) (s .column .1) (s .row .1) (s .triangle)))) in
-      let m = passes (s .x) (s .y) (k .at) (s .column .0) (s .column .1) (s .row .0) (s .row .1) (k .inside) .1 in
-      let l : i < length marks = omega (arith, s .triangle, marked) in
-      (l, ready-fresh marks stamp i l (rw (k .is) at m))
+    -- its mark is not the new stamp
+    not-marked : (i : ℕ) → 0 < times i numbers → (i < length marks) × (getD (readyMarks marks stamp) i 0 ≡ nextStamp stamp → ⊥)
+    not-marked i t =
+        let s = shares i t in
+        let k = place-of i (cell starts members (s .y * columns + s .x)) (omega (arith, rw (s .covers) at (in-cell i (s .x) (s .y) (s .column .1) (s .row .1) (s .triangle)))) in
+        let m = passes (s .x) (s .y) (k .at) (s .column .0) (s .column .1) (s .row .0) (s .row .1) (k .inside) .1 in
+        let l : i < length marks = omega (arith, s .triangle, marked) in
+        (l, ready-fresh marks stamp i l (rw (k .is) at m))
 
-  pub each-once : EachOnce (SharesCell on n columns p) (looked (nextStamp stamp) (readyMarks marks stamp) numbers)
-  each-once =
-      record {
-        each = λ i s.
-            let t = stands i s in
-            let n = not-marked i t in
-            looked-once (nextStamp stamp) i numbers (readyMarks marks stamp) (rw (ready-length marks stamp) (n .0)) (n .1) t;
-        noOther = λ i n.
-            looked-none (nextStamp stamp) i numbers (readyMarks marks stamp)
-            (by-test (eqb (times i numbers) 0) (λ e. eqb-true _ _ e) (λ e. absurd (n (shares i (positive (times i numbers) (eqb-false _ _ e))))));
-      }
+    pub each-once : EachOnce (SharesCell on n columns p) (looked (nextStamp stamp) (readyMarks marks stamp) numbers)
+    each-once =
+        record {
+          each = λ i s.
+              let t = stands i s in
+              let n = not-marked i t in
+              looked-once (nextStamp stamp) i numbers (readyMarks marks stamp) (rw (ready-length marks stamp) (n .0)) (n .1) t;
+          noOther = λ i n.
+              looked-none (nextStamp stamp) i numbers (readyMarks marks stamp)
+              (by-test (eqb (times i numbers) 0) (λ e. eqb-true _ _ e) (λ e. absurd (n (shares i (positive (times i numbers) (eqb-false _ _ e))))));
+        }
 
-  -- and one that stands in the list is one of those that share a cell
-  pub once-shared : (i : ℕ) → 0 < times i (looked (nextStamp stamp) (readyMarks marks stamp) numbers) → SharesCell on n columns p i
-  once-shared i t =
-      by-test (eqb (times i numbers) 0)
-      (λ e. absurd (omega (arith, t, looked-none (nextStamp stamp) i numbers (readyMarks marks stamp) (eqb-true _ _ e))))
-      (λ e. shares i (positive (times i numbers) (eqb-false _ _ e)))
+    -- and one that stands in the list is one of those that share a cell
+    pub once-shared : (i : ℕ) → 0 < times i (looked (nextStamp stamp) (readyMarks marks stamp) numbers) → SharesCell on n columns p i
+    once-shared i t =
+        by-test (eqb (times i numbers) 0)
+        (λ e. absurd (omega (arith, t, looked-none (nextStamp stamp) i numbers (readyMarks marks stamp) (eqb-true _ _ e))))
+        (λ e. shares i (positive (times i numbers) (eqb-false _ _ e)))
 
 -- ---- the same of an index
 module _ (ix : Index) (marks : List ℕ) (stamp : ℕ) (p : Patch) (d : SoundIndex ix) (u : usable ix marks stamp p ≡ true) (nine : length (ix .mesh) ≡ length marks * 9) (right : p .x1 ≤ ix .header .columns) (top : p .y1 ≤ ix .header .rows) where

@@ -114,22 +114,49 @@ pub fn usable(
     let columns = h.columns;
     if header::head_usable(mesh, h, starts) {
         let mut recent = [4294967295u32; 256];
-        cells_usable(mesh, n, starts, members, boxes, marks, stamp, columns, p, &mut recent)
+        cells_usable(
+            mesh,
+            n,
+            starts,
+            members,
+            boxes,
+            marks,
+            stamp,
+            columns,
+            p,
+            &mut recent,
+        )
     } else {
         false
     }
 }
 
-// Whether no number of triangle i and of its box is one that 4 would refuse: none is where the squares of all fourteen have a small sum, and else each is looked at.
-// Taken in pairs as they lie in the tables, the numbers come two at a time.
+// Whether no number of triangle i and of its box is one that 4 would refuse: none is where the squares of all fourteen have a small sum, and else
+// each is looked at. Taken in pairs as they lie in the tables, the numbers come two at a time.
 pub fn triangle_usable(mesh: &[f64], boxes: &[f64], i: usize) -> bool
     requires { ⌜ (9 * i + 9 ≤ length (now mesh)) × (5 * i + 5 ≤ length (now boxes)) ⌝ }
     ensures { λ r. ⌜ r ≡ triangleUsable (now (mesh .entry)) (now (boxes .entry)) i ⌝ }
 {
     let k = 9 * i;
     let j = 5 * i;
-    let evens = seven_squares(mesh[k], mesh[k + 2], mesh[k + 4], mesh[k + 6], boxes[j], boxes[j + 2], mesh[k + 8]);
-    let odds = seven_squares(mesh[k + 1], mesh[k + 3], mesh[k + 5], mesh[k + 7], boxes[j + 1], boxes[j + 3], boxes[j + 4]);
+    let evens = seven_squares(
+        mesh[k],
+        mesh[k + 2],
+        mesh[k + 4],
+        mesh[k + 6],
+        boxes[j],
+        boxes[j + 2],
+        mesh[k + 8],
+    );
+    let odds = seven_squares(
+        mesh[k + 1],
+        mesh[k + 3],
+        mesh[k + 5],
+        mesh[k + 7],
+        boxes[j + 1],
+        boxes[j + 3],
+        boxes[j + 4],
+    );
     if evens + odds <= 9e11 {
         return true;
     }
@@ -216,7 +243,15 @@ fn member_usable(mesh: &[f64], boxes: &[f64], n: usize, marks: &[u32], stamp: u3
 }
 
 // The same of a member of which `recent` may tell that it was tested: a triangle stands in several cells, one beside the other. It has a place for 256 numbers.
-fn tested(mesh: &[f64], boxes: &[f64], n: usize, marks: &[u32], stamp: u32, i: u32, recent: &mut [u32]) -> bool
+fn tested(
+    mesh: &[f64],
+    boxes: &[f64],
+    n: usize,
+    marks: &[u32],
+    stamp: u32,
+    i: u32,
+    recent: &mut [u32],
+) -> bool
     requires { ⌜ (length (now mesh) ≡ n * 9) × (length (now marks) ≡ n) × (length (now boxes) ≡ n * 5)
         × Tested (memberUsable (now mesh) (now boxes) n (now marks) stamp) n (now recent) ⌝ }
     ensures { λ r. ⌜ (r ≡ memberUsable (now (mesh .entry)) (now (boxes .entry)) n (now (marks .entry)) stamp i)

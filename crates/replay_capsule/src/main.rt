@@ -1,10 +1,9 @@
-// Asks for the contact and the distance that camlib was asked for, and counts the answers that differ in a bit. Standard input is the list: a line holds a letter,
-// the nine coordinates of a triangle, px, py, qx, qy, r and eps, then camlib's answers: 1 and the height in the capsule or 0 and 0, and the distance of p from the
-// triangle; each number as the 16 hex digits of its bits, every NaN as 7ff8000000000000.
-// The letters: a ordinary, b small beside a large disk, c degenerate, d upright, e needles, f touching in exact points, g signed zeros, h the ends of the ranges,
-// i determinants near 1e-300, j no length or no radius, k large and far, l any bits.
-// The list was made by compare/lists/make, from camlib's own functions with document 01's max, min and hypot.
-// Written are four numbers: the lines, the heights among the contacts, and how many contacts and distances differ.
+// Asks for the contact and the distance that camlib was asked for, and counts the answers that differ in a bit. Standard input is the list: a line
+// holds a letter, the nine coordinates of a triangle, px, py, qx, qy, r and eps, then camlib's answers: 1 and the height in the capsule or 0 and 0,
+// and the distance of p from the triangle; each number as the 16 hex digits of its bits, every NaN as 7ff8000000000000. The letters: a ordinary, b
+// small beside a large disk, c degenerate, d upright, e needles, f touching in exact points, g signed zeros, h the ends of the ranges, i determinants
+// near 1e-300, j no length or no radius, k large and far, l any bits. The list was made by compare/lists/make, from camlib's own functions with
+// document 01's max, min and hypot. Written are four numbers: the lines, the heights among the contacts, and how many contacts and distances differ.
 use libc::STDIN_FILENO;
 use libc::STDOUT_FILENO;
 use plane::Contact;

@@ -1,10 +1,10 @@
-// Asks for the contacts that camlib was asked for, and counts the answers that differ in a bit. Standard input is the list: a line holds a letter, the nine
-// coordinates of a triangle, the axis x and y, four numbers of the cutter, then camlib's answer: 1 and the height or 0 and 0; each number as the 16 hex digits of its
-// bits, every NaN as 7ff8000000000000. A line with b is of a bull-nose cutter: r, rc, the floor and 0; one with s of a section: z0, r0, r1 and rise.
-// Among them are degenerate, upright and level triangles, needles, axes on vertices and on edges, radii and corners of 0, corners of the whole radius, sections level
-// and steep, and the ends of the ranges.
-// compare/lists/make answers the list anew, by camlib's own functions with document 01's max, min and hypot.
-// Written are four numbers: the lines, the heights among the contacts, and how many contacts of bull-nose cutters and of sections differ.
+// Asks for the contacts that camlib was asked for, and counts the answers that differ in a bit. Standard input is the list: a line holds a letter,
+// the nine coordinates of a triangle, the axis x and y, four numbers of the cutter, then camlib's answer: 1 and the height or 0 and 0; each number as
+// the 16 hex digits of its bits, every NaN as 7ff8000000000000. A line with b is of a bull-nose cutter: r, rc, the floor and 0; one with s of a
+// section: z0, r0, r1 and rise. Among them are degenerate, upright and level triangles, needles, axes on vertices and on edges, radii and corners of
+// 0, corners of the whole radius, sections level and steep, and the ends of the ranges. compare/lists/make answers the list anew, by camlib's own
+// functions with document 01's max, min and hypot. Written are four numbers: the lines, the heights among the contacts, and how many contacts of
+// bull-nose cutters and of sections differ.
 use bull::Bull;
 use libc::STDIN_FILENO;
 use libc::STDOUT_FILENO;

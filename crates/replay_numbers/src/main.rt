@@ -1,9 +1,9 @@
-// Asks the numbers what Rust was asked, and counts the answers that differ in a bit. Standard input is the list: a line holds a letter for the function, x, y and
-// Rust's answer, each number as the 16 hex digits of its bits, y being 0 where there is one operand. Every NaN is written 7ff8000000000000.
-// The list was made by compare/lists/make: sqrt, floor, ceil, abs and total_cmp are Rust's own; max, min, the clamp and hypot are
-// document 01's rules in Rust. It has the first and last values of exponents, a subnormal of each length, squares and their neighbours, halves and whole
-// numbers around 2^52 and 2^53, both zeros, both infinities, NaN, and some random bits.
-// For each function a line is written: its letter, how many questions it had and how many answers differ.
+// Asks the numbers what Rust was asked, and counts the answers that differ in a bit. Standard input is the list: a line holds a letter for the
+// function, x, y and Rust's answer, each number as the 16 hex digits of its bits, y being 0 where there is one operand. Every NaN is written
+// 7ff8000000000000. The list was made by compare/lists/make: sqrt, floor, ceil, abs and total_cmp are Rust's own; max, min, the clamp and hypot are
+// document 01's rules in Rust. It has the first and last values of exponents, a subnormal of each length, squares and their neighbours, halves and
+// whole numbers around 2^52 and 2^53, both zeros, both infinities, NaN, and some random bits. For each function a line is written: its letter, how
+// many questions it had and how many answers differ.
 use libc::STDIN_FILENO;
 use libc::STDOUT_FILENO;
 

@@ -1,9 +1,10 @@
-// Asks the section questions over a slice of Section structs. A case is made from its number by shifts and exclusive or alone: a mesh of six triangles, a tool of 0, 1, 2,
-// 3, 32 or 33 sections, a place and a chord. Standard input is a list of camlib's answers to the first thousand cases, a line each: the refusal (8 for none and for 33 sections,
-// where camlib is not asked), the height's bits as 16 hex digits, 0 for no verdict, 1 for clear or 2 for blocked, and all marks afterwards, two hex digits each behind four.
-// compare/lists/make answers the list anew, by camlib's own functions with document 01's max, min and hypot.
-// Then, where the list was answered rightly, a hundred thousand cases are asked over the slice and over the flat table, and whole answers and marks are compared.
-// Written are six numbers: the lines, how many of them are accepted and how many clear, how many differ from the list; the cases asked both ways, and how many of them differ.
+// Asks the section questions over a slice of Section structs. A case is made from its number by shifts and exclusive or alone: a mesh of six
+// triangles, a tool of 0, 1, 2, 3, 32 or 33 sections, a place and a chord. Standard input is a list of camlib's answers to the first thousand cases,
+// a line each: the refusal (8 for none and for 33 sections, where camlib is not asked), the height's bits as 16 hex digits, 0 for no verdict, 1 for
+// clear or 2 for blocked, and all marks afterwards, two hex digits each behind four. compare/lists/make answers the list anew, by camlib's own
+// functions with document 01's max, min and hypot. Then, where the list was answered rightly, a hundred thousand cases are asked over the slice and
+// over the flat table, and whole answers and marks are compared. Written are six numbers: the lines, how many of them are accepted and how many
+// clear, how many differ from the list; the cases asked both ways, and how many of them differ.
 ghost use Prim.Native.Nat.{_≤_};
 use ask::Answer;
 use ask::Ruling;
@@ -129,7 +130,8 @@ fn question_of(seed: u64) -> Question
     }
 }
 
-// The highest tip of a tool of the first n sections, over a slice of them. Proved by hand, as the next: the borrow checker covers no function that makes a slice of structs.
+// The highest tip of a tool of the first n sections, over a slice of them. Proved by hand, as the next: the borrow checker covers no function that
+// makes a slice of structs.
 fn of_heights(
     mesh: &[f64],
     h: Header,

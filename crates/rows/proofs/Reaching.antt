@@ -109,7 +109,7 @@ module _ (a b : Float) (e : Edge a b) (n k : ℕ) (some : 0 < n) (few : n ≤ 65
       let i = steps-end off n k some inside in
       let j = steps-end on n k some inside in
       let pitch = within-div (b ⊖ a) off on n (omega arith) width p q some (omega (arith, off-few, div-le-self off n)) (omega (arith, on-few, div-le-self on n))
-          (step-holds off n k some inside) (step-holds on n k some inside) in
+      (step-holds off n k some inside) (step-holds on n k some inside) in
       reach _ n few
       (within-more _ _ _ _ _ i j (within-times _ p q k (omega arith) pitch (omega (arith, off-few)) (omega (arith, on-few))))
 

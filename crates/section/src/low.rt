@@ -1,4 +1,5 @@
-// What the tip's height over a vertex or an edge is at most, since the section's surface is nowhere below z0: candidates that cannot exceed the best so far are left out.
+// What the tip's height over a vertex or an edge is at most, since the section's surface is nowhere below z0: candidates that cannot exceed the best
+// so far are left out.
 ghost use mathlib.Core.Path.{_≡_};
 ghost use Rattle.section.specs.Inside.{KeptIf, Firm, lowEdge, overOf, capOf};
 use crate::Section;

@@ -1,5 +1,5 @@
-// The set-up height: the floor, or the highest top over it of any triangle whose box meets the question's box grown by the radius. All numbers are counted from the
-// least i32.
+// The set-up height: the floor, or the highest top over it of any triangle whose box meets the question's box grown by the radius. All numbers are
+// counted from the least i32.
 ghost use mathlib.Core.Path.{_≡_};
 ghost use mathlib.Core.Bool.{true};
 ghost use Prim.Native.Nat.{_+_, _-_, _*_, _^_, _≤_, _<_, min};
@@ -133,7 +133,16 @@ fn refusal_of_tables(
 {
     let n = h.n;
     let columns = h.columns;
-    if usable::cells_usable(mesh, n, starts, members, marks, stamp, columns, patch_of(h, w)) {
+    if usable::cells_usable(
+        mesh,
+        n,
+        starts,
+        members,
+        marks,
+        stamp,
+        columns,
+        patch_of(h, w),
+    ) {
         return 0;
     }
     7
@@ -254,7 +263,17 @@ fn walk_from(
         height: h.floor,
         met: 0,
     };
-    visit(mesh, starts, members, marks, stamp, columns, patch_of(h, w), w, first)
+    visit(
+        mesh,
+        starts,
+        members,
+        marks,
+        stamp,
+        columns,
+        patch_of(h, w),
+        w,
+        first,
+    )
 }
 
 // Whether two stretches of an axis meet, the second grown by r.
@@ -317,16 +336,10 @@ fn look_at(mesh: &[i32], marks: &mut [u32], stamp: u32, w: Reach, s: Seen, i: us
 }
 
 // The step over one cell: looks at each of its numbers.
-fn visit_cell(
-    mesh: &[i32],
-    part: &[u32],
-    marks: &mut [u32],
-    stamp: u32,
-    w: Reach,
-    s: Seen,
-) -> Seen
+fn visit_cell(mesh: &[i32], part: &[u32], marks: &mut [u32], stamp: u32, w: Reach, s: Seen) -> Seen
     requires { ⌜ (length (now mesh) ≡ length (now marks) * 9) × Below (length (now marks)) (now part) × Room stamp (seen (now marks) s) × Sane s × Small w ⌝ }
-    ensures { λ r. ⌜ (seen (now (marks .exit)) r ≡ fold (look stamp (stepOf (now (mesh .entry)) w)) (seen (now (marks .entry)) s) (now (part .entry))) × Sane r ⌝ }
+    ensures { λ r. ⌜ (seen (now (marks .exit)) r
+        ≡ fold (look stamp (stepOf (now (mesh .entry)) w)) (seen (now (marks .entry)) s) (now (part .entry))) × Sane r ⌝ }
 {
     let mut found = s;
     for j in 0..part.len() {

@@ -1,6 +1,7 @@
 // What the contacts of round cutters share: a triangle's edges, the stretch of an edge under a cutter, the place on a facet where a cutter rests.
 ghost use mathlib.Core.Path.{_≡_};
-ghost use Rattle.touch.specs.Touch.{edgeAb, edgeBc, edgeCa, along, distanceAt, length2, crossedOf, reachedOf, gradientOf, facingOf, restOf, weighedOf, spotHeight, facetHeight};
+ghost use Rattle.touch.specs.Touch.{edgeAb, edgeBc, edgeCa, along, distanceAt, length2, crossedOf, reachedOf, gradientOf, facingOf, restOf};
+ghost use Rattle.touch.specs.Touch.{weighedOf, spotHeight, facetHeight};
 use plane::Contact;
 use plane::Spot;
 use plane::Touch;

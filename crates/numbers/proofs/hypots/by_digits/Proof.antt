@@ -34,8 +34,7 @@ beside a b e h =
     let A = sized a h in
     let w = A .whole in
     let d = digitsOf a * 2 ^ placeOf a in
-    let k = packed (digitsOf a) (placeOf a) (weak _ (A .few)) (A .enough) (subst (λ (z : ℕ). z < infiniteBits) (sym w) h) in
-    (
+    let k = packed (digitsOf a) (placeOf a) (weak _ (A .few)) (A .enough) (subst (λ (z : ℕ). z < infiniteBits) (sym w) h) in (
       ap (ofBits binary64) (sym w) ∙ k .0 ∙ sym (hit (exactly (digitsOf a) (placeOf a) (A .few) (A .enough))) ∙ ap hypotOfCount (sym (add-zero (d * d))) ∙ sizes-finite a 0 h ∙ ap (ofSizes a) (sym e),
       subst (λ (z : ℕ). T (not (nanBits binary64 z))) w (k .1),
     )
@@ -69,8 +68,7 @@ digits-requires c κs =
     let h = c .before .before .before .before .if1 .left in
     let k = below a b (s .pre .0) h in
     let A = sized a h in
-    let B = sized b k in
-    (
+    let B = sized b k in (
       lit< tt,
       subst (λ (z : ℕ). z < 2 ^ 53) (sym (digits a _ h p)) (A .few),
       subst (λ (z : ℕ). z < 2 ^ 53) (sym (digits b _ k q)) (B .few),

@@ -70,8 +70,7 @@ one c z =
 
 returns : tie.Need-returns
 returns c =
-    let n = c .before in
-    (
+    let n = c .before in (
       (λ e. infinity-is ∙ result-beyond _ _ _ (hits n e) (place n) (c .if1 .taken)),
       (λ z P s a. absurd (none _ _ _ P (one n z .0) (few n) (c .if1 .taken))),
     )
@@ -96,8 +95,7 @@ no-nan c = go _ (c .if1 .left)
 
 returns-2 : tie.Need-returns-2
 returns-2 c =
-    let n = c .before in
-    (
+    let n = c .before in (
       (λ e. result-is _ _ _ (hits n e) (place n) (c .if1 .left) .0),
       (λ z P s a. ap (ofBits binary64) (same _ _ _ s P (one n z .0) (one-nearest (one n z .1) a))),
     )

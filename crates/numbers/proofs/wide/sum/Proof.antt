@@ -26,8 +26,7 @@ returns c =
     let k = l .before .before .before .args .k in
     let s : x .result .hi * 2 ^ 55 + x .result .lo + (y .result .hi * 2 ^ 55 + y .result .lo) ≡ z .result .hi * 2 ^ 55 + z .result .lo =
     total (x .result .hi) (x .result .lo) (y .result .hi) (y .result .lo) _ (z .ensures .1) in
-    let w : Lowered (8 * (n * n)) (y .result .hi * 2 ^ 55 + y .result .lo) (2 * k) = subst (λ (v : ℕ). Lowered v (y .result .hi * 2 ^ 55 + y .result .lo) (2 * k)) (l .before .eight-squares2 .ensures .2) (y .ensures .2) in
-    (
+    let w : Lowered (8 * (n * n)) (y .result .hi * 2 ^ 55 + y .result .lo) (2 * k) = subst (λ (v : ℕ). Lowered v (y .result .hi * 2 ^ 55 + y .result .lo) (2 * k)) (l .before .eight-squares2 .ensures .2) (y .ensures .2) in (
       top (x .result .hi) (x .result .lo) (y .result .hi) (y .result .lo) (z .result .hi) (z .result .lo) (x .ensures .0) (x .ensures .1) (high l) (y .ensures .1) s,
       z .ensures .0,
       subst (λ (v : ℕ). Lowered (8 * (m * m) * 2 ^ (2 * k) + 8 * (n * n)) v (2 * k)) (ap (λ (v : ℕ). v + (y .result .hi * 2 ^ 55 + y .result .lo)) (sym (x .ensures .2)) ∙ s) (lowered-add (8 * (m * m)) _ _ (2 * k) (even (m * m)) w),
