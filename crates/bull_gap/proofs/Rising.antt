@@ -8,7 +8,6 @@ use borrow.Author.Tests.{ltb-true, lt-ltb}
 use lib.Ieee.{Float, nan, inf, fin, up, down, lt, isNan, ofBits}
 use Rattle.numbers.specs.Reals.{f0, maxOf}
 use Rattle.numbers.proofs.Branches.{either, no}
-use Rattle.golden.specs.declared.Golden.{Golden}
 use Rattle.golden.specs.Search.{rises, goldenAt, bestOf, goldenMax}
 
 factor : (a b B : ℕ) → b < a * B → 0 < a
@@ -57,7 +56,3 @@ module _ (f : Float → Float) (lo hi : Float) (n : ℕ) (low : Float) (p : low 
       let g = goldenAt rises f lo hi n in
       let a = maxOf (f lo) (f hi) in
       sym (kept (maxOf a (g .f1)) (g .f2) (kept a (g .f1) (rw (e, p, q) at h)))
-
-  pub searched-is : (high b : Float) (g : Golden) → high ≡ f hi → g ≡ goldenAt rises f lo hi n → b ≡ bestOf low high (g .f1) (g .f2) → lt f0 b ≡ lt f0 (goldenMax f lo hi n)
-  unfolding goldenMax
-  searched-is high b g q e r = rw (r, p, q, e)
