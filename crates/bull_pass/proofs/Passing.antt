@@ -25,7 +25,8 @@ use Rattle.touch.specs.declared.Stretch.the-variants.{Nowhere, Between as Part}
 use Rattle.touch.specs.declared.Facing.{Facing}
 use Rattle.touch.specs.declared.Facing.the-variants.{Upright, Leaning}
 use Rattle.touch.specs.declared.Gradient.{Gradient}
-use Rattle.touch.specs.Touch.{offerOf, edgeAb, edgeBc, edgeCa, along, distanceAt, length2, crossedOf, reachedOf, facingOf, facetHeight}
+use Rattle.above.specs.Above.{offerOf}
+use Rattle.touch.specs.Touch.{edgeAb, edgeBc, edgeCa, along, distanceAt, length2, crossedOf, reachedOf, facingOf, facetHeight}
 use Rattle.spans.specs.Mesh.{isCoordinate}
 use Rattle.spans.proofs.Ranges.{finite-between, sub-mono}
 use Rattle.spans.proofs.Sizes.{by-test, either-of, le-self, not-below, f0-is, f1-is}
