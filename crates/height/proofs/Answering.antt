@@ -16,7 +16,8 @@ use Rattle.capsule.specs.declared.Capsule.{Capsule}
 use Rattle.ask.specs.declared.Answer.{Answer}
 use Rattle.ask.specs.Ask.{refusalOf, ended, refusedBy, answeredBy, answerOf, askedHeight}
 use Rattle.ask.proofs.Answers.{passed, height-refused}
-use Rattle.height.specs.Sweep.{Sweep, patchFor, capsuleFor, diskStep, capsuleWalk, Sweepable}
+use Rattle.height.specs.Sweep.{Sweep, patchFor, capsuleFor, diskStep, capsuleWalk}
+use Rattle.height.specs.Inside.{Sweepable}
 use Rattle.height.specs.Height.{isSweep, maxHeightOf}
 use Rattle.height.specs.Demand.{DiskPromise}
 use Rattle.height.proofs.Demanding.{disk-promise}

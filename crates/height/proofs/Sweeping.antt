@@ -16,7 +16,8 @@ use Rattle.query.specs.Looked.{within}
 use Rattle.query.proofs.Looks.{ready-length}
 use Rattle.capsule.specs.declared.Capsule.{Capsule}
 use Rattle.ask.specs.Ask.{atFloor}
-use Rattle.height.specs.Sweep.{diskStep, Sweepable, capsuleRun, Halted}
+use Rattle.height.specs.Sweep.{diskStep}
+use Rattle.height.specs.Inside.{Sweepable, capsuleRun, Halted}
 
 module _ (ix : Index) (marks : List ℕ) (stamp : ℕ) (p : Patch) (m : List ℕ) (next : ℕ) (e : m ≡ readyMarks marks stamp) where
   pub sweep-ready : length (ix .mesh) ≡ length marks * 9 → length marks ≤ 65536 → Sweepable ix (length marks) p → length (ix .boxes) ≡ length marks * 5

@@ -1,3 +1,4 @@
 pub mod Sweep
 pub mod Height
 pub mod Demand
+pub mod Inside

@@ -1,10 +1,8 @@
 -- Document 01, "Questions": the swept-disk height, from p to q with radius r, over the triangles that its walk looks at.
-use mathlib.Core.Bool.{true, cond}
-use mathlib.Core.List.{List, [], _++_}
-use mathlib.Core.Logic.{_⊎_}
-use mathlib.Core.Path.{_≡_}
+use mathlib.Core.Bool.{cond}
+use mathlib.Core.List.{List}
 use Prim.Native.Nat.{ℕ}
-use lib.Ieee.{Float, lt, le}
+use lib.Ieee.{Float, le}
 use Rattle.plane.specs.declared.Contact.{Contact}
 use Rattle.plane.specs.Mesh.{triangleOf}
 use Rattle.capsule.specs.declared.Capsule.{Capsule}
@@ -12,7 +10,6 @@ use Rattle.capsule.specs.Region.{capsuleOf}
 use Rattle.capsule.specs.Candidates.{highestIn}
 use Rattle.walk.specs.declared.Best.{Best}
 use Rattle.walk.specs.Walk.{Walk, walked, nextStamp}
-use Rattle.walk.specs.Inside.{Walkable}
 use Rattle.grid.specs.declared.Header.{Header}
 use Rattle.grid.specs.Boxes.{boxAt}
 use Rattle.grid.specs.Index.{Index}
@@ -20,7 +17,6 @@ use Rattle.query.specs.declared.Patch.{Patch}
 use Rattle.query.specs.Patch.{patchOf}
 use Rattle.query.specs.Looked.{within}
 use Rattle.ask.specs.Ask.{atFloor, raisedBy, begun}
-use Rattle.height.specs.declared.Swept.{Swept}
 
 -- A sweep: a disk of radius r moved from p to q.
 pub record Sweep : Type 0 where
@@ -57,26 +53,3 @@ capsuleWalk ix marks stamp q p =
 -- The walk of a sweep.
 unfoldable pub sweepWalk : Index → List ℕ → ℕ → Sweep → Walk Best
 sweepWalk ix marks stamp s = capsuleWalk ix marks stamp (capsuleFor (ix .header) s) (patchFor (ix .header) s)
-
--- ---- what the parts of the code promise each other
-
--- what a walk found, with its marks
-abbrev pub walkLeft : Swept → List ℕ → Walk Best
-walkLeft s m = record { marks = m; count = s .count; value = s .best }
-
--- the cells p of an index of n triangles can be walked
-abbrev pub Sweepable : Index → ℕ → Patch → Type 0
-Sweepable ix n p = Walkable (ix .starts) (ix .members) n (ix .header .columns) (p .x0) (p .x1) (p .y0) (p .y1)
-
--- the walk with a capsule over a list of numbers
-abbrev pub capsuleRun : Index → List ℕ → ℕ → Capsule → List ℕ → Walk Best
-capsuleRun ix marks stamp q ms =
-    walked (nextStamp stamp) (diskStep (ix .mesh) (ix .boxes) q) (begun marks stamp (atFloor (ix .header .floor))) ms
-
--- What a walk leaves that may be left once its best is above the limit: it went over a first part of its list, which is all of it, or the best is above the limit.
-pub record Halted (run : List ℕ → Walk Best) (all : List ℕ) (limit : Float) (w : Walk Best) : Type 0 where
-  pub front : List ℕ
-  pub rest : List ℕ
-  pub whole : all ≡ front ++ rest
-  pub walk : w ≡ run front
-  pub why : (rest ≡ []) ⊎ (lt limit (w .value .height) ≡ true)

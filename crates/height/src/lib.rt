@@ -10,7 +10,8 @@ ghost use Rattle.grid.specs.Index.{indexOf};
 ghost use Rattle.ask.specs.Ask.{ended};
 ghost use Rattle.query.specs.Looked.{within};
 ghost use Rattle.height.specs.Demand.{DiskPromise};
-ghost use Rattle.height.specs.Sweep.{sweep, patchFor, capsuleFor, diskStep, sweepWalk, walkLeft, Sweepable, capsuleRun, Halted};
+ghost use Rattle.height.specs.Sweep.{sweep, patchFor, capsuleFor, diskStep, sweepWalk};
+ghost use Rattle.height.specs.Inside.{walkLeft, Sweepable, capsuleRun, Halted};
 ghost use Rattle.height.specs.Height.{arePoints, isSweep, maxHeightOf};
 use ask::Answer;
 use capsule::Capsule;
@@ -337,7 +338,7 @@ fn is_above(s: Seen, limit: f64) -> bool
     best.height > limit
 }
 
-// The walk over the cells of a patch: rows, then columns, then the numbers of each cell. No row is begun with a best above the limit.
+// The walk over the cells of a patch: rows, then columns, then the numbers of each cell. No cell is begun with a best above the limit.
 fn visit(
     mesh: &[f64],
     starts: &[u32],
@@ -363,10 +364,10 @@ fn visit(
     let y1 = p.y1;
     let mut found = s;
     for y in y0..y1 {
-        if is_above(found, limit) {
-            return found;
-        }
         for x in x0..x1 {
+            if is_above(found, limit) {
+                return found;
+            }
             let part = walk::stretch(starts, members, y * columns + x);
             found = visit_cell(mesh, boxes, part, marks, stamp, q, found);
         }

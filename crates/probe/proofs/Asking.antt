@@ -16,9 +16,10 @@ use Rattle.walk.specs.Walk.{Walk, looked, marked, fold, walked, nextStamp, read
 use Rattle.grid.specs.Index.{Index}
 use Rattle.query.specs.Looked.{within}
 use Rattle.ask.specs.Ask.{atFloor}
-use Rattle.height.specs.Sweep.{Sweep, sweep, patchFor, capsuleFor, diskStep, capsuleWalk, sweepWalk, capsuleRun, Halted}
+use Rattle.height.specs.Sweep.{Sweep, sweep, patchFor, capsuleFor, diskStep, capsuleWalk, sweepWalk}
+use Rattle.height.specs.Inside.{capsuleRun, Halted}
 use Rattle.height.proofs.Heights.{stays-above}
-use Rattle.height.proofs.Halting.{fold-append}
+use Rattle.walk.proofs.Rings.{fold-append}
 use Rattle.runs.specs.declared.Run.{Run}
 use Rattle.probe.specs.Probe.{heightUnder}
 use Rattle.probe.specs.Inside.{Marked, Decides}

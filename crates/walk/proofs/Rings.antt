@@ -15,7 +15,7 @@ use Rattle.walk.specs.Inside.{look, strike, struck, unmarked, Below, Roo
 
 -- ---- a fold over a list taken apart
 module _ {W : Type 0} (s : W → ℕ → W) where
-  fold-append : (xs ys : List ℕ) (w : W) → fold s w (xs ++ ys) ≡ fold s (fold s w xs) ys
+  pub fold-append : (xs ys : List ℕ) (w : W) → fold s w (xs ++ ys) ≡ fold s (fold s w xs) ys
   unfolding fold
   fold-append [] ys w = refl
   fold-append (x ∷ xs) ys w = fold-append xs ys (s w x)
