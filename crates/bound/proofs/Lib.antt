@@ -6,4 +6,5 @@ pub mod Along
 pub mod Small
 pub mod Rounded
 pub mod Near
+pub mod Far
 pub mod Whole

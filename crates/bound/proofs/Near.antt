@@ -90,7 +90,7 @@ unfolding mul
 square-is true m e = refl
 square-is false m e = refl
 
-square-value : (s : Bool) (m : ℕ) (e : _) → T (finite (fin s m e ⊗ fin s m e)) → HasValue (fin s m e ⊗ fin s m e) false (grid binary64 (m * up e * (m * up e)) (down e * down e)) (2 ^ 1074)
+pub square-value : (s : Bool) (m : ℕ) (e : _) → T (finite (fin s m e ⊗ fin s m e)) → HasValue (fin s m e ⊗ fin s m e) false (grid binary64 (m * up e * (m * up e)) (down e * down e)) (2 ^ 1074)
 square-value s m e p =
     let r = square-is s m e in
     subst (λ (z : Float). HasValue z false (grid binary64 (m * up e * (m * up e)) (down e * down e)) (2 ^ 1074)) (sym r) (round-val binary64 _ _ (round-under binary64 _ _ (subst (λ (z : Float). T (finite z)) r p)))
@@ -101,7 +101,7 @@ pub record Squared (x : Float) : Type 0 where
   pub value : HasValue (x ⊗ x) false g (2 ^ 1074)
   pub less : (2 ^ 52 - 1) * (countOf x * countOf x) ≤ 2 ^ 52 * ((g + 1) * 2 ^ 1074)
 
-squared : (x : Float) → T (finite x) → T (finite (x ⊗ x)) → Squared x
+pub squared : (x : Float) → T (finite x) → T (finite (x ⊗ x)) → Squared x
 squared nan p q = absurd p
 squared (inf s) p q = absurd p
 squared (fin s m e) p q =
@@ -118,13 +118,31 @@ squared (fin s m e) p q =
         (le-of-eq (mul-assoc (2 ^ 52) ((g + 1) * (c * c)) t ∙ ap (λ (z : ℕ). 2 ^ 52 * z) (mul-right-comm (g + 1) (c * c) t) ∙ sym (mul-assoc (2 ^ 52) ((g + 1) * t) (c * c))))))))
         (mul-pos C C)
 
--- nor is a sum
+-- nor much larger, of an f64
+pub square-more : (s : Bool) (m : ℕ) (e : _) → T (fits binary64 (fin s m e))
+    → 2 ^ 52 * (grid binary64 (m * up e * (m * up e)) (down e * down e) * 2 ^ 1074) ≤ (2 ^ 52 + 1) * (countOf (fin s m e) * countOf (fin s m e)) + 2 ^ 52 * 2 ^ 1074
+square-more s m e t =
+    up-square (m * up e) (down e) (countOf (fin s m e)) _ (down-pos e) (count-is s m e t) (not-more (m * up e * (m * up e)) (down e * down e) (mul-pos (down-pos e) (down-pos e)))
+  where
+    up-square : (a c p g : ℕ) → 0 < c → a * 2 ^ 1074 ≡ p * c → 2 ^ 52 * (g * (c * c)) ≤ (2 ^ 52 + 1) * (a * a * 2 ^ 1074) + 2 ^ 52 * (c * c) → 2 ^ 52 * (g * 2 ^ 1074) ≤ (2 ^ 52 + 1) * (p * p) + 2 ^ 52 * 2 ^ 1074
+    up-square a c p g C h k =
+        let t = 2 ^ 1074 in
+        let e : (2 ^ 52 + 1) * (a * a * t) * t ≡ (2 ^ 52 + 1) * (p * p) * (c * c) =
+        mul-assoc (2 ^ 52 + 1) (a * a * t) t ∙ ap (λ (z : ℕ). (2 ^ 52 + 1) * z) (mul-assoc (a * a) t t ∙ mul-mul-mul-comm a a t t ∙ ap (λ (z : ℕ). z * z) h ∙ mul-mul-mul-comm p c p c) ∙ sym (mul-assoc (2 ^ 52 + 1) (p * p) (c * c)) in
+        let f : 2 ^ 52 * (c * c) * t ≡ 2 ^ 52 * t * (c * c) = mul-right-comm (2 ^ 52) (c * c) t in
+        le-of-mul-le-mul-right {k = c * c}
+        (le-trans (le-of-eq (mul-assoc (2 ^ 52) (g * t) (c * c) ∙ ap (λ (z : ℕ). 2 ^ 52 * z) (mul-right-comm g t (c * c)) ∙ sym (mul-assoc (2 ^ 52) (g * (c * c)) t)))
+        (le-trans (mul-le-mul-right t k)
+        (le-of-eq (add-mul ((2 ^ 52 + 1) * (a * a * t)) (2 ^ 52 * (c * c)) t ∙ ap (λ (z : ℕ). z + 2 ^ 52 * (c * c) * t) e ∙ ap (λ (z : ℕ). (2 ^ 52 + 1) * (p * p) * (c * c) + z) f ∙ sym (add-mul ((2 ^ 52 + 1) * (p * p)) (2 ^ 52 * t) (c * c))))))
+        (mul-pos C C)
+
+-- a sum is not much smaller either
 pub record Summed (p q : Float) (a b : ℕ) : Type 0 where
   pub s : ℕ
   pub value : HasValue (p ⊕ q) false s (2 ^ 1074)
   pub less : (2 ^ 52 - 1) * (a + b) ≤ 2 ^ 52 * (s + 1)
 
-sum-is : (m : ℕ) (e : _) (n : ℕ) (d : _) (a b : ℕ) → m * up e * 2 ^ 1074 ≡ a * down e → n * up d * 2 ^ 1074 ≡ b * down d → fin false m e ⊕ fin false n d ≡ round binary64 false (a + b) (2 ^ 1074)
+pub sum-is : (m : ℕ) (e : _) (n : ℕ) (d : _) (a b : ℕ) → m * up e * 2 ^ 1074 ≡ a * down e → n * up d * 2 ^ 1074 ≡ b * down d → fin false m e ⊕ fin false n d ≡ round binary64 false (a + b) (2 ^ 1074)
 unfolding add sum
 sum-is m e n d a b h k =
     round-same binary64 false (m * up e * down d + n * up d * down e) (down e * down d) (a + b) (2 ^ 1074) (mul-pos (down-pos e) (down-pos d)) (pow-pos 1074)
@@ -165,7 +183,7 @@ nearly-is : nearlyBits ≡ nearlyOne
 unfolding ofBits
 nearly-is = refl
 
-least-is : leastBits ≡ least
+pub least-is : leastBits ≡ least
 unfolding ofBits
 least-is = refl
 
@@ -176,42 +194,30 @@ pub record Margin (w : Float) : Type 0 where
   pub square : 2 ^ 52 * (g * 2 ^ 1074) ≤ (2 ^ 52 + 1) * (countOf w * countOf w) + 2 ^ 52 * 2 ^ 1074
   pub product : 2 ^ 102 * f ≤ (2 ^ 52 + 1) * (2 ^ 50 - 1) * g + 2 ^ 102
 
-product-is : (v : Float) (g : ℕ) → HasValue v false g (2 ^ 1074) → v ⊗ nearlyOne ≡ round binary64 false (g * (2 ^ 50 - 1)) (2 ^ 1074 * 2 ^ 50)
+pub product-is : (v : Float) (g m : ℕ) (e : _) → HasValue v false g (2 ^ 1074) → v ⊗ fin false m e ≡ round binary64 false (g * (m * up e)) (2 ^ 1074 * down e)
 unfolding mul
-product-is nan g h = absurd h
-product-is (inf s) g h = absurd h
-product-is (fin true n d) g h = absurd (no (sym (h .0)))
-product-is (fin false n d) g h =
-    round-same binary64 false (n * up d * ((2 ^ 50 - 1) * 1)) (down d * 2 ^ 50) (g * (2 ^ 50 - 1)) (2 ^ 1074 * 2 ^ 50) (mul-pos (down-pos d) (pow-pos 50)) (mul-pos (pow-pos 1074) (pow-pos 50))
-    (mul-mul-mul-comm (n * up d) (2 ^ 50 - 1) (2 ^ 1074) (2 ^ 50) ∙ ap (λ (z : ℕ). z * ((2 ^ 50 - 1) * 2 ^ 50)) (h .1) ∙ mul-mul-mul-comm g (down d) (2 ^ 50 - 1) (2 ^ 50))
+product-is nan g m e h = absurd h
+product-is (inf s) g m e h = absurd h
+product-is (fin true n d) g m e h = absurd (no (sym (h .0)))
+product-is (fin false n d) g m e h =
+    round-same binary64 false (n * up d * (m * up e)) (down d * down e) (g * (m * up e)) (2 ^ 1074 * down e) (mul-pos (down-pos d) (down-pos e)) (mul-pos (pow-pos 1074) (down-pos e))
+    (mul-mul-mul-comm (n * up d) (m * up e) (2 ^ 1074) (down e) ∙ ap (λ (z : ℕ). z * (m * up e * down e)) (h .1) ∙ mul-mul-mul-comm g (down d) (m * up e) (down e))
 
 margin : (w : Float) → T (fits binary64 w) → T (finite w) → T (finite (w ⊗ w)) → T (finite (w ⊗ w ⊗ nearlyOne)) → Margin w
 margin nan t p q r = absurd p
 margin (inf s) t p q r = absurd p
 margin (fin s m e) t p q r =
     let g = grid binary64 (m * up e * (m * up e)) (down e * down e) in
-    let x = product-is (fin s m e ⊗ fin s m e) g (square-value s m e q) in
+    let x : fin s m e ⊗ fin s m e ⊗ nearlyOne ≡ round binary64 false (g * (2 ^ 50 - 1)) (2 ^ 1074 * 2 ^ 50) = product-is (fin s m e ⊗ fin s m e) g (2 ^ 50 - 1) (negsuc 49) (square-value s m e q) in
     let f = grid binary64 (g * (2 ^ 50 - 1)) (2 ^ 1074 * 2 ^ 50) in
     record {
       f = f;
       g = g;
       value = subst (λ (z : Float). HasValue z false f (2 ^ 1074)) (sym x) (round-val binary64 _ _ (round-under binary64 _ _ (subst (λ (z : Float). T (finite z)) x r)));
-      square = up-square (m * up e) (down e) (countOf (fin s m e)) g (down-pos e) (count-is s m e t) (not-more (m * up e * (m * up e)) (down e * down e) (mul-pos (down-pos e) (down-pos e)));
+      square = square-more s m e t;
       product = up-product f g (not-more (g * (2 ^ 50 - 1)) (2 ^ 1074 * 2 ^ 50) (mul-pos (pow-pos 1074) (pow-pos 50)));
     }
   where
-    up-square : (a c p g : ℕ) → 0 < c → a * 2 ^ 1074 ≡ p * c → 2 ^ 52 * (g * (c * c)) ≤ (2 ^ 52 + 1) * (a * a * 2 ^ 1074) + 2 ^ 52 * (c * c) → 2 ^ 52 * (g * 2 ^ 1074) ≤ (2 ^ 52 + 1) * (p * p) + 2 ^ 52 * 2 ^ 1074
-    up-square a c p g C h k =
-        let t = 2 ^ 1074 in
-        let e : (2 ^ 52 + 1) * (a * a * t) * t ≡ (2 ^ 52 + 1) * (p * p) * (c * c) =
-        mul-assoc (2 ^ 52 + 1) (a * a * t) t ∙ ap (λ (z : ℕ). (2 ^ 52 + 1) * z) (mul-assoc (a * a) t t ∙ mul-mul-mul-comm a a t t ∙ ap (λ (z : ℕ). z * z) h ∙ mul-mul-mul-comm p c p c) ∙ sym (mul-assoc (2 ^ 52 + 1) (p * p) (c * c)) in
-        let f : 2 ^ 52 * (c * c) * t ≡ 2 ^ 52 * t * (c * c) = mul-right-comm (2 ^ 52) (c * c) t in
-        le-of-mul-le-mul-right {k = c * c}
-        (le-trans (le-of-eq (mul-assoc (2 ^ 52) (g * t) (c * c) ∙ ap (λ (z : ℕ). 2 ^ 52 * z) (mul-right-comm g t (c * c)) ∙ sym (mul-assoc (2 ^ 52) (g * (c * c)) t)))
-        (le-trans (mul-le-mul-right t k)
-        (le-of-eq (add-mul ((2 ^ 52 + 1) * (a * a * t)) (2 ^ 52 * (c * c)) t ∙ ap (λ (z : ℕ). z + 2 ^ 52 * (c * c) * t) e ∙ ap (λ (z : ℕ). (2 ^ 52 + 1) * (p * p) * (c * c) + z) f ∙ sym (add-mul ((2 ^ 52 + 1) * (p * p)) (2 ^ 52 * t) (c * c))))))
-        (mul-pos C C)
-
     up-product : (f g : ℕ) → 2 ^ 52 * (f * (2 ^ 1074 * 2 ^ 50)) ≤ (2 ^ 52 + 1) * (g * (2 ^ 50 - 1) * 2 ^ 1074) + 2 ^ 52 * (2 ^ 1074 * 2 ^ 50) → 2 ^ 102 * f ≤ (2 ^ 52 + 1) * (2 ^ 50 - 1) * g + 2 ^ 102
     up-product f g h =
         let t = 2 ^ 1074 in
@@ -283,7 +289,7 @@ within-squares x y w a b s f g t h₁ h₂ h₃ h₄ h₅ h₆ h₇ =
 least-value : HasValue least false (2 ^ 774) (2 ^ 1074)
 least-value = (refl, refl)
 
-plus : (w : Float) → T (fits binary64 w) → T (finite w) → T (le least w) → HasValue w false (countOf w) (2 ^ 1074) × (2 ^ 774 ≤ countOf w) × (absOf w ≡ w)
+pub plus : (w : Float) → T (fits binary64 w) → T (finite w) → T (le least w) → HasValue w false (countOf w) (2 ^ 1074) × (2 ^ 774 ≤ countOf w) × (absOf w ≡ w)
 unfolding absOf
 plus nan t p h = absurd p
 plus (inf s) t p h = absurd p
@@ -311,7 +317,7 @@ near x y w t p q r l h =
     (within-squares (countOf x * countOf x) (countOf y * countOf y) (countOf w * countOf w) (a .g) (b .g) (c .s) (m .f) (m .g) (2 ^ 1074) (a .less) (b .less) (c .less) under (m .product) (m .square) large))
 
 -- ---- as the code has it
-holds : (b : Bool) → b ≡ true → T b
+pub holds : (b : Bool) → b ≡ true → T b
 holds b e = rw e tt
 
 square-small-enough : (w : Float) → Small w → T (le O w) → T (finite (w ⊗ w ⊗ nearlyOne))
