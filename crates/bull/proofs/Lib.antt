@@ -4,3 +4,4 @@ pub mod Taking
 pub mod Flats
 pub mod Goings
 pub mod Bases
+pub mod Rims

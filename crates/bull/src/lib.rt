@@ -2,6 +2,7 @@
 ghost use mathlib.Core.Path.{_≡_};
 ghost use Rattle.plane.specs.Contacts.{edge, takeOf};
 ghost use Rattle.above.specs.Above.{offerOf, soFar};
+ghost use Rattle.bound.specs.Inside.{Beyond};
 ghost use Rattle.touch.specs.Touch.{facingOf};
 ghost use Rattle.golden.specs.Search.{rises, goldenStart, goldenStep, goldenMax};
 ghost use Rattle.bull.specs.Inside.{wayOf, wayAt, baseOf, capOf};
@@ -60,7 +61,8 @@ fn contact_on(t: Triangle, k: Bull, floor: f64, c: Contact) -> Contact
     ensures { λ r. ⌜ r ≡ offerOf (bullEdges k floor t (offerOf c (bullVertices k t))) (bullFacet k t (facingOf t)) ⌝ }
 {
     let base = cap::base_of(k);
-    let e = edges(k, base, floor, t, vertices(k, base, t, c));
+    let far = bound::beyond(k.r);
+    let e = edges(k, base, floor, t, vertices(k, base, far, t, c));
     above::offer(e, facet(k, t, touch::facing_of(t)))
 }
 
@@ -77,23 +79,26 @@ pub fn bull_profile(d: f64, r: f64, rc: f64) -> f64
 }
 
 // The contact c with the vertices' candidates.
-fn vertices(k: Bull, base: f64, t: Triangle, c: Contact) -> Contact
-    requires { ⌜ base ≡ baseOf k ⌝ }
+fn vertices(k: Bull, base: f64, far: f64, t: Triangle, c: Contact) -> Contact
+    requires { ⌜ (base ≡ baseOf k) × Beyond (k .r) far ⌝ }
     ensures { λ r. ⌜ r ≡ offerOf c (bullVertices k t) ⌝ }
 {
-    let a = vertex(k, base, 0, t.ax, t.ay, t.az, c);
-    let b = vertex(k, base, 1, t.bx, t.by, t.bz, a);
-    vertex(k, base, 2, t.cx, t.cy, t.cz, b)
+    let a = vertex(k, base, far, 0, t.ax, t.ay, t.az, c);
+    let b = vertex(k, base, far, 1, t.bx, t.by, t.bz, a);
+    vertex(k, base, far, 2, t.cx, t.cy, t.cz, b)
 }
 
-// The contact c with the candidate of vertex n, unless that cannot exceed c.
-fn vertex(k: Bull, base: f64, n: u32, x: f64, y: f64, z: f64, c: Contact) -> Contact
-    requires { ⌜ base ≡ baseOf k ⌝ }
+// The contact c with the candidate of vertex n, unless that cannot exceed c or the squares show that there is none.
+fn vertex(k: Bull, base: f64, far: f64, n: u32, x: f64, y: f64, z: f64, c: Contact) -> Contact
+    requires { ⌜ (base ≡ baseOf k) × Beyond (k .r) far ⌝ }
     ensures { λ r. ⌜ r ≡ offerOf c (bullVertex k n x y z) ⌝ }
 {
     let dx = x - k.x;
     let dy = y - k.y;
     if cap::low_vertex(base, z, dx, dy, above::limit(c)) {
+        return c;
+    }
+    if dx * dx + dy * dy >= far {
         return c;
     }
     above::offer(c, over(k, n, z, numbers::hypot(dx, dy)))
