@@ -2,3 +2,4 @@ pub mod Flats
 pub mod Capping
 pub mod Goings
 pub mod Ends
+pub mod Rims

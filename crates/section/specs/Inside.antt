@@ -11,10 +11,15 @@ use Rattle.touch.specs.declared.Edge.{Edge}
 use Rattle.touch.specs.Touch.{length2}
 use Rattle.caps.specs.Inside.{rootMost, highOn, leastOn, tameOn, tameRise}
 use Rattle.section.specs.declared.Section.{Section}
+use Rattle.section.specs.declared.Surface.the-variants.{Beyond}
 use Rattle.section.specs.Section.{validSection, profileOf, heightOver}
 
 pub record FlatTo (s : Section) (flat : Float) : Type 0 where
   pub near : (p q : Float) → le (p ⊗ p ⊕ q ⊗ q) flat ≡ true → T (le (hypotOf p q) (s .r0))
+
+-- A sum of two f64s' squares that is at least `far` belongs to a distance beyond the section.
+pub record Clear (s : Section) (far : Float) : Type 0 where
+  pub out : (p q : Float) → T (fits binary64 p) → T (fits binary64 q) → le far (p ⊗ p ⊕ q ⊗ q) ≡ true → profileOf s (hypotOf p q) ≡ Beyond
 
 -- r is z where it is good, and else a NaN.
 abbrev pub KeptIf : Bool → Float → Float → Type 0

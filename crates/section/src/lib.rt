@@ -2,7 +2,7 @@
 ghost use mathlib.Core.Path.{_≡_};
 ghost use Rattle.above.specs.Above.{offerOf};
 ghost use Rattle.golden.specs.Search.{rises, goldenStart, goldenStep, goldenMax, goldenMaxBound};
-ghost use Rattle.section.specs.Inside.{FlatTo, Firm};
+ghost use Rattle.section.specs.Inside.{FlatTo, Firm, Clear};
 ghost use Rattle.section.specs.Section.{within, positiveReach, validSection, profileOf, heightOver, sectionUnder, sectionVertex};
 ghost use Rattle.section.specs.Section.{sectionVertices, sectionAt, lipschitzOf, sectionStretch, sectionEdge, sectionEdges, reachOf};
 ghost use Rattle.section.specs.Section.{sectionSloped, sectionRest, sectionFacet, sectionContact};
@@ -82,7 +82,8 @@ pub fn section_contact_on(t: Triangle, x: f64, y: f64, s: Section, c: Contact) -
     ensures { λ r. ⌜ r ≡ offerOf c (sectionContact t x y s) ⌝ }
 {
     let low = low::low_of(s);
-    let e = edges(s, low, x, y, t, vertices(s, low, x, y, t, c));
+    let far = far_of(s);
+    let e = edges(s, low, x, y, t, vertices(s, low, far, x, y, t, c));
     above::offer(e, facet(s, x, y, t, touch::facing_of(t)))
 }
 
@@ -125,10 +126,23 @@ fn under(n: u32, z: f64, h: Surface) -> Contact
     }
 }
 
-// The contact c with the candidate of vertex n, which is not above vz - low.
+// A number from which on the square of a distance shows that the distance is beyond the section, so that no distance is taken there.
+fn far_of(s: Section) -> f64
+    ensures { λ r. ⌜ Clear s r ⌝ }
+{
+    let r0 = s.r0;
+    let r1 = s.r1;
+    if r0 <= r1 {
+        return bound::beyond(r1);
+    }
+    0.0 / 0.0
+}
+
+// The contact c with the candidate of vertex n, which is not above vz - low; none where the squares show that the vertex is beyond the section.
 fn vertex(
     s: Section,
     low: f64,
+    far: f64,
     x: f64,
     y: f64,
     n: u32,
@@ -137,23 +151,28 @@ fn vertex(
     vz: f64,
     c: Contact,
 ) -> Contact
-    requires { ⌜ Firm s low ⌝ }
+    requires { ⌜ Firm s low × Clear s far ⌝ }
     ensures { λ r. ⌜ r ≡ offerOf c (sectionVertex s x y n vx vy vz) ⌝ }
 {
     if vz - low <= above::limit(c) {
         return c;
     }
-    above::offer(c, under(n, vz, profile(s, numbers::hypot(vx - x, vy - y))))
+    let dx = vx - x;
+    let dy = vy - y;
+    if dx * dx + dy * dy >= far {
+        return c;
+    }
+    above::offer(c, under(n, vz, profile(s, numbers::hypot(dx, dy))))
 }
 
 // The contact c with the vertices' candidates.
-fn vertices(s: Section, low: f64, x: f64, y: f64, t: Triangle, c: Contact) -> Contact
-    requires { ⌜ Firm s low ⌝ }
+fn vertices(s: Section, low: f64, far: f64, x: f64, y: f64, t: Triangle, c: Contact) -> Contact
+    requires { ⌜ Firm s low × Clear s far ⌝ }
     ensures { λ r. ⌜ r ≡ offerOf c (sectionVertices s x y t) ⌝ }
 {
-    let a = vertex(s, low, x, y, 0, t.ax, t.ay, t.az, c);
-    let b = vertex(s, low, x, y, 1, t.bx, t.by, t.bz, a);
-    vertex(s, low, x, y, 2, t.cx, t.cy, t.cz, b)
+    let a = vertex(s, low, far, x, y, 0, t.ax, t.ay, t.az, c);
+    let b = vertex(s, low, far, x, y, 1, t.bx, t.by, t.bz, a);
+    vertex(s, low, far, x, y, 2, t.cx, t.cy, t.cz, b)
 }
 
 // The contact c with the edges' candidates.

@@ -12,4 +12,4 @@ returns c =
 pub section-contact-on-spec : {M : Type 1} → statement M
 section-contact-on-spec =
     tie.close
-    (tie.spec (λ c κs. tt) (λ c κs. c .low-of .ensures) (λ c κs. c .before .low-of .ensures) (λ c κs. tt) (λ c κs. tt) (λ c κs. tt) returns)
+    (tie.spec (λ c κs. tt) (λ c κs. tt) (λ c κs. (c .before .low-of .ensures, c .far-of .ensures)) (λ c κs. c .before .before .low-of .ensures) (λ c κs. tt) (λ c κs. tt) (λ c κs. tt) returns)
