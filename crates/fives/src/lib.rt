@@ -2,14 +2,7 @@
 ghost use mathlib.Core.Path.{_≡_};
 ghost use mathlib.Core.List.{_∷_, []};
 ghost use lib.ListN.{length};
-ghost use Rattle.fives.specs.Tables.{roomOf, putAt, zeroed};
-
-// How many entries a table has room for.
-pub fn room(table: &[f64]) -> usize
-    ensures { λ r. ⌜ r ≡ roomOf (now (table .entry)) ⌝ }
-{
-    table.len() / 5
-}
+ghost use Rattle.fives.specs.Tables.{putAt, zeroed};
 
 // Five numbers put as entry m, where there is room for it; the rest of the table stays.
 pub fn put(table: &mut [f64], m: usize, a: f64, b: f64, c: f64, d: f64, e: f64)

@@ -1,6 +1,6 @@
 // What the contacts of round cutters share: a triangle's edges, the stretch of an edge under a cutter, the place on a facet where a cutter rests.
 ghost use mathlib.Core.Path.{_≡_};
-ghost use Rattle.touch.specs.Touch.{edgeAb, edgeBc, edgeCa, along, distanceAt, length2, crossedOf, reachedOf, gradientOf, facingOf, restOf};
+ghost use Rattle.touch.specs.Touch.{edgeAb, edgeBc, edgeCa, crossedOf, reachedOf, gradientOf, facingOf, restOf};
 ghost use Rattle.touch.specs.Touch.{weighedOf, spotHeight, facetHeight};
 use plane::Contact;
 use plane::Spot;
@@ -88,13 +88,6 @@ pub fn edge_ca(t: Triangle) -> Edge
         bz: t.az,
         which: 2,
     }
-}
-
-// The distance in plan of the edge's point at t from the axis (x, y).
-pub fn distance_at(e: Edge, x: f64, y: f64, t: f64) -> f64
-    ensures { λ r. ⌜ r ≡ distanceAt e x y t ⌝ }
-{
-    numbers::hypot(e.ax + t * (e.bx - e.ax) - x, e.ay + t * (e.by - e.ay) - y)
 }
 
 // The stretch of an edge within r of the axis (x, y).
