@@ -4,3 +4,5 @@ pub mod Bracket
 pub mod Inside
 pub mod Boxes
 pub mod Drops
+pub mod Narrow
+pub mod Beside

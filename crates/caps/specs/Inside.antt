@@ -1,8 +1,15 @@
 -- What bounds the tip's height over an edge; no answer is defined here.
-use mathlib.Core.Bool.{Bool, cond, _&&_}
-use lib.Ieee.{Float, binary64, ofBits, le}
+use mathlib.Core.Bool.{Bool, true, cond, _&&_}
+use mathlib.Core.Path.{_≡_}
+use lib.Dec.{T}
+use lib.Ieee.{Float, binary64, ofBits, le, fits}
 use Rattle.numbers.specs.Reals.{_⊕_, _⊖_, _⊗_, f0, f1, minOf, maxOf}
 use Rattle.numbers.specs.Hypot.{hypotOf}
+use Rattle.plane.specs.declared.Touch.{Touch}
+use Rattle.plane.specs.declared.Contact.{Contact}
+use Rattle.plane.specs.Contacts.{takeOf}
+use Rattle.above.specs.Inside.{limitOf}
+use Rattle.golden.specs.declared.Golden.{Golden}
 use Rattle.touch.specs.declared.Edge.{Edge}
 use Rattle.touch.specs.Touch.{along, length2}
 use Rattle.spans.specs.Mesh.{isCoordinate}
@@ -59,3 +66,22 @@ unfoldable pub tameRise : Edge → Bool
 tameRise e =
     isCoordinate (along (e .az) (e .bz) f0)
     && (isCoordinate (along (e .az) (e .bz) f1) && (isCoordinate (e .bz ⊖ e .az) && le (length2 e) square22))
+
+-- Four f64s, a bracket a..b and two points in it.
+pub record Inner (a b x1 x2 : Float) : Type 0 where
+  pub fit-a : T (fits binary64 a)
+  pub fit-b : T (fits binary64 b)
+  pub fit-x1 : T (fits binary64 x1)
+  pub fit-x2 : T (fits binary64 x2)
+  pub low-x1 : le a x1 ≡ true
+  pub high-x1 : le x1 b ≡ true
+  pub low-x2 : le a x2 ≡ true
+  pub high-x2 : le x2 b ≡ true
+
+-- A search's bracket with its inner points.
+abbrev pub InnerOf : Golden → Type 0
+InnerOf g = Inner (g .a) (g .b) (g .x1) (g .x2)
+
+-- Two heights that are as good as each other beside a contact with the limit b.
+abbrev pub Alike : Float → Float → Float → Type 0
+Alike b r z = (c : Contact) (t : Touch) → limitOf c ≡ b → takeOf c r t ≡ takeOf c z t

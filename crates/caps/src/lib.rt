@@ -1,6 +1,8 @@
 // What a cutter's tip over an edge is at most, so that an edge that cannot exceed the best so far is not searched. What both round cutters share.
+ghost use mathlib.Core.Bool.{true};
 ghost use mathlib.Core.Path.{_≡_};
-ghost use Rattle.caps.specs.Inside.{rootMost, highOn, sideOn, leastOn, sideTame, inOrder, tameOn, tameRise};
+ghost use Rattle.caps.specs.Inside.{rootMost, highOn, sideOn, leastOn, sideTame, inOrder, tameOn, tameRise, Inner, InnerOf};
+use golden::Golden;
 use touch::Edge;
 
 // 2^12, 2^24 and 2^44, and the root of each
@@ -122,6 +124,36 @@ pub fn tame_rise(e: Edge) -> bool
             } else {
                 false
             }
+        } else {
+            false
+        }
+    } else {
+        false
+    }
+}
+
+// Whether two points lie in a bracket.
+pub fn bracketed(a: f64, b: f64, x1: f64, x2: f64) -> bool
+    ensures { λ r. ⌜ (r ≡ true → Inner a b x1 x2) ⌝ }
+{
+    if a <= x1 {
+        if x1 <= b {
+            if a <= x2 { x2 <= b } else { false }
+        } else {
+            false
+        }
+    } else {
+        false
+    }
+}
+
+// Whether a search that stands at g before step n is looked at, to be given up there: before every fourth of its first 24 steps.
+pub fn looks(g: Golden, n: usize) -> bool
+    ensures { λ r. ⌜ (r ≡ true → InnerOf g) ⌝ }
+{
+    if n % 4 == 3 {
+        if n < 24 {
+            bracketed(g.a, g.b, g.x1, g.x2)
         } else {
             false
         }
