@@ -126,10 +126,10 @@ module _ (k : Bull) (e : Edge) (lo hi b : Float) (f : T (fits binary64 lo)) (g :
   is-based : Based k
   is-based = based k (number-of _ _ (holds _ (there .0)) .0)
 
-  ordered : Ordered lo hi
+  pub ordered : Ordered lo hi
   ordered = places e (k .x) (k .y) lo hi f g (there .1)
 
-  capped : (t : Float) → In lo hi t → T (le (bullAt k e t) (capOf k (baseOf k) e lo hi))
+  pub capped : (t : Float) → In lo hi t → T (le (bullAt k e t) (capOf k (baseOf k) e lo hi))
   capped t i = rw cap-is (under-cap k is-based e lo hi f g (there .1) t i)
 
   pub largest-under : (n : ℕ) → le (goldenMax (bullAt k e) lo hi n) b ≡ true

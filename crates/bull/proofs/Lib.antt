@@ -5,3 +5,4 @@ pub mod Flats
 pub mod Goings
 pub mod Bases
 pub mod Rims
+pub mod Giving

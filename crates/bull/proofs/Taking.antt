@@ -1,6 +1,6 @@
 -- What a stretch of an edge adds to a contact.
 use mathlib.Core.Bool.{false}
-use mathlib.Core.Path.{_≡_, refl}
+use mathlib.Core.Path.{_≡_, refl, sym, _∙_}
 use lib.Ieee.{Float}
 use Rattle.numbers.proofs.Branches.{left}
 use Rattle.plane.specs.declared.Touch.{Touch}
@@ -11,7 +11,9 @@ use Rattle.touch.specs.declared.Edge.{Edge}
 use Rattle.touch.specs.declared.Stretch.{Stretch}
 use Rattle.touch.specs.declared.Stretch.the-variants.{Nowhere, Between}
 use Rattle.above.specs.Above.{offerOf}
+use Rattle.above.specs.Inside.{limitOf}
 use Rattle.touch.specs.Touch.{distanceAt, reachedOf}
+use Rattle.caps.specs.Inside.{Alike}
 use Rattle.bull.specs.declared.Bull.{Bull}
 use Rattle.bull.specs.declared.Way.{Way}
 use Rattle.bull.specs.Bull.{bullAt, bullStretch, tooLow, bullEdge}
@@ -30,8 +32,8 @@ module _ (k : Bull) (e : Edge) (c : Contact) (s : Stretch) where
 pub taken-on : (r c d : Contact) (z : Float) (t : Touch) → c ≡ d → r ≡ takeOf d z t → r ≡ takeOf c z t
 taken-on r c d z t p q = rw p q
 
-pub taken-at : (r c : Contact) (z w : Float) (t : Touch) → z ≡ w → r ≡ takeOf c z t → r ≡ takeOf c w t
-taken-at r c z w t p q = rw p at q
+pub taken-at : (r c : Contact) (z w b : Float) (t : Touch) → b ≡ limitOf c → Alike b z w → r ≡ takeOf c z t → r ≡ takeOf c w t
+taken-at r c z w b t p q e = e ∙ q c t (sym p)
 
 -- an edge that is not too low
 pub edge-on : (k : Bull) (floor : Float) (c : Contact) (e : Edge) (s : Stretch) (r : Contact) → tooLow floor c e ≡ false → s ≡ reachedOf e (k .x) (k .y) (k .r) → r ≡ offerOf c (bullStretch k e s) → r ≡ bullEdge k floor c e
@@ -39,9 +41,9 @@ unfolding bullEdge
 edge-on k floor c e s r h p q = left _ _ _ _ h (rw p at q)
 
 -- a search along an edge's way is one along the edge
-pub along-way : (k : Bull) (e : Edge) (w : Way) (lo hi r : Float) → w ≡ wayOf e → r ≡ goldenMax (wayAt k w) lo hi 40 → r ≡ goldenMax (bullAt k e) lo hi 40
+pub along-way : (k : Bull) (e : Edge) (w : Way) (b lo hi r : Float) → w ≡ wayOf e → Alike b r (goldenMax (wayAt k w) lo hi 40) → Alike b r (goldenMax (bullAt k e) lo hi 40)
 unfolding wayAt bullAt distanceAt
-along-way k e w lo hi r p q = rw p at q
+along-way k e w b lo hi r p q = rw p at q
 
 pub way-at : (k : Bull) (e : Edge) (w : Way) (t r : Float) → w ≡ wayOf e → r ≡ wayAt k w t → r ≡ bullAt k e t
 unfolding wayAt bullAt distanceAt

@@ -1,7 +1,7 @@
 -- What the functions inside the contact promise each other; no answer is defined here.
 use mathlib.Core.Bool.{Bool, true, cond, _&&_}
 use lib.Ieee.{Float, le}
-use Rattle.numbers.specs.Reals.{_⊕_, _⊖_, _⊗_, _⊘_, f0, minOf}
+use Rattle.numbers.specs.Reals.{_⊕_, _⊖_, _⊗_, _⊘_, f0, minOf, maxOf}
 use Rattle.numbers.specs.Root.{rootOf}
 use Rattle.touch.specs.declared.Edge.{Edge}
 use Rattle.spans.specs.Mesh.{isCoordinate, isRadius}
@@ -46,3 +46,10 @@ wayAt k w t =
 
 pub record FlatTo (k : Bull) (flat : Float) : Type 0 where
   pub near : (p q : Float) → le (p ⊗ p ⊕ q ⊗ q) flat ≡ true → le (minOf (hypotOf p q) (k .r) ⊖ (k .r ⊖ k .rc)) f0 ≡ true
+
+-- What the search is handed: the cutter's base, the edge's way, and the larger of the two ends' heights.
+pub record Begun (k : Bull) (base : Float) (e : Edge) (w : Way) (flat lo hi m : Float) : Type 0 where
+  pub base-is : base ≡ baseOf k
+  pub way-is : w ≡ wayOf e
+  pub flat-to : FlatTo k flat
+  pub ends : m ≡ maxOf (wayAt k w lo) (wayAt k w hi)

@@ -1,12 +1,14 @@
 // A bull-nose cutter: its profile, and its contact with one triangle.
+ghost use mathlib.Core.Bool.{true};
 ghost use mathlib.Core.Path.{_≡_};
+ghost use lib.Ieee.{le};
 ghost use Rattle.plane.specs.Contacts.{edge, takeOf};
 ghost use Rattle.above.specs.Above.{offerOf, soFar};
 ghost use Rattle.bound.specs.Inside.{Beyond};
 ghost use Rattle.touch.specs.Touch.{facingOf};
 ghost use Rattle.golden.specs.Search.{rises, goldenStart, goldenStep, goldenMax};
-ghost use Rattle.bull.specs.Inside.{wayOf, wayAt, baseOf, capOf};
-ghost use Rattle.bull.specs.Inside.{FlatTo};
+ghost use Rattle.caps.specs.Inside.{InnerOf, Alike};
+ghost use Rattle.bull.specs.Inside.{wayOf, wayAt, baseOf, capOf, FlatTo, Begun};
 ghost use Rattle.bull.specs.Bull.{bullProfile, bullOver, bullVertex, bullVertices, bullAt, bullStretch, bestSoFar, tooLow, bullEdge, bullEdges};
 ghost use Rattle.bull.specs.Bull.{bullSloped, bullRest, bullFacet, bullContactAbove, bullContact};
 use golden::Golden;
@@ -179,18 +181,18 @@ fn raised(k: Bull, base: f64, e: Edge, c: Contact, lo: f64, hi: f64) -> Contact
     if cap <= above::limit(c) {
         return c;
     }
-    searched(k, e, cap, c, lo, hi)
+    searched(k, base, e, cap, c, lo, hi)
 }
 
 // The contact c with the height that the search finds.
-fn searched(k: Bull, e: Edge, cap: f64, c: Contact, lo: f64, hi: f64) -> Contact
-    requires { ⌜ cap ≡ capOf k (baseOf k) e lo hi ⌝ }
+fn searched(k: Bull, base: f64, e: Edge, cap: f64, c: Contact, lo: f64, hi: f64) -> Contact
+    requires { ⌜ (base ≡ baseOf k) × (cap ≡ capOf k (baseOf k) e lo hi) ⌝ }
     ensures { λ r. ⌜ r ≡ takeOf c (goldenMax (bullAt k e) lo hi 40) (edge (e .which)) ⌝ }
 {
     let which = e.which;
     plane::take(
         c,
-        search(k, e, cap, lo, hi),
+        search(k, base, e, cap, above::limit(c), lo, hi),
         Touch {
             kind: plane::EDGE,
             which,
@@ -198,10 +200,10 @@ fn searched(k: Bull, e: Edge, cap: f64, c: Contact, lo: f64, hi: f64) -> Contact
     )
 }
 
-// The largest tip's height between two places of an edge: the larger end's, where no place exceeds it.
-fn search(k: Bull, e: Edge, cap: f64, lo: f64, hi: f64) -> f64
-    requires { ⌜ cap ≡ capOf k (baseOf k) e lo hi ⌝ }
-    ensures { λ r. ⌜ r ≡ goldenMax (bullAt k e) lo hi 40 ⌝ }
+// The largest tip's height between two places of an edge, or one that is as good beside the limit: the larger end's, where no place exceeds it.
+fn search(k: Bull, base: f64, e: Edge, cap: f64, limit: f64, lo: f64, hi: f64) -> f64
+    requires { ⌜ (base ≡ baseOf k) × (cap ≡ capOf k (baseOf k) e lo hi) ⌝ }
+    ensures { λ r. ⌜ Alike limit r (goldenMax (bullAt k e) lo hi 40) ⌝ }
 {
     let w = way_of(e);
     let flat = flat_of(k);
@@ -210,7 +212,7 @@ fn search(k: Bull, e: Edge, cap: f64, lo: f64, hi: f64) -> f64
     if cap <= m {
         return m;
     }
-    search_on(k, w, flat, lo, hi)
+    search_on(k, base, e, w, flat, lo, hi, m, limit)
 }
 
 // A number up to which the square of a distance shows that the distance is within the flat part, so that no distance is taken there.
@@ -252,16 +254,48 @@ fn way_of(e: Edge) -> Way
     }
 }
 
-// The largest tip's height between two places of a way.
-fn search_on(k: Bull, w: Way, flat: f64, lo: f64, hi: f64) -> f64
-    requires { ⌜ FlatTo k flat ⌝ }
-    ensures { λ r. ⌜ r ≡ goldenMax (wayAt k w) lo hi 40 ⌝ }
+// The same along the way, m being the larger end's height. The search is given up once nothing that it can still find exceeds that or the limit.
+fn search_on(
+    k: Bull,
+    base: f64,
+    e: Edge,
+    w: Way,
+    flat: f64,
+    lo: f64,
+    hi: f64,
+    m: f64,
+    limit: f64,
+) -> f64
+    requires { ⌜ Begun k base e w flat lo hi m ⌝ }
+    ensures { λ r. ⌜ Alike limit r (goldenMax (wayAt k w) lo hi 40) ⌝ }
 {
+    let bar = numbers::max(m, limit);
     let mut g = start(k, w, flat, lo, hi);
     for n in 0..40usize {
+        if settled(k, base, e, bar, g, n) {
+            return m;
+        }
         g = step(k, w, flat, g);
     }
-    golden::best(at(k, w, flat, lo), at(k, w, flat, hi), g.f1, g.f2)
+    numbers::max(numbers::max(m, g.f1), g.f2)
+}
+
+// Whether the search may be given up before step n: no place in the bracket that it has come to exceeds the bar.
+fn settled(k: Bull, base: f64, e: Edge, bar: f64, g: Golden, n: usize) -> bool
+    ensures { λ r. ⌜ (r ≡ true → InnerOf g × (le (capOf k base e (g .a) (g .b)) bar ≡ true)) ⌝ }
+{
+    let a = g.a;
+    let b = g.b;
+    let f1 = g.f1;
+    let f2 = g.f2;
+    if caps::looks(g, n) {
+        if f1 <= bar {
+            if f2 <= bar {
+                return cap::cap_on(k, base, e, a, b) <= bar;
+            }
+        }
+    }
+    false
 }
 
 // The search's first bracket.

@@ -19,5 +19,7 @@ returns-2 c = c .searched .ensures
 
 pub raised-spec : {M : Type 1} → statement M
 raised-spec = tie.close (tie.spec (λ c κs. tt) (λ c κs. tt) returns (λ c κs.
-    let a = c .before .before .before in
-    c .before .before .cap-on .ensures ∙ ap (λ (b : Float). capOf (a .args .k) b (a .args .e) (a .args .lo) (a .args .hi)) (a .pre)) returns-2)
+    let a = c .before .before .before in (
+      a .pre,
+      c .before .before .cap-on .ensures ∙ ap (λ (b : Float). capOf (a .args .k) b (a .args .e) (a .args .lo) (a .args .hi)) (a .pre),
+    )) returns-2)
