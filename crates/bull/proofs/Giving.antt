@@ -2,28 +2,21 @@
 use mathlib.Core.Bool.{true}
 use mathlib.Core.Path.{_≡_, refl, ap, sym, _∙_, subst}
 use Prim.Native.Nat.{ℕ, _≤_}
-use native.Mathlib.Omega.{arith}
 use lib.Dec.{T}
 use lib.Ieee.{Float, le}
 use Rattle.numbers.specs.Reals.{maxOf}
-use Rattle.plane.specs.declared.Touch.{Touch}
-use Rattle.plane.specs.declared.Contact.{Contact}
-use Rattle.plane.specs.Contacts.{takeOf}
 use Rattle.golden.specs.declared.Golden.{Golden}
-use Rattle.golden.specs.Search.{rises, goldenAt, bestOf, goldenMax}
+use Rattle.golden.specs.Search.{rises, goldenAt, goldenMax}
 use Rattle.touch.specs.declared.Edge.{Edge}
 use Rattle.caps.specs.Inside.{InnerOf, Alike}
-use Rattle.caps.proofs.Beside.{ends-beside}
+use Rattle.caps.proofs.Narrow.{found-last}
+use Rattle.caps.proofs.Beside.{same-beside, ends-beside}
 use Rattle.bull.specs.declared.Bull.{Bull}
 use Rattle.bull.specs.declared.Way.{Way}
 use Rattle.bull.specs.Bull.{bullAt}
 use Rattle.bull.specs.Inside.{baseOf, capOf, wayOf, wayAt, Begun}
 use Rattle.bull.proofs.Capping.{ordered, capped}
 use Rattle.bull.proofs.Taking.{way-at}
-
--- the same height is as good
-pub same-alike : (b r z : Float) → r ≡ z → Alike b r z
-same-alike b r z e = λ c t q. ap (λ v. takeOf c v t) e
 
 module _ (k : Bull) (base : Float) (e : Edge) (w : Way) (flat lo hi m limit : Float) (s : Begun k base e w flat lo hi m) (n : ℕ) (g : Golden) (below : n ≤ 40) (here : g ≡ goldenAt rises (wayAt k w) lo hi n) where
   pub gives-up : (bar : Float) → bar ≡ maxOf m limit → InnerOf g × (le (capOf k base e (g .a) (g .b)) bar ≡ true) → Alike limit m (goldenMax (wayAt k w) lo hi 40)
@@ -37,5 +30,4 @@ module _ (k : Bull) (base : Float) (e : Edge) (w : Way) (flat lo hi m limit : Fl
       limit (subst (λ (v : Float). le cap v ≡ true) (p ∙ ap (λ (v : Float). maxOf v limit) (s .ends)) h))
 
   pub finds : 40 ≤ n → (v r : Float) → v ≡ maxOf m (g .f1) → r ≡ maxOf v (g .f2) → Alike limit r (goldenMax (wayAt k w) lo hi 40)
-  unfolding goldenMax bestOf
-  finds d v r p q = let z : n ≡ 40 = omega arith in same-alike limit r _ (rw (q, p, s .ends, here, z))
+  finds d v r p q = same-beside limit r _ (found-last (wayAt k w) lo hi n 40 g below d here m v r (s .ends) p q)

@@ -19,6 +19,7 @@ use Rattle.bound.proofs.Order.{le-trans, add-left}
 use Rattle.bound.proofs.Held.{not-above, le-not-nan}
 use Rattle.caps.specs.Inside.{InnerOf, Alike}
 use Rattle.caps.proofs.Bracket.{In}
+use Rattle.caps.proofs.Inside.{largest-in}
 use Rattle.caps.proofs.Boxes.{Ordered}
 use Rattle.caps.proofs.Narrow.{narrow-ends, given-up}
 
@@ -91,6 +92,10 @@ unfolding limitOf
 not-taken Nothing y w t h e = absurd (none-le y (unfold ofBits div in h))
 not-taken (Height b s) y w t h e = waits b w s t (unfold exceedsOf in rw (le-not-nan y b h, e))
 
+-- the same height is as good
+pub same-beside : (b r z : Float) → r ≡ z → Alike b r z
+same-beside b r z e = λ c t q. ap (λ v. takeOf c v t) e
+
 -- ---- the search
 module _ (f : Float → Float) (lo hi : Float) (n m : ℕ) (g : Golden) (below : n ≤ m) (here : g ≡ goldenAt rises f lo hi n) (i : InnerOf g) (o : Ordered (g .a) (g .b)) (cap : Float) (under : (t : Float) → In (g .a) (g .b) t → T (le (f t) cap)) (b : Float) where
   abbrev end : Float
@@ -114,3 +119,10 @@ module _ (f : Float → Float) (lo hi : Float) (n m : ℕ) (g : Golden) (below :
       given-up f lo hi n m g below here i o cap under (λ z. takeOf c (z ⊕ more) t) c
       (λ x k. not-taken c (cap ⊕ more) (x ⊕ more) t l (sum-under x cap more (limitOf c) k l))
       (λ x k. not-taken c (cap ⊕ more) (x ⊕ more) t l (nan-under (limitOf c) (x ⊕ more) (sum-nan x more k)))
+
+-- no value from lo to hi is above the limit with that number added, so that the search need not begin
+pub whole-beside : (f : Float → Float) (lo hi : Float) → Ordered lo hi → (cap : Float) → ((t : Float) → In lo hi t → T (le (f t) cap)) → (b more : Float) (m : ℕ) → le (cap ⊕ more) b ≡ true → Alike b (cap ⊕ more) (goldenMax f lo hi m ⊕ more)
+whole-beside f lo hi o cap under b more m h c t q =
+    let l = subst (λ (v : Float). T (le (cap ⊕ more) v)) (sym q) (holds _ h) in
+    not-taken c (cap ⊕ more) (cap ⊕ more) t l (not-above (cap ⊕ more) (limitOf c) l)
+    ∙ sym (largest-in f lo hi (o .low) (o .high) (o .order) (λ z. takeOf c (z ⊕ more) t ≡ c) m (λ x i. not-taken c (cap ⊕ more) (f x ⊕ more) t l (sum-under (f x) cap more (limitOf c) (under x i) l)))

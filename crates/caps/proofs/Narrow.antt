@@ -9,7 +9,7 @@ use lib.Ieee.{Float, binary64, lt, le, fits, isNan}
 use Rattle.numbers.specs.Reals.{maxOf}
 use Rattle.numbers.proofs.Branches.{by-test}
 use Rattle.golden.specs.declared.Golden.{Golden}
-use Rattle.golden.specs.Search.{rises, probeOf, narrowedOf, startOf, goldenStart, goldenStep, goldenAt, goldenMax}
+use Rattle.golden.specs.Search.{rises, probeOf, narrowedOf, startOf, goldenStart, goldenStep, goldenAt, bestOf, goldenMax}
 use Rattle.bound.proofs.Order.{O, le-trans}
 use Rattle.bound.proofs.Roots.{lt-le}
 use Rattle.bound.proofs.Unit.{I, Unit}
@@ -36,6 +36,11 @@ module _ (f : Float → Float) (lo hi : Float) where
   unfolding goldenAt goldenStep goldenStart startOf
   values zero = (refl, refl)
   values (suc n) = valued (rises (goldenAt rises f lo hi n)) (goldenAt rises f lo hi n) (values n)
+
+  -- a search that is not given up finds the largest, from the larger end's value
+  pub found-last : (n m : ℕ) (g : Golden) → n ≤ m → m ≤ n → g ≡ goldenAt rises f lo hi n → (e v r : Float) → e ≡ maxOf (f lo) (f hi) → v ≡ maxOf e (g .f1) → r ≡ maxOf v (g .f2) → r ≡ goldenMax f lo hi m
+  unfolding goldenMax bestOf
+  found-last n m g below done here e v r p q s = let z : n ≡ m = omega arith in rw (s, q, p, here, z)
 
   -- a search that has come to stay from a to b stays there
   later : (a b : Float) (n k : ℕ) → n ≤ k → Stays f a b (goldenAt rises f lo hi n) → Stays f a b (goldenAt rises f lo hi k)

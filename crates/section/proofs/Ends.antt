@@ -35,10 +35,6 @@ is-true : (b : Bool) → T b → b ≡ true
 is-true true t = refl
 is-true false t = absurd t
 
-none-le : (b : Float) → le (f0 ⊘ f0) b ≡ true → ⊥
-unfolding ofBits div le lt eq
-none-le b h = no h
-
 -- ---- the surface
 near-height : (s : Section) (d : Float) → le d (s .r0) ≡ true → heightOver (profileOf s d) ≡ s .z0
 unfolding profileOf heightOver
@@ -95,32 +91,37 @@ module _ (s : Section) (v : Valid s) (g : T (fits binary64 (s .z0))) where
         (sub-turns binary64 (heightOver (profileOf s d)) (heightOver (profileOf s d′)) z f f′ (zh .1) (surface-up d d′ d-up m))
         (sub-mono binary64 z high (heightOver (profileOf s d)) (zh .1) (high-fine e x y lo hi p q tame) f (zh .0))
 
+-- ---- a cap that is a number
+no-number : isNan (f0 ⊘ f0) ≡ false → ⊥
+unfolding ofBits div isNan
+no-number h = no (sym h)
+
+module _ (s : Section) (low x y : Float) (e : Edge) (lo hi : Float) (f : Firm s low) (p : T (fits binary64 lo)) (q : T (fits binary64 hi)) (h : isNan (capOf s low x y e lo hi) ≡ false) where
+  there : (le f0 low ≡ true) × (tameOn e x y lo hi ≡ true)
+  unfolding capOf
+  there =
+      by-test (le f0 low)
+      (λ n. by-test (tameOn e x y lo hi) (λ m. (n, m)) (λ m. absurd (no-number (rw (n, m) at h))))
+      (λ n. absurd (no-number (rw n at h)))
+
+  cap-is : capOf s low x y e lo hi ≡ overOf s (highOn e lo hi) (minOf (leastOn e x y lo hi) (s .r1))
+  unfolding capOf
+  cap-is = rw (there .0, there .1)
+
+  valid : Valid s × T (fits binary64 (s .z0))
+  valid = ⊎-elim (λ n. absurd (no (sym (number-of _ _ (holds _ (there .0)) .1) ∙ n))) (λ n. (valid-parts s (n .0), n .2)) f
+
+  pub capped : (t : Float) → In lo hi t → T (le (sectionAt s x y e t) (capOf s low x y e lo hi))
+  capped t i = rw cap-is (under-cap s (valid .0) (valid .1) x y e lo hi p q (there .1) t i)
+
+  pub ordered : Ordered lo hi
+  ordered = places e x y lo hi p q (there .1)
+
 -- ---- as the code has it
-module _ (s : Section) (low x y : Float) (e : Edge) (cap lo hi : Float) (f : Firm s low) (p : T (fits binary64 lo)) (q : T (fits binary64 hi)) (c : cap ≡ capOf s low x y e lo hi) where
-  module _ (b : Float) (h : le (capOf s low x y e lo hi) b ≡ true) where
-    there : (le f0 low ≡ true) × (tameOn e x y lo hi ≡ true)
-    unfolding capOf
-    there =
-        by-test (le f0 low)
-        (λ n. by-test (tameOn e x y lo hi) (λ m. (n, m)) (λ m. absurd (none-le b (rw (n, m) at h))))
-        (λ n. absurd (none-le b (rw n at h)))
-
-    cap-is : capOf s low x y e lo hi ≡ overOf s (highOn e lo hi) (minOf (leastOn e x y lo hi) (s .r1))
-    unfolding capOf
-    cap-is = rw (there .0, there .1)
-
-    valid : Valid s × T (fits binary64 (s .z0))
-    valid = ⊎-elim (λ n. absurd (no (sym (number-of _ _ (holds _ (there .0)) .1) ∙ n))) (λ n. (valid-parts s (n .0), n .2)) f
-
-    capped : (t : Float) → In lo hi t → T (le (sectionAt s x y e t) (capOf s low x y e lo hi))
-    capped t i = rw cap-is (under-cap s (valid .0) (valid .1) x y e lo hi p q (there .1) t i)
-
-    ordered : Ordered lo hi
-    ordered = places e x y lo hi p q (there .1)
-
-  pub cap-ends : (n : ℕ) → le cap (maxOf (sectionAt s x y e lo) (sectionAt s x y e hi)) ≡ true → maxOf (sectionAt s x y e lo) (sectionAt s x y e hi) ≡ goldenMax (sectionAt s x y e) lo hi n
-  cap-ends n h =
-      let b = maxOf (sectionAt s x y e lo) (sectionAt s x y e hi) in
-      let l = subst (λ (w : Float). le w b ≡ true) c h in
-      let o = ordered b l in
-      sym (ends-largest (sectionAt s x y e) lo hi (o .low) (o .high) (o .order) n (capOf s low x y e lo hi) (capped b l) (holds _ l))
+pub cap-ends : (s : Section) (low x y : Float) (e : Edge) (cap lo hi : Float) → Firm s low → T (fits binary64 lo) → T (fits binary64 hi) → cap ≡ capOf s low x y e lo hi → (n : ℕ) → le cap (maxOf (sectionAt s x y e lo) (sectionAt s x y e hi)) ≡ true → maxOf (sectionAt s x y e lo) (sectionAt s x y e hi) ≡ goldenMax (sectionAt s x y e) lo hi n
+cap-ends s low x y e cap lo hi f p q c n h =
+    let b = maxOf (sectionAt s x y e lo) (sectionAt s x y e hi) in
+    let l = subst (λ (w : Float). T (le w b)) c (holds _ h) in
+    let r = number-of _ _ l .0 in
+    let o = ordered s low x y e lo hi f p q r in
+    sym (ends-largest (sectionAt s x y e) lo hi (o .low) (o .high) (o .order) n (capOf s low x y e lo hi) (capped s low x y e lo hi f p q r) l)

@@ -3,3 +3,4 @@ pub mod Capping
 pub mod Goings
 pub mod Ends
 pub mod Rims
+pub mod Giving

@@ -4,15 +4,18 @@ use mathlib.Core.Logic.{_⊎_}
 use mathlib.Core.Path.{_≡_}
 use lib.Dec.{T}
 use lib.Ieee.{Float, binary64, le, fits, isNan}
-use Rattle.numbers.specs.Reals.{_⊕_, _⊖_, _⊗_, _⊘_, f0, f1, minOf, absOf}
+use Rattle.numbers.specs.Reals.{_⊕_, _⊖_, _⊗_, _⊘_, f0, f1, minOf, maxOf, absOf}
 use Rattle.numbers.specs.Golden.{phi60}
 use Rattle.numbers.specs.Hypot.{hypotOf}
+use Rattle.plane.specs.declared.Contact.{Contact}
+use Rattle.above.specs.Above.{offerOf}
+use Rattle.above.specs.Inside.{limitOf}
 use Rattle.touch.specs.declared.Edge.{Edge}
 use Rattle.touch.specs.Touch.{length2}
 use Rattle.caps.specs.Inside.{rootMost, highOn, leastOn, tameOn, tameRise}
 use Rattle.section.specs.declared.Section.{Section}
 use Rattle.section.specs.declared.Surface.the-variants.{Beyond}
-use Rattle.section.specs.Section.{validSection, profileOf, heightOver}
+use Rattle.section.specs.Section.{validSection, profileOf, heightOver, sectionAt}
 
 pub record FlatTo (s : Section) (flat : Float) : Type 0 where
   pub near : (p q : Float) → le (p ⊗ p ⊕ q ⊗ q) flat ≡ true → T (le (hypotOf p q) (s .r0))
@@ -45,3 +48,17 @@ capOf s low x y e lo hi =
     cond (le f0 low)
     (cond (tameOn e x y lo hi) (overOf s (highOn e lo hi) (minOf (leastOn e x y lo hi) (s .r1))) (f0 ⊘ f0))
     (f0 ⊘ f0)
+
+-- Two candidates that are as good as each other beside a contact with the limit b.
+abbrev pub AsGood : Float → Contact → Contact → Type 0
+AsGood b r k = (c : Contact) → limitOf c ≡ b → offerOf c r ≡ offerOf c k
+
+-- The cap is at most m, or with `more` added at most the limit.
+abbrev pub Under : Float → Float → Float → Float → Type 0
+Under cap m more limit = (le cap m ≡ true) ⊎ (le (cap ⊕ more) limit ≡ true)
+
+-- What the search is handed: a number that the surface is nowhere below, and the larger of the two ends' heights.
+pub record Begun (s : Section) (low x y : Float) (e : Edge) (flat lo hi m : Float) : Type 0 where
+  pub firm : Firm s low
+  pub flat-to : FlatTo s flat
+  pub ends : m ≡ maxOf (sectionAt s x y e lo) (sectionAt s x y e hi)

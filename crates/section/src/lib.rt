@@ -1,8 +1,11 @@
 // A section of a tool: its profile, its validity, and its contact with one triangle.
+ghost use mathlib.Core.Bool.{true};
 ghost use mathlib.Core.Path.{_≡_};
+ghost use Rattle.numbers.specs.Reals.{_⊕_};
 ghost use Rattle.above.specs.Above.{offerOf};
 ghost use Rattle.golden.specs.Search.{rises, goldenStart, goldenStep, goldenMax, goldenMaxBound};
-ghost use Rattle.section.specs.Inside.{FlatTo, Firm, Clear};
+ghost use Rattle.caps.specs.Inside.{InnerOf, Alike};
+ghost use Rattle.section.specs.Inside.{FlatTo, Firm, Clear, capOf, AsGood, Under, Begun};
 ghost use Rattle.section.specs.Section.{within, positiveReach, validSection, profileOf, heightOver, sectionUnder, sectionVertex};
 ghost use Rattle.section.specs.Section.{sectionVertices, sectionAt, lipschitzOf, sectionStretch, sectionEdge, sectionEdges, reachOf};
 ghost use Rattle.section.specs.Section.{sectionSloped, sectionRest, sectionFacet, sectionContact};
@@ -190,25 +193,24 @@ fn edge(s: Section, low: f64, x: f64, y: f64, e: Edge, c: Contact) -> Contact
     requires { ⌜ Firm s low ⌝ }
     ensures { λ r. ⌜ r ≡ offerOf c (sectionEdge s x y e) ⌝ }
 {
-    if low::skips(s, low, e, above::limit(c)) {
+    let limit = above::limit(c);
+    if low::skips(s, low, e, limit) {
         return c;
     }
-    above::offer(
-        c,
-        stretch_of(s, low, x, y, e, touch::reached(e, x, y, s.r1)),
-    )
+    let part = touch::reached(e, x, y, s.r1);
+    above::offer(c, stretch_of(s, low, x, y, e, part, limit))
 }
 
-// The bound over an edge's stretch.
-fn stretch_of(s: Section, low: f64, x: f64, y: f64, e: Edge, part: Stretch) -> Contact
+// The bound over an edge's stretch, or one that is as good beside the limit.
+fn stretch_of(s: Section, low: f64, x: f64, y: f64, e: Edge, part: Stretch, limit: f64) -> Contact
     requires { ⌜ Firm s low ⌝ }
-    ensures { λ c. ⌜ c ≡ sectionStretch s x y e part ⌝ }
+    ensures { λ r. ⌜ AsGood limit r (sectionStretch s x y e part) ⌝ }
 {
     let which = e.which;
     match part {
         Stretch::Nowhere => Contact::Nothing,
         Stretch::Between(t0, t1) => Contact::Height(
-            bounded(s, low, x, y, e, t0, t1),
+            bounded(s, low, x, y, e, t0, t1, limit),
             Touch {
                 kind: plane::EDGE,
                 which,
@@ -217,12 +219,19 @@ fn stretch_of(s: Section, low: f64, x: f64, y: f64, e: Edge, part: Stretch) -> C
     }
 }
 
-// The bound between two places of an edge.
-fn bounded(s: Section, low: f64, x: f64, y: f64, e: Edge, lo: f64, hi: f64) -> f64
+// The bound between two places of an edge, or one that is as good beside the limit. Where no bound there exceeds the limit there is no search.
+fn bounded(s: Section, low: f64, x: f64, y: f64, e: Edge, lo: f64, hi: f64, limit: f64) -> f64
     requires { ⌜ Firm s low ⌝ }
-    ensures { λ r. ⌜ r ≡ goldenMaxBound (sectionAt s x y e) lo hi (lipschitzOf s e) ⌝ }
+    ensures { λ r. ⌜ Alike limit r (goldenMaxBound (sectionAt s x y e) lo hi (lipschitzOf s e)) ⌝ }
 {
-    golden::bound(search(s, low, x, y, e, lo, hi), lo, hi, lipschitz(s, e))
+    let cap = low::cap_on(s, low, x, y, e, lo, hi);
+    let slope = lipschitz(s, e);
+    let more = slope * ((hi - lo) * numbers::PHI_60);
+    if cap + more <= limit {
+        return cap + more;
+    }
+    let best = search(s, low, x, y, e, lo, hi, cap, more, limit);
+    golden::bound(best, lo, hi, slope)
 }
 
 // How much the tip's height changes at most along an edge.
@@ -236,18 +245,30 @@ fn lipschitz(s: Section, e: Edge) -> f64
     steep + rise * numbers::root(ex * ex + ey * ey)
 }
 
-// The largest tip's height between two places of an edge: the larger end's, where no place exceeds it.
-fn search(s: Section, low: f64, x: f64, y: f64, e: Edge, lo: f64, hi: f64) -> f64
-    requires { ⌜ Firm s low ⌝ }
-    ensures { λ r. ⌜ r ≡ goldenMax (sectionAt s x y e) lo hi 60 ⌝ }
+// The largest tip's height between two places of an edge, or one that is as good beside the limit with `more` added to both: the larger end's, where no place
+// exceeds it.
+fn search(
+    s: Section,
+    low: f64,
+    x: f64,
+    y: f64,
+    e: Edge,
+    lo: f64,
+    hi: f64,
+    cap: f64,
+    more: f64,
+    limit: f64,
+) -> f64
+    requires { ⌜ (Firm s low) × (cap ≡ capOf s low x y e lo hi) ⌝ }
+    ensures { λ r. ⌜ Alike limit (r ⊕ more) (goldenMax (sectionAt s x y e) lo hi 60 ⊕ more) ⌝ }
 {
     let flat = flat_of(s);
     let first = at(s, x, y, e, flat, lo);
     let m = numbers::max(first, at(s, x, y, e, flat, hi));
-    if low::cap_on(s, low, x, y, e, lo, hi) <= m {
+    if cap <= m {
         return m;
     }
-    search_on(s, x, y, e, flat, lo, hi)
+    search_on(s, low, x, y, e, flat, lo, hi, m, more, limit)
 }
 
 // A number up to which the square of a distance shows that the distance is within r0, so that no distance is taken there.
@@ -257,21 +278,59 @@ fn flat_of(s: Section) -> f64
     bound::within(s.r0)
 }
 
-// The same with the number `flat` of the section.
-fn search_on(s: Section, x: f64, y: f64, e: Edge, flat: f64, lo: f64, hi: f64) -> f64
-    requires { ⌜ FlatTo s flat ⌝ }
-    ensures { λ r. ⌜ r ≡ goldenMax (sectionAt s x y e) lo hi 60 ⌝ }
+// The same with the number `flat` of the section, m being the larger end's height. The search is given up once nothing that it can still find exceeds that, or
+// the limit with `more` added.
+fn search_on(
+    s: Section,
+    low: f64,
+    x: f64,
+    y: f64,
+    e: Edge,
+    flat: f64,
+    lo: f64,
+    hi: f64,
+    m: f64,
+    more: f64,
+    limit: f64,
+) -> f64
+    requires { ⌜ Begun s low x y e flat lo hi m ⌝ }
+    ensures { λ r. ⌜ Alike limit (r ⊕ more) (goldenMax (sectionAt s x y e) lo hi 60 ⊕ more) ⌝ }
 {
     let mut g = start(s, x, y, e, flat, lo, hi);
     for n in 0..60usize {
+        if settled(s, low, x, y, e, m, more, limit, g, n) {
+            return m;
+        }
         g = step(s, x, y, e, flat, g);
     }
-    golden::best(
-        at(s, x, y, e, flat, lo),
-        at(s, x, y, e, flat, hi),
-        g.f1,
-        g.f2,
-    )
+    numbers::max(numbers::max(m, g.f1), g.f2)
+}
+
+// Whether the search may be given up before step n: no place in the bracket that it has come to exceeds m, or the limit with `more` added.
+fn settled(
+    s: Section,
+    low: f64,
+    x: f64,
+    y: f64,
+    e: Edge,
+    m: f64,
+    more: f64,
+    limit: f64,
+    g: Golden,
+    n: usize,
+) -> bool
+    ensures { λ r. ⌜ (r ≡ true → InnerOf g × Under (capOf s low x y e (g .a) (g .b)) m more limit) ⌝ }
+{
+    let a = g.a;
+    let b = g.b;
+    if caps::looks(g, n) {
+        let top = low::cap_on(s, low, x, y, e, a, b);
+        if top <= m {
+            return true;
+        }
+        return top + more <= limit;
+    }
+    false
 }
 
 // The search's first bracket.

@@ -3,10 +3,10 @@ use mathlib.Core.Bool.{true}
 use lib.Dec.{T}
 use lib.Ieee.{Float, le}
 use Rattle.numbers.specs.Reals.{maxOf}
+use Rattle.caps.proofs.Beside.{same-beside}
 use Rattle.bull.specs.Bull.{bullAt}
 use Rattle.bull.proofs.Taking.{way-at, along-way}
 use Rattle.bull.proofs.Capping.{cap-ends}
-use Rattle.bull.proofs.Giving.{same-alike}
 use Rattle.bull.proofs.search.Statement.{statement}
 use Rattle.bull.proofs.search.Tie as tie
 
@@ -16,7 +16,7 @@ returns c =
     let w = c .before .before .before .before .before .way-of .ensures in
     let m : c .before .max .result ≡ maxOf (bullAt (a .args .k) (a .args .e) (a .args .lo)) (bullAt (a .args .k) (a .args .e) (a .args .hi)) =
     c .before .max .ensures ∙ ap (λ (x : Float). maxOf x (c .before .before .at2 .result)) (way-at _ _ _ _ _ w (c .before .before .before .at .ensures)) ∙ ap (maxOf (bullAt (a .args .k) (a .args .e) (a .args .lo))) (way-at _ _ _ _ _ w (c .before .before .at2 .ensures)) in
-    same-alike _ _ _ (m
+    same-beside _ _ _ (m
     ∙ cap-ends (a .args .k) (a .args .e) (a .args .cap) (a .args .lo) (a .args .hi) (subst T (sym (a .good .1 .1 .1 .1 .1 .0 .1)) tt) (subst T (sym (a .good .1 .1 .1 .1 .1 .1 .0 .1)) tt) (a .pre .1) 40
     (subst (λ (v : Float). le (a .args .cap) v ≡ true) m (c .if1 .taken)))
 

@@ -1,6 +1,8 @@
-use mathlib.Core.Path.{_≡_, refl, ap, _∙_, subst}
+use mathlib.Core.Path.{_≡_, ap, sym, _∙_}
 use Rattle.numbers.proofs.Branches.{bool-called}
-use Rattle.section.specs.Section.{sectionEdge}
+use Rattle.above.specs.Above.{offerOf}
+use Rattle.touch.specs.declared.Stretch.{Stretch}
+use Rattle.section.specs.Section.{sectionStretch, sectionEdge}
 use Rattle.section.specs.Inside.{lowEdge}
 use Rattle.section.proofs.Capping.{edge-stays}
 use Rattle.section.proofs.edge.Statement.{statement}
@@ -14,7 +16,11 @@ returns c =
 
 returns-2 : tie.Need-returns-2
 unfolding sectionEdge
-returns-2 c = rw (c .offer .ensures, c .before .stretch-of .ensures, c .before .before .reached .ensures)
+returns-2 c =
+    let a = c .before .before .before .before .before .before .args in
+    c .offer .ensures
+    ∙ c .before .stretch-of .ensures (a .c) (sym (c .before .before .before .before .before .limit .ensures))
+    ∙ ap (λ (k : Stretch). offerOf (a .c) (sectionStretch (a .s) (a .x) (a .y) (a .e) k)) (c .before .before .reached .ensures)
 
 pub edge-spec : {M : Type 1} → statement M
 edge-spec = tie.close (tie.spec (λ c κs. tt) (λ c κs. tt) returns (λ c κs. tt) (λ c κs. c .before .before .before .before .pre) (λ c κs. tt) returns-2)
