@@ -5,7 +5,7 @@ ghost use lib.Ieee.{lt};
 ghost use Rattle.numbers.specs.Reals.{f0, maxOf};
 ghost use Rattle.golden.specs.Search.{rises, goldenStart, goldenStep, goldenMax};
 ghost use Rattle.bull_gap.specs.Blocks.{bullGap, bullSearched, bullBlocks};
-ghost use Rattle.bull_gap.specs.Inside.{inOrder, insideOf};
+ghost use Rattle.caps.specs.Inside.{InnerOf, inOrder};
 ghost use Rattle.bull_pass.specs.Inside.{passesOf};
 use bull::Bull;
 use golden::Golden;
@@ -58,34 +58,8 @@ fn stands(t: Triangle, m: Chord, r: f64, rc: f64, lo: f64, hi: f64) -> bool
 fn passes_between(t: Triangle, m: Chord, r: f64, rc: f64, lo: f64, hi: f64) -> bool
     ensures { λ b. ⌜ b ≡ (inOrder lo hi && passesOf t m r rc lo hi) ⌝ }
 {
-    if in_order(lo, hi) {
+    if caps::in_order(lo, hi) {
         bull_pass::passes(t, m, r, rc, lo, hi)
-    } else {
-        false
-    }
-}
-
-// Whether 0 <= lo <= hi <= 1.
-fn in_order(lo: f64, hi: f64) -> bool
-    ensures { λ b. ⌜ b ≡ inOrder lo hi ⌝ }
-{
-    if lo >= 0.0 {
-        if lo <= hi { hi <= 1.0 } else { false }
-    } else {
-        false
-    }
-}
-
-// Whether the inner points lie in the bracket.
-fn inside(g: Golden) -> bool
-    ensures { λ b. ⌜ b ≡ insideOf g ⌝ }
-{
-    if g.a <= g.x1 {
-        if g.x1 <= g.b {
-            if g.a <= g.x2 { g.x2 <= g.b } else { false }
-        } else {
-            false
-        }
     } else {
         false
     }
@@ -99,7 +73,7 @@ fn sought(t: Triangle, m: Chord, r: f64, rc: f64, lo: f64, hi: f64, low: f64, hi
 {
     let mut g = start(t, m, r, rc, lo, hi);
     for n in 0..40usize {
-        if settled(t, m, r, rc, lo, hi, g, n) {
+        if settled(t, m, r, rc, g, n) {
             return false;
         }
         g = step(t, m, r, rc, g);
@@ -108,18 +82,14 @@ fn sought(t: Triangle, m: Chord, r: f64, rc: f64, lo: f64, hi: f64, low: f64, hi
 }
 
 // Whether the search may break off before step n.
-fn settled(t: Triangle, m: Chord, r: f64, rc: f64, lo: f64, hi: f64, g: Golden, n: usize) -> bool
-    ensures { λ b. ⌜ (b ≡ true → (inOrder lo hi ≡ true) × (insideOf g ≡ true) × (passesOf t m r rc (g .a) (g .b) ≡ true)) ⌝ }
+fn settled(t: Triangle, m: Chord, r: f64, rc: f64, g: Golden, n: usize) -> bool
+    ensures { λ b. ⌜ (b ≡ true → InnerOf g × (inOrder (g .a) (g .b) ≡ true) × (passesOf t m r rc (g .a) (g .b) ≡ true)) ⌝ }
 {
     let a = g.a;
     let b = g.b;
     if n % 4 == 3 {
-        if in_order(lo, hi) {
-            if inside(g) {
-                bull_pass::passes(t, m, r, rc, a, b)
-            } else {
-                false
-            }
+        if caps::bracketed(a, b, g.x1, g.x2) {
+            passes_between(t, m, r, rc, a, b)
         } else {
             false
         }

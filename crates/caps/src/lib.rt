@@ -85,7 +85,7 @@ pub fn tame_on(e: Edge, x: f64, y: f64, lo: f64, hi: f64) -> bool
 }
 
 // Whether 0 <= lo <= hi <= 1.
-fn in_order(lo: f64, hi: f64) -> bool
+pub fn in_order(lo: f64, hi: f64) -> bool
     ensures { λ r. ⌜ r ≡ inOrder lo hi ⌝ }
 {
     if 0.0 <= lo {

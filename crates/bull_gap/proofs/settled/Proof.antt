@@ -1,10 +1,10 @@
-use mathlib.Core.Path.{_≡_, refl, ap, sym, _∙_}
-use Rattle.numbers.proofs.Branches.{no, bool-called}
+use mathlib.Core.Path.{_≡_, sym, _∙_}
+use Rattle.numbers.proofs.Branches.{no, both-true}
 use Rattle.bull_gap.proofs.settled.Statement.{statement}
 use Rattle.bull_gap.proofs.settled.Tie as tie
 
 returns : tie.Need-returns
-returns c = λ e. (bool-called _ _ _ (c .before .before .before .before .in-order .ensures) (c .before .before .before .if2 .taken), bool-called _ _ _ (c .before .before .inside .ensures) (c .before .if3 .taken), bool-called _ _ _ (c .passes .ensures) e)
+returns c = λ e. let p = both-true _ _ (sym (c .passes-between .ensures) ∙ e) in (c .before .before .bracketed .ensures (c .before .if2 .taken), p .0, p .1)
 
 returns-2 : tie.Need-returns-2
 returns-2 c = λ e. absurd (no e)
@@ -12,8 +12,5 @@ returns-2 c = λ e. absurd (no e)
 returns-3 : tie.Need-returns-3
 returns-3 c = λ e. absurd (no e)
 
-returns-4 : tie.Need-returns-4
-returns-4 c = λ e. absurd (no e)
-
 pub settled-spec : {M : Type 1} → statement M
-settled-spec = tie.close (tie.spec (λ c κs. tt) (λ c κs. tt) (λ c κs. tt) returns returns-2 returns-3 returns-4)
+settled-spec = tie.close (tie.spec (λ c κs. tt) (λ c κs. tt) returns returns-2 returns-3)
