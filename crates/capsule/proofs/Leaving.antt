@@ -29,16 +29,17 @@ use Rattle.plane.specs.Contacts.{takeOf}
 use Rattle.above.specs.Above as above
 use Rattle.above.specs.Inside.{limitOf}
 use Rattle.above.proofs.Above.{goes-on, stays-under}
+use Rattle.apart.specs.Inside.{Apart}
 use Rattle.capsule.specs.declared.Capsule.{Capsule}
 use Rattle.capsule.specs.declared.Place.{Place}
 use Rattle.capsule.specs.declared.Point.{Point}
 use Rattle.capsule.specs.declared.Edge.{Edge}
 use Rattle.capsule.specs.declared.Rise.{Rise}
 use Rattle.capsule.specs.Region.{inCapsule, offerOf, offeredAll}
-use Rattle.capsule.specs.Candidates.{each, onEdge, pointOn, reached, squared, solved, circled, ends, sided, sides, crossed}
+use Rattle.capsule.specs.Candidates.{each, cornerA, cornerB, cornerC, corners, edgeOf, edges, onEdge, pointOn, reached, squared, solved, circled, ends, sided, sides, crossed}
 use Rattle.capsule.specs.Candidates.{tangents, flank, flanks, places, candidates, highestIn}
-use Rattle.capsule.specs.Inside.{onTop, Higher, NotAbove, Ordinary, centre, Single, firsts}
-use Rattle.capsule.proofs.Gathering.{offeredAll-append}
+use Rattle.capsule.specs.Inside.{onTop, Higher, NotAbove, Outside, Away, Ordinary, centre, Single, firsts}
+use Rattle.capsule.proofs.Gathering.{offeredAll-append, both}
 use Rattle.capsule.proofs.Equal.{place}
 use Rattle.capsule.proofs.Again.{Held, held-on, held-now, held-same}
 
@@ -125,11 +126,19 @@ clamped t h =
     (λ e. by-test (lt f1 t) (λ g. rw (e, g) (refl, refl))
     (λ g. rw (e, g) (is-true _ (not-below t f0 f tt e), is-true _ (not-below f1 t tt f g))))
 
-module _ (k : Capsule) (e : Edge) (c : Contact) (u : NotAbove c e) where
-  point-same : (s : Float) → le f0 s ≡ true → le s f1 ≡ true → offerOf k c (pointOn e s) ≡ c
-  unfolding offerOf pointOn
-  point-same s lo hi = by-test (inCapsule k (e .x ⊕ s ⊗ e .dx) (e .y ⊕ s ⊗ e .dy)) (λ i. rw i (u s lo hi _)) (λ i. rw i)
+-- the same lists change nothing that none of an edge's points changes
+abbrev Kept : Capsule → Contact → Edge → Type 0
+Kept k c e = (s : Float) → le f0 s ≡ true → le s f1 ≡ true → offerOf k c (pointOn e s) ≡ c
 
+low-kept : (k : Capsule) (c : Contact) (e : Edge) → NotAbove c e → Kept k c e
+unfolding offerOf pointOn
+low-kept k c e u s lo hi = by-test (inCapsule k (e .x ⊕ s ⊗ e .dx) (e .y ⊕ s ⊗ e .dy)) (λ i. rw i (u s lo hi _)) (λ i. rw i)
+
+far-kept : (k : Capsule) (c : Contact) (e : Edge) → Outside k e → Kept k c e
+unfolding offerOf pointOn
+far-kept k c e u s lo hi = rw (u s lo hi)
+
+module _ (k : Capsule) (e : Edge) (c : Contact) (point-same : Kept k c e) where
   reached-same : (t : Float) → offeredAll k c (reached e t) ≡ c
   unfolding reached offeredAll
   reached-same t = by-test (onEdge t) (λ i. let p = clamped t i in rw i (point-same (clampUnit t) (p .0) (p .1))) (λ i. rw i)
@@ -167,12 +176,56 @@ module _ (k : Capsule) (e : Edge) (c : Contact) (u : NotAbove c e) where
       let off = s ⊗ k .r ⊖ ((e .x ⊖ k .px) ⊗ k .nx ⊕ (e .y ⊖ k .py) ⊗ k .ny) in
       if-same (ne den f0) (reached e (off ⊘ den)) (reached-same (off ⊘ den))
 
-  pub crossed-same : offeredAll k c (crossed k e) ≡ c
+  crossed-kept : offeredAll k c (crossed k e) ≡ c
   unfolding crossed
-  crossed-same =
+  crossed-kept =
       if-same (lt f0 (squared e)) (each (circled k e) (ends k) ++ cond (lt f0 (k .len)) (each (sided k e) sides) [])
       (both-same (each (circled k e) (ends k)) (cond (lt f0 (k .len)) (each (sided k e) sides) []) (each-same (circled k e) circled-same (ends k))
       (if-same (lt f0 (k .len)) (each (sided k e) sides) (each-same (sided k e) sided-same sides)))
+
+pub crossed-same : (k : Capsule) (e : Edge) (c : Contact) → NotAbove c e → offeredAll k c (crossed k e) ≡ c
+crossed-same k e c u = crossed-kept k e c (low-kept k c e u)
+
+-- ---- a triangle whose corners and edges lie outside the capsule
+module _ (k : Capsule) (t : Triangle) where
+  pub away-x : Apart (t .ax) (t .bx) (t .cx) (k .px) (k .qx) (k .limit) → Away k t
+  unfolding inCapsule edgeOf cornerA cornerB cornerC
+  away-x u =
+      record {
+        a = u .at-a _ _ _ .0;
+        b = u .at-b _ _ _ .0;
+        c = u .at-c _ _ _ .0;
+        ab = λ s l h. u .ab s l h _ _ _ .0;
+        bc = λ s l h. u .bc s l h _ _ _ .0;
+        ca = λ s l h. u .ca s l h _ _ _ .0;
+      }
+
+  pub away-y : Apart (t .ay) (t .by) (t .cy) (k .py) (k .qy) (k .limit) → Away k t
+  unfolding inCapsule edgeOf cornerA cornerB cornerC
+  away-y u =
+      record {
+        a = u .at-a _ _ _ .1;
+        b = u .at-b _ _ _ .1;
+        c = u .at-c _ _ _ .1;
+        ab = λ s l h. u .ab s l h _ _ _ .1;
+        bc = λ s l h. u .bc s l h _ _ _ .1;
+        ca = λ s l h. u .ca s l h _ _ _ .1;
+      }
+
+  pub away-corners : (c : Contact) → Away k t → c ≡ offeredAll k c (corners t)
+  unfolding offeredAll offerOf corners cornerA cornerB cornerC
+  away-corners c u = rw (u .a, u .b, u .c)
+
+  pub away-edges : (c : Contact) → Away k t → c ≡ offeredAll k c (each (crossed k) (edges t))
+  unfolding each edges offeredAll
+  away-edges c u =
+      let e = edgeOf 0 (cornerA t) (cornerB t) in
+      let f = edgeOf 1 (cornerB t) (cornerC t) in
+      let g = edgeOf 2 (cornerC t) (cornerA t) in
+      let p = crossed-kept k e c (far-kept k c e (u .ab)) in
+      let q = crossed-kept k f c (far-kept k c f (u .bc)) in
+      let r = crossed-kept k g c (far-kept k c g (u .ca)) in
+      both k c c c (crossed k e) (crossed k f ++ (crossed k g ++ [])) (sym p) (both k c c c (crossed k f) (crossed k g ++ []) (sym q) (both k c c c (crossed k g) [] (sym r) refl))
 
 -- ---- the extreme points of a single point: the same place changes nothing
 module _ (k : Capsule) (f : Place → List Point) where

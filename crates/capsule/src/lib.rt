@@ -9,7 +9,7 @@ ghost use Rattle.numbers.specs.Reals.{f0};
 ghost use Rattle.plane.specs.Contacts.{corner};
 ghost use Rattle.numbers.specs.Hypot.{hypotOf};
 ghost use Rattle.capsule.specs.Region.{normalOf, capsuleOf, offerOf, offeredAll, Among, contactOf};
-ghost use Rattle.capsule.specs.Inside.{onTop, Higher, NotAbove, Ordinary, Single, firsts};
+ghost use Rattle.capsule.specs.Inside.{onTop, Higher, NotAbove, Away, Ordinary, Single, firsts};
 ghost use Rattle.capsule.specs.Candidates.{each, corners, edgeOf, edges, ends, onEdge, reached, circled, sided, sides, crossed};
 ghost use Rattle.capsule.specs.Candidates.{determinantOf, riseOf, tangents, flank, flanks, places, planeOver, inner, candidates, highestIn, maxInCapsule};
 use plane::Contact;
@@ -164,9 +164,22 @@ fn found_in(k: Capsule, t: Triangle) -> Best
 fn found_from(k: Capsule, t: Triangle, best: Best) -> Best
     ensures { λ b. ⌜ contactOf b ≡ offeredAll k (contactOf best) (candidates k t) ⌝ }
 {
+    if away(k, t) {
+        return offer_inner(k, best, t);
+    }
     let corners = offer_corners(k, best, t);
     let crossings = offer_edges(k, corners, t);
     offer_inner(k, crossings, t)
+}
+
+// Whether no corner and no point of an edge lies in the capsule, as all of them lie on one side of its segment, too far off. A false says nothing.
+fn away(k: Capsule, t: Triangle) -> bool
+    ensures { λ r. ⌜ (r ≡ true → Away k t) ⌝ }
+{
+    if apart::apart(t.ax, t.bx, t.cx, k.px, k.qx, k.limit) {
+        return true;
+    }
+    apart::apart(t.ay, t.by, t.cy, k.py, k.qy, k.limit)
 }
 
 // The contact that was found.
