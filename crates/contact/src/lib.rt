@@ -8,6 +8,7 @@ ghost use Rattle.grid.specs.Index.{indexOf};
 ghost use Rattle.ask.specs.Ask.{ended};
 ghost use Rattle.contact.specs.Contact.{bullRaised, bullStep, isStand, maxBullOf, BullPromise};
 ghost use Rattle.contact.specs.Contact.{toolRaised, toolStep, isPlace, maxSectionsOf, SectionsPromise};
+ghost use Rattle.contact.specs.Inside.{shapeStep};
 use ask::Answer;
 use bull::Bull;
 use grid::Header;
@@ -21,6 +22,12 @@ pub struct Axis {
     pub x: f64,
     pub y: f64,
     pub low: f64,
+}
+
+// The tool of a question: a bull-nose cutter, or sections, whose table is handed beside it (and is empty for a cutter).
+pub enum Shape {
+    Nose(Bull),
+    Sections(Axis),
 }
 
 // The highest tip of a bull-nose cutter of the radius r and the corner radius rc at (px, py), or why the question is refused.
@@ -86,7 +93,7 @@ pub fn max_bull(
         };
     }
     let next = walk::next_stamp(marks, stamp);
-    let s = visit_bull(
+    let s = visit(
         mesh,
         starts,
         members,
@@ -95,7 +102,8 @@ pub fn max_bull(
         next,
         columns,
         p,
-        k,
+        Shape::Nose(k),
+        &boxes[0..0],
         first,
     );
     let best = s.best;
@@ -169,7 +177,7 @@ pub fn max_sections(
     }
     let next = walk::next_stamp(marks, stamp);
     let a = Axis { x: px, y: py, low };
-    let s = visit_tool(
+    let s = visit(
         mesh,
         starts,
         members,
@@ -178,7 +186,7 @@ pub fn max_sections(
         next,
         columns,
         p,
-        a,
+        Shape::Sections(a),
         table,
         first,
     );
@@ -230,93 +238,13 @@ fn raise_bull_on(t: Triangle, top: f64, i: u32, k: Bull, best: Best) -> Best
     ask::raise_by(bull::bull_contact_on(t, k, best.height), i, best)
 }
 
-// The best so far with triangle i.
+// The best so far of a cutter with triangle i.
 fn raise_bull(mesh: &[f64], boxes: &[f64], k: Bull, best: Best, i: u32) -> Best
     requires { ⌜ (9 * i + 9 ≤ length (now mesh)) × (5 * i + 5 ≤ length (now boxes)) ⌝ }
     ensures { λ r. ⌜ r ≡ bullStep (now (mesh .entry)) (now (boxes .entry)) k best i ⌝ }
 {
     let b = grid::box_at(boxes, i as usize);
     raise_bull_on(plane::triangle_at(mesh, i as usize), b.top, i, k, best)
-}
-
-// Looks at triangle i, unless its mark is the stamp.
-fn look_bull(
-    mesh: &[f64],
-    boxes: &[f64],
-    marks: &mut [u32],
-    stamp: u32,
-    k: Bull,
-    s: Seen,
-    i: u32,
-) -> Seen
-    requires { ⌜ (length (now mesh) ≡ length (now marks) * 9) × (i < length (now marks)) × Room stamp (seen (now marks) s)
-        × (length (now boxes) ≡ length (now marks) * 5) ⌝ }
-    ensures { λ r. ⌜ seen (now (marks .exit)) r ≡ look stamp (bullStep (now (mesh .entry)) (now (boxes .entry)) k) (seen (now (marks .entry)) s) i ⌝ }
-{
-    let count = s.count;
-    let best = s.best;
-    if !walk::fresh(marks, stamp, i as usize) {
-        return s;
-    }
-    Seen {
-        count: count + 1,
-        best: raise_bull(mesh, boxes, k, best, i),
-    }
-}
-
-// The step over one cell: looks at each of its numbers.
-fn cell_bull(
-    mesh: &[f64],
-    boxes: &[f64],
-    part: &[u32],
-    marks: &mut [u32],
-    stamp: u32,
-    k: Bull,
-    s: Seen,
-) -> Seen
-    requires { ⌜ (length (now mesh) ≡ length (now marks) * 9) × Below (length (now marks)) (now part) × Room stamp (seen (now marks) s)
-        × (length (now boxes) ≡ length (now marks) * 5) ⌝ }
-    ensures { λ r. ⌜ seen (now (marks .exit)) r ≡ fold (look stamp (bullStep (now (mesh .entry)) (now (boxes .entry)) k)) (seen (now (marks .entry)) s) (now
-        (part .entry)) ⌝ }
-{
-    let mut found = s;
-    for j in 0..part.len() {
-        found = look_bull(mesh, boxes, marks, stamp, k, found, part[j]);
-    }
-    found
-}
-
-// The walk over the cells of a patch: rows, then columns, then the numbers of each cell.
-fn visit_bull(
-    mesh: &[f64],
-    starts: &[u32],
-    members: &[u32],
-    boxes: &[f64],
-    marks: &mut [u32],
-    stamp: u32,
-    columns: usize,
-    p: Patch,
-    k: Bull,
-    s: Seen,
-) -> Seen
-    requires { ⌜ (length (now mesh) ≡ length (now marks) * 9)
-        × Walkable (now starts) (now members) (length (now marks)) columns (p .x0) (p .x1) (p .y0) (p .y1) × Room stamp (seen (now marks) s)
-        × (length (now boxes) ≡ length (now marks) * 5) ⌝ }
-    ensures { λ r. ⌜ seen (now (marks .exit)) r ≡ fold (look stamp (bullStep (now (mesh .entry)) (now (boxes .entry)) k)) (seen (now (marks .entry)) s)
-        (block (now (starts .entry)) (now (members .entry)) columns (p .x0) (p .x1) (p .y0) (p .y1)) ⌝ }
-{
-    let x0 = p.x0;
-    let x1 = p.x1;
-    let y0 = p.y0;
-    let y1 = p.y1;
-    let mut found = s;
-    for y in y0..y1 {
-        for x in x0..x1 {
-            let part = walk::stretch(starts, members, y * columns + x);
-            found = cell_bull(mesh, boxes, part, marks, stamp, k, found);
-        }
-    }
-    found
 }
 
 // The best so far with triangle i, whose top is given.
@@ -332,7 +260,7 @@ fn raise_tool_on(t: Triangle, top: f64, i: u32, a: Axis, table: &[f64], best: Be
     tool::raise_over(t, i, x, y, table, best)
 }
 
-// The best so far with triangle i.
+// The best so far of a tool of sections with triangle i.
 fn raise_tool(mesh: &[f64], boxes: &[f64], a: Axis, table: &[f64], best: Best, i: u32) -> Best
     requires { ⌜ (9 * i + 9 ≤ length (now mesh)) × (5 * i + 5 ≤ length (now boxes)) ⌝ }
     ensures { λ r. ⌜ r ≡ toolStep (now (mesh .entry)) (now (boxes .entry)) a (now (table .entry)) best i ⌝ }
@@ -348,21 +276,32 @@ fn raise_tool(mesh: &[f64], boxes: &[f64], a: Axis, table: &[f64], best: Best, i
     )
 }
 
+// The best so far of a tool of either kind with triangle i.
+fn raise(mesh: &[f64], boxes: &[f64], shape: Shape, table: &[f64], best: Best, i: u32) -> Best
+    requires { ⌜ (9 * i + 9 ≤ length (now mesh)) × (5 * i + 5 ≤ length (now boxes)) ⌝ }
+    ensures { λ r. ⌜ r ≡ shapeStep (now (mesh .entry)) (now (boxes .entry)) shape (now (table .entry)) best i ⌝ }
+{
+    match shape {
+        Shape::Nose(k) => raise_bull(mesh, boxes, k, best, i),
+        Shape::Sections(a) => raise_tool(mesh, boxes, a, table, best, i),
+    }
+}
+
 // Looks at triangle i, unless its mark is the stamp.
-fn look_tool(
+fn look_at(
     mesh: &[f64],
     boxes: &[f64],
     marks: &mut [u32],
     stamp: u32,
-    a: Axis,
+    shape: Shape,
     table: &[f64],
     s: Seen,
     i: u32,
 ) -> Seen
     requires { ⌜ (length (now mesh) ≡ length (now marks) * 9) × (i < length (now marks)) × Room stamp (seen (now marks) s)
         × (length (now boxes) ≡ length (now marks) * 5) ⌝ }
-    ensures { λ r. ⌜ seen (now (marks .exit)) r ≡ look stamp (toolStep (now (mesh .entry)) (now (boxes .entry)) a (now (table .entry))) (seen (now
-        (marks .entry)) s) i ⌝ }
+    ensures { λ r. ⌜ seen (now (marks .exit)) r ≡ look stamp (shapeStep (now (mesh .entry)) (now (boxes .entry)) shape (now (table .entry)))
+        (seen (now (marks .entry)) s) i ⌝ }
 {
     let count = s.count;
     let best = s.best;
@@ -371,35 +310,35 @@ fn look_tool(
     }
     Seen {
         count: count + 1,
-        best: raise_tool(mesh, boxes, a, table, best, i),
+        best: raise(mesh, boxes, shape, table, best, i),
     }
 }
 
 // The step over one cell: looks at each of its numbers.
-fn cell_tool(
+fn cell(
     mesh: &[f64],
     boxes: &[f64],
     part: &[u32],
     marks: &mut [u32],
     stamp: u32,
-    a: Axis,
+    shape: Shape,
     table: &[f64],
     s: Seen,
 ) -> Seen
     requires { ⌜ (length (now mesh) ≡ length (now marks) * 9) × Below (length (now marks)) (now part) × Room stamp (seen (now marks) s)
         × (length (now boxes) ≡ length (now marks) * 5) ⌝ }
-    ensures { λ r. ⌜ seen (now (marks .exit)) r ≡ fold (look stamp (toolStep (now (mesh .entry)) (now (boxes .entry)) a (now (table .entry))))
+    ensures { λ r. ⌜ seen (now (marks .exit)) r ≡ fold (look stamp (shapeStep (now (mesh .entry)) (now (boxes .entry)) shape (now (table .entry))))
         (seen (now (marks .entry)) s) (now (part .entry)) ⌝ }
 {
     let mut found = s;
     for j in 0..part.len() {
-        found = look_tool(mesh, boxes, marks, stamp, a, table, found, part[j]);
+        found = look_at(mesh, boxes, marks, stamp, shape, table, found, part[j]);
     }
     found
 }
 
 // The walk over the cells of a patch: rows, then columns, then the numbers of each cell.
-fn visit_tool(
+fn visit(
     mesh: &[f64],
     starts: &[u32],
     members: &[u32],
@@ -408,14 +347,14 @@ fn visit_tool(
     stamp: u32,
     columns: usize,
     p: Patch,
-    a: Axis,
+    shape: Shape,
     table: &[f64],
     s: Seen,
 ) -> Seen
     requires { ⌜ (length (now mesh) ≡ length (now marks) * 9)
         × Walkable (now starts) (now members) (length (now marks)) columns (p .x0) (p .x1) (p .y0) (p .y1) × Room stamp (seen (now marks) s)
         × (length (now boxes) ≡ length (now marks) * 5) ⌝ }
-    ensures { λ r. ⌜ seen (now (marks .exit)) r ≡ fold (look stamp (toolStep (now (mesh .entry)) (now (boxes .entry)) a (now (table .entry))))
+    ensures { λ r. ⌜ seen (now (marks .exit)) r ≡ fold (look stamp (shapeStep (now (mesh .entry)) (now (boxes .entry)) shape (now (table .entry))))
         (seen (now (marks .entry)) s) (block (now (starts .entry)) (now (members .entry)) columns (p .x0) (p .x1) (p .y0) (p .y1)) ⌝ }
 {
     let x0 = p.x0;
@@ -426,7 +365,7 @@ fn visit_tool(
     for y in y0..y1 {
         for x in x0..x1 {
             let part = walk::stretch(starts, members, y * columns + x);
-            found = cell_tool(mesh, boxes, part, marks, stamp, a, table, found);
+            found = cell(mesh, boxes, part, marks, stamp, shape, table, found);
         }
     }
     found

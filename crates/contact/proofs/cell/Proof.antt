@@ -1,4 +1,4 @@
--- `contact::cell_tool` meets its contract: the numbers that are left, looked at from here, give what all gave from the start.
+-- `contact::cell` meets its contract: the numbers that are left, looked at from here, give what all gave from the start.
 use Prim.Native.Nat.{_≤_, _-_}
 use mathlib.Core.Path.{_≡_}
 use native.Mathlib.Omega.{arith}
@@ -6,22 +6,22 @@ use borrow.Author.Needs.{needs}
 use lib.ListN.{length, drop}
 use Rattle.walk.specs.Inside.{seen, look}
 use Rattle.walk.proofs.Rings.{Going, going-starts, member-turns, members-end, kept-room, look-keeps}
-use Rattle.contact.specs.Contact.{toolStep}
-use Rattle.contact.proofs.cell_tool.Statement.{statement}
-use Rattle.contact.proofs.cell_tool.Tie as tie
+use Rattle.contact.specs.Inside.{shapeStep}
+use Rattle.contact.proofs.cell.Statement.{statement}
+use Rattle.contact.proofs.cell.Tie as tie
 
 abbrev Inv-loop : tie.InvT-loop
-Inv-loop mesh boxes part marks₀ stamp a table found₀ j₀ j-end marks found j =
-    Going stamp (look stamp (toolStep mesh boxes a table)) (seen marks₀ found₀) part (seen marks found) (drop j part) × (j-end ≡ length part) × (j ≤ j-end)
+Inv-loop mesh boxes part marks₀ stamp shape table found₀ j₀ j-end marks found j =
+    Going stamp (look stamp (shapeStep mesh boxes shape table)) (seen marks₀ found₀) part (seen marks found) (drop j part) × (j-end ≡ length part) × (j ≤ j-end)
 
 abbrev μ-loop : tie.MeasureT-loop
-μ-loop mesh boxes part marks₀ stamp a table found₀ j₀ j-end marks found j = j-end - j
+μ-loop mesh boxes part marks₀ stamp shape table found₀ j₀ j-end marks found j = j-end - j
 
 loop-holds : tie.Need-loop-holds Inv-loop μ-loop
 loop-holds c = (going-starts, search needs, search needs)
 
-look-tool-requires : tie.Need-look-tool-requires Inv-loop μ-loop
-look-tool-requires c κs =
+look-at-requires : tie.Need-look-at-requires Inv-loop μ-loop
+look-at-requires c κs =
     let l = c .before .before .before .loop in
     let s = c .before .before .before .before .before .before .before .before .before in
     let k = l .inv .0 .kept in
@@ -30,8 +30,8 @@ look-tool-requires c κs =
 loop-again : tie.Need-loop-again Inv-loop μ-loop
 loop-again c =
     let l = c .before .before .before .before .before .before .loop in
-    let a = look-tool-requires (c .before .before .before) (c .before .before .look-tool .lifetimes) in
-    (member-turns (l .j) (omega arith) (look-keeps _ _ _ _ (a .1)) (l .inv .0) (c .before .before .look-tool .ensures), search needs, search needs)
+    let a = look-at-requires (c .before .before .before) (c .before .before .look-at .lifetimes) in
+    (member-turns (l .j) (omega arith) (look-keeps _ _ _ _ (a .1)) (l .inv .0) (c .before .before .look-at .ensures), search needs, search needs)
 
 same-length : tie.Need-same-length Inv-loop μ-loop
 same-length c = c .before .loop .inv .0 .kept .size
@@ -39,8 +39,8 @@ same-length c = c .before .loop .inv .0 .kept .size
 returns : tie.Need-returns Inv-loop μ-loop
 returns c = members-end (c .before .loop .j) (omega arith) (c .before .loop .inv .0)
 
-pub cell-tool-spec : {M : Type 1} → statement M
-cell-tool-spec =
+pub cell-spec : {M : Type 1} → statement M
+cell-spec =
     tie.close
-    (tie.spec Inv-loop μ-loop loop-holds (λ c. search needs) (λ c. omega arith) look-tool-requires (λ c. omega arith) (λ c. omega arith)
+    (tie.spec Inv-loop μ-loop loop-holds (λ c. search needs) (λ c. omega arith) look-at-requires (λ c. omega arith) (λ c. omega arith)
     loop-again same-length returns)

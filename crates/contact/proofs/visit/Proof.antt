@@ -1,4 +1,4 @@
--- `contact::visit_tool` meets its contract: what is left of a ring, walked from here, gives what the whole ring gave from its start.
+-- `contact::visit` meets its contract: what is left of a ring, walked from here, gives what the whole ring gave from its start.
 use Prim.Native.Nat.{_+_, _-_, _*_, _≤_}
 use mathlib.Core.Path.{_≡_, ap, _∙_}
 use native.Mathlib.Omega.{arith}
@@ -7,24 +7,24 @@ use denote.Ref.{now}
 use Rattle.walk.specs.Walk.{over, cell, row, block, fold}
 use Rattle.walk.specs.Inside.{seen, look, Below, Stretch}
 use Rattle.walk.proofs.Rings.{Going, going-starts, ring-turns, ring-ends, kept-trans, kept-room}
-use Rattle.contact.specs.Contact.{toolStep}
+use Rattle.contact.specs.Inside.{shapeStep}
 use Rattle.ask.proofs.Answers.{cell-keeps}
-use Rattle.contact.proofs.visit_tool.Statement.{statement}
-use Rattle.contact.proofs.visit_tool.Tie as tie
+use Rattle.contact.proofs.visit.Statement.{statement}
+use Rattle.contact.proofs.visit.Tie as tie
 
 abbrev Inv-loop2 : tie.InvT-loop2
-Inv-loop2 mesh starts members boxes marks₀ stamp columns a table x0 x1 y0 y1 found₀ y x₀ marks found x =
-    Going stamp (look stamp (toolStep mesh boxes a table)) (seen marks₀ found₀) (row starts members columns x0 x1 y) (seen marks found) (over (λ k. cell starts members (y * columns + k)) x (x1 - x)) × (x0 ≤ x)
+Inv-loop2 mesh starts members boxes marks₀ stamp columns shape table x0 x1 y0 y1 found₀ y x₀ marks found x =
+    Going stamp (look stamp (shapeStep mesh boxes shape table)) (seen marks₀ found₀) (row starts members columns x0 x1 y) (seen marks found) (over (λ k. cell starts members (y * columns + k)) x (x1 - x)) × (x0 ≤ x)
 
 abbrev μ-loop2 : tie.MeasureT-loop2
-μ-loop2 mesh starts members boxes marks₀ stamp columns a table x0 x1 y0 y1 found₀ y x₀ marks found x = x1 - x
+μ-loop2 mesh starts members boxes marks₀ stamp columns shape table x0 x1 y0 y1 found₀ y x₀ marks found x = x1 - x
 
 abbrev Inv-loop : tie.InvT-loop
-Inv-loop mesh starts members boxes marks₀ stamp columns a table x0 x1 y0 y1 found₀ y₀ marks found y =
-    Going stamp (look stamp (toolStep mesh boxes a table)) (seen marks₀ found₀) (block starts members columns x0 x1 y0 y1) (seen marks found) (block starts members columns x0 x1 y y1) × (y0 ≤ y)
+Inv-loop mesh starts members boxes marks₀ stamp columns shape table x0 x1 y0 y1 found₀ y₀ marks found y =
+    Going stamp (look stamp (shapeStep mesh boxes shape table)) (seen marks₀ found₀) (block starts members columns x0 x1 y0 y1) (seen marks found) (block starts members columns x0 x1 y y1) × (y0 ≤ y)
 
 abbrev μ-loop : tie.MeasureT-loop
-μ-loop mesh starts members boxes marks₀ stamp columns a table x0 x1 y0 y1 found₀ y₀ marks found y = y1 - y
+μ-loop mesh starts members boxes marks₀ stamp columns shape table x0 x1 y0 y1 found₀ y₀ marks found y = y1 - y
 
 loop-holds : tie.Need-loop-holds Inv-loop2 μ-loop2 Inv-loop μ-loop
 loop-holds c = (going-starts, omega arith)
@@ -45,8 +45,8 @@ cell-fits c =
     let i = s .pre .1 .stretch (c .before .loop2 .x) (l .y) (c .before .loop2 .inv .1) (c .loop2-test .taken) (l .inv .1) (c .before .before .loop-test .taken) .inside in
     omega arith
 
-cell-tool-requires : tie.Need-cell-tool-requires Inv-loop2 μ-loop2 Inv-loop μ-loop
-cell-tool-requires c κs =
+cell-requires : tie.Need-cell-requires Inv-loop2 μ-loop2 Inv-loop μ-loop
+cell-requires c κs =
     let d = c .before .before in
     let s = d .before .before .before .before .before .before .before .before .before .before in
     let l = d .before .before .before .loop in
@@ -59,8 +59,8 @@ cell-tool-requires c κs =
 
 loop2-again : tie.Need-loop2-again Inv-loop2 μ-loop2 Inv-loop μ-loop
 loop2-again c =
-    let v = c .before .before .cell-tool in
-    let a = cell-tool-requires (c .before .before .before) (v .lifetimes) in
+    let v = c .before .before .cell in
+    let a = cell-requires (c .before .before .before) (v .lifetimes) in
     let d = c .before .before .before .before .before in (
       ring-turns _ (d .before .loop2 .x) _ (d .loop2-test .taken) (cell-keeps _ _ _ (v .ensures) (a .1)) (d .before .loop2 .inv .0) (v .ensures ∙ ap (fold _ _) (c .before .before .before .before .stretch .ensures)),
       omega arith,
@@ -79,12 +79,12 @@ same-length c = c .before .loop .inv .0 .kept .size
 returns : tie.Need-returns Inv-loop2 μ-loop2 Inv-loop μ-loop
 returns c = ring-ends _ (c .before .loop .y) _ (omega arith) (c .before .loop .inv .0)
 
-pub visit-tool-spec : {M : Type 1} → statement M
-visit-tool-spec =
+pub visit-spec : {M : Type 1} → statement M
+visit-spec =
     tie.close
     (tie.spec Inv-loop2 μ-loop2 Inv-loop μ-loop loop-holds loop2-holds
     (λ c. record { fits = omega (arith, cell-fits c, c .before .before .before .before .before .before .before .before .before .before) })
     (λ c. record { fits = omega (arith, cell-fits c, c .before .before .before .before .before .before .before .before .before .before) })
-    stretch-requires cell-tool-requires
+    stretch-requires cell-requires
     (λ c. record { fits = omega (arith, cell-fits (c .before .before .before .before .before), c .before .before .before .before .before .before .before .before .before .before .before .before .before .before .before) }) (λ c. omega (arith, c .before .before .before .before .before .loop2-test .taken)) loop2-again
     (λ c. omega (arith, c .before .before .before .before .before .before .before .before .before .before)) (λ c. omega arith) loop-again same-length returns)
