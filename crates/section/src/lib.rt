@@ -278,8 +278,8 @@ fn flat_of(s: Section) -> f64
     bound::within(s.r0)
 }
 
-// The same with the number `flat` of the section, m being the larger end's height. The search is given up once nothing that it can still find exceeds that, or
-// the limit with `more` added.
+// The same with the number `flat` of the section, m being the larger end's height. The search is given up once nothing that it can still find exceeds that, or,
+// with `more` added, the limit.
 fn search_on(
     s: Section,
     low: f64,
@@ -306,7 +306,7 @@ fn search_on(
     numbers::max(numbers::max(m, g.f1), g.f2)
 }
 
-// Whether the search may be given up before step n: no place in the bracket that it has come to exceeds m, or the limit with `more` added.
+// Whether the search may be given up before step n: no place in the bracket that it has come to exceeds m, or, with `more` added, the limit.
 fn settled(
     s: Section,
     low: f64,

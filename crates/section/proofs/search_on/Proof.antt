@@ -1,4 +1,4 @@
--- The invariant: after n steps the bracket is that of the search. Where it is given up, nothing in the bracket exceeds the larger end's height, or the limit with `more` added.
+-- The invariant: after n steps the bracket is that of the search. Where it is given up, nothing in the bracket exceeds the larger end's height, or, with `more` added, the limit.
 use Prim.Native.Nat.{_≤_, _-_}
 use mathlib.Core.Path.{_≡_}
 use borrow.Author.Needs.{needs}
