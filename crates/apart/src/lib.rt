@@ -1,19 +1,35 @@
 // Whether a triangle surely lies apart from what is asked about, so that its points need no look. Only orders of numbers are compared; a false says nothing.
-ghost use mathlib.Core.Bool.{true};
+ghost use mathlib.Core.Bool.{true, cond};
 ghost use mathlib.Core.Path.{_≡_};
+ghost use lib.Ieee.{lt};
 ghost use Rattle.apart.specs.Inside.{lowOn, highOn, lowestOn, highestOn, Ahead, Behind, Fine, Apart};
 
-// Whether on one coordinate, whose corners are a, b and c, all corners and edges lie farther from the segment p-q than the root of limit.
-pub fn apart(a: f64, b: f64, c: f64, p: f64, q: f64, limit: f64) -> bool
+// Whether on one coordinate, whose corners are a, b and c, all corners and edges lie farther from the segment p-q than the root of limit. `reach` only
+// says from where on a look pays.
+pub fn apart(a: f64, b: f64, c: f64, p: f64, q: f64, reach: f64, limit: f64) -> bool
     ensures { λ r. ⌜ (r ≡ true → Apart a b c p q limit) ⌝ }
 {
-    if ahead(low_on(p, q) - a, limit) {
-        return below(a, b, c, p, q, limit);
-    }
-    if behind(high_on(p, q) - a, limit) {
+    if lesser(lesser(a, b), c) > larger(p, q) + reach {
         return over(a, b, c, p, q, limit);
     }
+    if larger(larger(a, b), c) < lesser(p, q) - reach {
+        return below(a, b, c, p, q, limit);
+    }
     false
+}
+
+// The smaller of two numbers; the second where either is a NaN.
+fn lesser(a: f64, b: f64) -> f64
+    ensures { λ r. ⌜ r ≡ cond (lt a b) a b ⌝ }
+{
+    if a < b { a } else { b }
+}
+
+// The larger, in the same way.
+fn larger(a: f64, b: f64) -> f64
+    ensures { λ r. ⌜ r ≡ cond (lt b a) a b ⌝ }
+{
+    if a > b { a } else { b }
 }
 
 // Whether they lie below the segment, that far.

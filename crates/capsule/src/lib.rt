@@ -176,10 +176,11 @@ fn found_from(k: Capsule, t: Triangle, best: Best) -> Best
 fn away(k: Capsule, t: Triangle) -> bool
     ensures { λ r. ⌜ (r ≡ true → Away k t) ⌝ }
 {
-    if apart::apart(t.ax, t.bx, t.cx, k.px, k.qx, k.limit) {
+    let reach = k.r * 1.000001 + 1e-6;
+    if apart::apart(t.ax, t.bx, t.cx, k.px, k.qx, reach, k.limit) {
         return true;
     }
-    apart::apart(t.ay, t.by, t.cy, k.py, k.qy, k.limit)
+    apart::apart(t.ay, t.by, t.cy, k.py, k.qy, reach, k.limit)
 }
 
 // The contact that was found.

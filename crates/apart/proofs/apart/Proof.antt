@@ -5,4 +5,5 @@ use Rattle.apart.proofs.apart.Tie as tie
 pub apart-spec : {M : Type 1} → statement M
 apart-spec =
     tie.close
-    (tie.spec (λ c κs. tt) (λ c κs. tt) (λ c κs. tt) (λ c. c .below .ensures) (λ c κs. tt) (λ c κs. tt) (λ c κs. tt) (λ c. c .over .ensures) (λ c e. absurd (no e)))
+    (tie.spec (λ c κs. tt) (λ c κs. tt) (λ c κs. tt) (λ c κs. tt) (λ c. c .over .ensures)
+    (λ c κs. tt) (λ c κs. tt) (λ c κs. tt) (λ c κs. tt) (λ c. c .below .ensures) (λ c e. absurd (no e)))
