@@ -1,18 +1,16 @@
 -- What lies on one side of a segment, on one coordinate, by a way whose square exceeds the limit, is not within the limit as distances are computed.
-use mathlib.Core.Bool.{Bool, true, false, cond}
-use mathlib.Core.Logic.{_⊎_, inl, inr}
-use mathlib.Core.Path.{_≡_, refl, ap, sym, _∙_, subst}
+use mathlib.Core.Bool.{Bool, true, false}
+use mathlib.Core.Path.{_≡_, refl, sym, _∙_, subst}
 use Prim.Native.Nat.{ℕ, _+_, _*_, _≤_}
-use native.Mathlib.Nat.{zero-mul, mul-zero, mul-one, one-mul, mul-pos}
+use native.Mathlib.Nat.{zero-mul, mul-one, one-mul, mul-pos}
 use native.Mathlib.Omega.{arith}
 use lib.Dec.{T}
-use lib.IntN.{pos}
 use lib.Ieee.{Float, nan, inf, fin, binary64, add, sub, mul, neg, lt, le, eq, fits, ofBits}
 use lib.Ieee.Fits.{mul-fits}
 use lib.Ieee.Bits.{is-true}
 use lib.Ieee.Scale.{finite}
 use lib.Ieee.Positive.{den, den-pos}
-use Rattle.numbers.specs.Reals.{_⊕_, _⊖_, _⊗_, _⊘_, f0, f1, minOf, maxOf, absOf, clampUnit}
+use Rattle.numbers.specs.Reals.{_⊕_, _⊖_, _⊗_, f0, f1, minOf, maxOf, absOf, clampUnit}
 use Rattle.numbers.proofs.Branches.{either, by-test, no}
 use Rattle.plane.specs.Distance.{nearestT, dist2ToSegment}
 use Rattle.spans.proofs.Signed.{upper, lower, is-le, is-sub}
