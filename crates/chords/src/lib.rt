@@ -7,9 +7,9 @@ ghost use Rattle.walk.specs.Walk.{block, fold};
 ghost use Rattle.walk.specs.Inside.{judged, strike, Room, Walkable};
 ghost use Rattle.grid.specs.Index.{indexOf};
 ghost use Rattle.ask.specs.Ask.{ended, refusedChord, blockedEarly};
-ghost use Rattle.chords.specs.Chords.{isEnd, isChord, blockedAtOnce, bullBlocksAt, isRide, bullChordOf, BullChordPromise};
+ghost use Rattle.chords.specs.Chords.{isEnd, isChord, blockedAtOnce, isRide, bullChordOf, BullChordPromise};
 ghost use Rattle.chords.specs.Chords.{toolBlocks, toolBlocksAt, sectionsChordOf, SectionsChordPromise};
-ghost use Rattle.chords.specs.Inside.{ruledChord};
+ghost use Rattle.chords.specs.Inside.{ruledChord, isUnder, shapeBlocks, shapeBlocksAt};
 use ask::Finding;
 use ask::Ruling;
 use grid::Header;
@@ -18,6 +18,13 @@ use plane::Triangle;
 use query::Patch;
 use reach::Chord;
 use walk::Verdict;
+
+// The tool of a chord: a bull-nose cutter by its radius and its corner radius, or sections by their lowest z0, whose table
+// is handed beside it (and is empty for a cutter).
+pub enum Shape {
+    Nose(f64, f64),
+    Sections(f64),
+}
 
 // Whether a bull-nose cutter of the radius r and the corner radius rc is clear from the tip a to the tip b, or why the question is refused.
 pub fn bull_chord_clear(
@@ -61,7 +68,7 @@ pub fn bull_chord_clear(
         return blocked(stamp);
     }
     let next = walk::next_stamp(marks, stamp);
-    let v = chase_bull(
+    let v = chase(
         mesh,
         starts,
         members,
@@ -71,8 +78,8 @@ pub fn bull_chord_clear(
         columns,
         p,
         m,
-        r,
-        rc,
+        Shape::Nose(r, rc),
+        &boxes[0..0],
     );
     Ruling {
         refusal: 0,
@@ -162,7 +169,7 @@ pub fn tool_ruling(
         return blocked(stamp);
     }
     let next = walk::next_stamp(marks, stamp);
-    let v = chase_tool(
+    let v = chase(
         mesh,
         starts,
         members,
@@ -172,7 +179,7 @@ pub fn tool_ruling(
         columns,
         p,
         m,
-        low,
+        Shape::Sections(low),
         table,
     );
     Ruling {
@@ -271,15 +278,6 @@ fn blocked_at_once(floor: f64, m: Chord) -> bool
     numbers::min(m.az, m.bz) < high
 }
 
-// Whether triangle i blocks the cutter.
-fn bull_blocks_at(mesh: &[f64], boxes: &[f64], m: Chord, r: f64, rc: f64, i: usize) -> bool
-    requires { ⌜ (9 * i + 9 ≤ length (now mesh)) × (5 * i + 5 ≤ length (now boxes)) ⌝ }
-    ensures { λ b. ⌜ b ≡ bullBlocksAt (now (mesh .entry)) (now (boxes .entry)) m r rc i ⌝ }
-{
-    let b = grid::box_at(boxes, i);
-    bull_gap::bull_blocks(plane::triangle_at(mesh, i), b.top, m, r, rc)
-}
-
 // Whether a triangle with the box b blocks the tool.
 fn tool_blocks(t: Triangle, b: Bounds, m: Chord, low: f64, table: &[f64]) -> bool
     ensures { λ a. ⌜ a ≡ toolBlocks t b m low (now (table .entry)) ⌝ }
@@ -292,100 +290,55 @@ fn tool_blocks(t: Triangle, b: Bounds, m: Chord, low: f64, table: &[f64]) -> boo
     !tool::passes_all(t, b, m, table)
 }
 
-// Whether triangle i blocks the tool.
-fn tool_blocks_at(mesh: &[f64], boxes: &[f64], m: Chord, low: f64, table: &[f64], i: usize) -> bool
+// Whether all of a triangle with this top lies under the tool: it can't block then.
+fn is_under(top: f64, m: Chord, shape: Shape) -> bool
+    ensures { λ b. ⌜ b ≡ isUnder top m shape ⌝ }
+{
+    let lift = m.lift;
+    let tip = numbers::min(m.az, m.bz);
+    match shape {
+        Shape::Nose(_, _) => top + lift <= tip,
+        Shape::Sections(low) => top - low + lift <= tip,
+    }
+}
+
+// Whether a triangle with the box b blocks the tool of either kind.
+fn blocks_on(t: Triangle, b: Bounds, m: Chord, shape: Shape, table: &[f64]) -> bool
+    ensures { λ a. ⌜ a ≡ shapeBlocks t b m shape (now (table .entry)) ⌝ }
+{
+    match shape {
+        Shape::Nose(r, rc) => bull_gap::bull_blocks(t, b.top, m, r, rc),
+        Shape::Sections(low) => tool_blocks(t, b, m, low, table),
+    }
+}
+
+// Whether triangle i blocks the tool of either kind. Most lie under it, which its box shows before the triangle is read.
+fn blocks_at(mesh: &[f64], boxes: &[f64], m: Chord, shape: Shape, table: &[f64], i: usize) -> bool
     requires { ⌜ (9 * i + 9 ≤ length (now mesh)) × (5 * i + 5 ≤ length (now boxes)) ⌝ }
-    ensures { λ b. ⌜ b ≡ toolBlocksAt (now (mesh .entry)) (now (boxes .entry)) m low (now (table .entry)) i ⌝ }
+    ensures { λ b. ⌜ b ≡ shapeBlocksAt (now (mesh .entry)) (now (boxes .entry)) m shape (now (table .entry)) i ⌝ }
 {
     let b = grid::box_at(boxes, i);
-    tool_blocks(plane::triangle_at(mesh, i), b, m, low, table)
+    if is_under(b.top, m, shape) {
+        return false;
+    }
+    blocks_on(plane::triangle_at(mesh, i), b, m, shape, table)
 }
 
 // Looks at triangle i, unless its mark is the stamp: does it block?
-fn strike_bull(
+fn strike_at(
     mesh: &[f64],
     boxes: &[f64],
     marks: &mut [u32],
     stamp: u32,
     m: Chord,
-    r: f64,
-    rc: f64,
-    v: Verdict,
-    i: usize,
-) -> Verdict
-    requires { ⌜ (length (now mesh) ≡ length (now marks) * 9) × (i < length (now marks)) × Room stamp (judged (now marks) v) × (v .clear ≡ true)
-        × (length (now boxes) ≡ length (now marks) * 5) ⌝ }
-    ensures { λ w. ⌜ judged (now (marks .exit)) w ≡ strike stamp (bullBlocksAt (now (mesh .entry)) (now (boxes .entry)) m r rc) (judged (now
-        (marks .entry)) v) i ⌝ }
-{
-    let count = v.count;
-    if !walk::fresh(marks, stamp, i) {
-        return v;
-    }
-    Verdict {
-        count: count + 1, // a blocker too
-        clear: !bull_blocks_at(mesh, boxes, m, r, rc, i),
-    }
-}
-
-// Three rings over the cells of a patch, left at the first triangle that blocks.
-fn chase_bull(
-    mesh: &[f64],
-    starts: &[u32],
-    members: &[u32],
-    boxes: &[f64],
-    marks: &mut [u32],
-    stamp: u32,
-    columns: usize,
-    p: Patch,
-    m: Chord,
-    r: f64,
-    rc: f64,
-) -> Verdict
-    requires { ⌜ (length (now mesh) ≡ length (now marks) * 9)
-        × Walkable (now starts) (now members) (length (now marks)) columns (p .x0) (p .x1) (p .y0) (p .y1)
-        × Room stamp (judged (now marks) (record { count = 0; clear = true })) × (length (now boxes) ≡ length (now marks) * 5) ⌝ }
-    ensures { λ w. ⌜ judged (now (marks .exit)) w ≡ fold (strike stamp (bullBlocksAt (now (mesh .entry)) (now (boxes .entry)) m r rc))
-        (judged (now (marks .entry)) (record { count = 0; clear = true }))
-        (block (now (starts .entry)) (now (members .entry)) columns (p .x0) (p .x1) (p .y0) (p .y1)) ⌝ }
-{
-    let x0 = p.x0;
-    let x1 = p.x1;
-    let y0 = p.y0;
-    let y1 = p.y1;
-    let mut v = Verdict {
-        count: 0,
-        clear: true,
-    };
-    'rows: for y in y0..y1 {
-        for x in x0..x1 {
-            let part = walk::stretch(starts, members, y * columns + x);
-            for j in 0..part.len() {
-                v = strike_bull(mesh, boxes, marks, stamp, m, r, rc, v, part[j] as usize);
-                if !v.clear {
-                    break 'rows; // out of all three rings
-                }
-            }
-        }
-    }
-    v
-}
-
-// Looks at triangle i, unless its mark is the stamp: does it block?
-fn strike_tool(
-    mesh: &[f64],
-    boxes: &[f64],
-    marks: &mut [u32],
-    stamp: u32,
-    m: Chord,
-    low: f64,
+    shape: Shape,
     table: &[f64],
     v: Verdict,
     i: usize,
 ) -> Verdict
     requires { ⌜ (length (now mesh) ≡ length (now marks) * 9) × (i < length (now marks)) × Room stamp (judged (now marks) v) × (v .clear ≡ true)
         × (length (now boxes) ≡ length (now marks) * 5) ⌝ }
-    ensures { λ w. ⌜ judged (now (marks .exit)) w ≡ strike stamp (toolBlocksAt (now (mesh .entry)) (now (boxes .entry)) m low (now (table .entry)))
+    ensures { λ w. ⌜ judged (now (marks .exit)) w ≡ strike stamp (shapeBlocksAt (now (mesh .entry)) (now (boxes .entry)) m shape (now (table .entry)))
         (judged (now (marks .entry)) v) i ⌝ }
 {
     let count = v.count;
@@ -393,13 +346,13 @@ fn strike_tool(
         return v;
     }
     Verdict {
-        count: count + 1,
-        clear: !tool_blocks_at(mesh, boxes, m, low, table, i),
+        count: count + 1, // a blocker too
+        clear: !blocks_at(mesh, boxes, m, shape, table, i),
     }
 }
 
 // Three rings over the cells of a patch, left at the first triangle that blocks.
-fn chase_tool(
+fn chase(
     mesh: &[f64],
     starts: &[u32],
     members: &[u32],
@@ -409,13 +362,13 @@ fn chase_tool(
     columns: usize,
     p: Patch,
     m: Chord,
-    low: f64,
+    shape: Shape,
     table: &[f64],
 ) -> Verdict
     requires { ⌜ (length (now mesh) ≡ length (now marks) * 9)
         × Walkable (now starts) (now members) (length (now marks)) columns (p .x0) (p .x1) (p .y0) (p .y1)
         × Room stamp (judged (now marks) (record { count = 0; clear = true })) × (length (now boxes) ≡ length (now marks) * 5) ⌝ }
-    ensures { λ w. ⌜ judged (now (marks .exit)) w ≡ fold (strike stamp (toolBlocksAt (now (mesh .entry)) (now (boxes .entry)) m low (now (table .entry))))
+    ensures { λ w. ⌜ judged (now (marks .exit)) w ≡ fold (strike stamp (shapeBlocksAt (now (mesh .entry)) (now (boxes .entry)) m shape (now (table .entry))))
         (judged (now (marks .entry)) (record { count = 0; clear = true }))
         (block (now (starts .entry)) (now (members .entry)) columns (p .x0) (p .x1) (p .y0) (p .y1)) ⌝ }
 {
@@ -431,19 +384,19 @@ fn chase_tool(
         for x in x0..x1 {
             let part = walk::stretch(starts, members, y * columns + x);
             for j in 0..part.len() {
-                v = strike_tool(
+                v = strike_at(
                     mesh,
                     boxes,
                     marks,
                     stamp,
                     m,
-                    low,
+                    shape,
                     table,
                     v,
                     part[j] as usize,
                 );
                 if !v.clear {
-                    break 'rows;
+                    break 'rows; // out of all three rings
                 }
             }
         }

@@ -1,7 +1,10 @@
+use native.Mathlib.Omega.{arith}
 use borrow.Author.Needs.{needs}
 use mathlib.Core.Bool.{Bool, true}
 use Rattle.numbers.proofs.Branches.{bool-called}
 use Rattle.ask.proofs.Answers.{inside, ready, chord-refused, chord-early, chord-ruled}
+use Rattle.chords.specs.Chords.{bullBlocksAt}
+use Rattle.chords.specs.Inside.{shapeBlocks, shapeBlocksAt}
 use Rattle.chords.proofs.Asking.{ended-is, bull-answers}
 use Rattle.chords.proofs.bull_chord_clear.Statement.{statement}
 use Rattle.chords.proofs.bull_chord_clear.Tie as tie
@@ -22,19 +25,20 @@ returns-2 c =
     (ended-is _ _ _ _ (c .blocked .ensures)
     (chord-early _ _ _ _ _ _ _ (c .before .before .before .before .refusal .ensures .0) _ _ (c .before .before .before .if1 .left) (bool-called _ _ _ (c .before .before .blocked-at-once .ensures) (c .before .if2 .taken))))
 
-chase-requires : tie.Need-chase-bull-requires
+chase-requires : tie.Need-chase-requires
 chase-requires c κs =
-    ready _ _ _ _ _ _ _ (c .before .before .before .before .before .before .before .before .refusal .ensures .0) {A = Bool} _ _ true (c .before .before .before .before .before .before .before .if1 .left) (c .before .before .before .next-stamp .ensures .1) (inside _ _ _ _ _ _ _ (c .before .before .before .before .before .before .before .before .before .before .before .before .patch-of .ensures))
+    ready _ _ _ _ _ _ _ (c .before .before .before .before .before .before .before .before .before .refusal .ensures .0) {A = Bool} _ _ true (c .before .before .before .before .before .before .before .before .if1 .left) (c .before .before .before .before .next-stamp .ensures .1) (inside _ _ _ _ _ _ _ (c .before .before .before .before .before .before .before .before .before .before .before .before .before .patch-of .ensures))
 
 returns-3 : tie.Need-returns-3
+unfolding bullBlocksAt shapeBlocksAt shapeBlocks
 returns-3 c =
-    let d = c .before .before .before .before .before .before .before .before .before .before .before .before .before .before in
-    let n = c .before .before .before .before .before .before .before .next-stamp in
+    let d = c .before .before .before .before .before .before .before .before .before .before .before .before .before .before .before in
+    let n = c .before .before .before .before .before .before .before .before .next-stamp in
     bull-answers _ _ _ _ _ _ _ _ _ _ _ (d .before .before .patch-of .ensures) (d .before .is-ride .ensures) (d .is-corner .ensures)
-    (chord-ruled _ _ _ _ _ _ _ (c .before .before .before .before .before .before .before .before .before .before .before .before .refusal .ensures .0) _ _ _ _ _ _ _ (c .before .before .before .before .before .before .before .before .before .before .before .if1 .left) (bool-called _ _ _ (c .before .before .before .before .before .before .before .before .before .before .blocked-at-once .ensures) (c .before .before .before .before .before .before .before .before .before .if2 .left))
-    (n .ensures .0) (n .ensures .1) (c .before .before .before .chase-bull .ensures) (c .finding-of .ensures))
+    (chord-ruled _ _ _ _ _ _ _ (c .before .before .before .before .before .before .before .before .before .before .before .before .before .refusal .ensures .0) _ _ _ _ _ _ _ (c .before .before .before .before .before .before .before .before .before .before .before .before .if1 .left) (bool-called _ _ _ (c .before .before .before .before .before .before .before .before .before .before .before .blocked-at-once .ensures) (c .before .before .before .before .before .before .before .before .before .before .if2 .left))
+    (n .ensures .0) (n .ensures .1) (c .before .before .before .chase .ensures) (c .finding-of .ensures))
 
 pub bull-chord-clear-spec : {M : Type 1} → statement M
 bull-chord-clear-spec =
     tie.close
-    (tie.spec (λ c κs. tt) (λ c κs. tt) (λ c κs. tt) refusal-requires (λ c κs. tt) (λ c. search needs) returns (λ c κs. tt) (λ c κs. tt) (λ c. search needs) returns-2 (λ c κs. tt) chase-requires (λ c κs. tt) (λ c. search needs) returns-3)
+    (tie.spec (λ c κs. tt) (λ c κs. tt) (λ c κs. tt) refusal-requires (λ c κs. tt) (λ c. search needs) returns (λ c κs. tt) (λ c κs. tt) (λ c. search needs) returns-2 (λ c κs. tt) (λ c. omega arith) (λ c. omega arith) (λ c. omega arith) chase-requires (λ c κs. tt) (λ c. search needs) returns-3)

@@ -1,4 +1,4 @@
--- `chords::chase_tool` meets its contract: what is left of a ring, walked from here, gives what the whole ring gave from its start; once a triangle blocks,
+-- `chords::chase` meets its contract: what is left of a ring, walked from here, gives what the whole ring gave from its start; once a triangle blocks,
 -- nothing that is left changes anything.
 use Prim.Native.Nat.{_+_, _-_, _*_, _≤_}
 use mathlib.Core.Bool.{true}
@@ -11,31 +11,31 @@ use lib.ListN.{length, getD, drop}
 use Rattle.walk.specs.Walk.{over, cell, row, block, fold}
 use Rattle.walk.specs.Inside.{judged, strike, Below}
 use Rattle.walk.proofs.Rings.{Going, going-starts, member-turns, members-end, ring-turns, ring-ends, member-blocks, ring-blocks, kept-trans, kept-room, strike-keeps}
-use Rattle.chords.specs.Chords.{toolBlocksAt}
+use Rattle.chords.specs.Inside.{shapeBlocksAt}
 use Rattle.chords.proofs.Asking.{struck-keeps}
-use Rattle.chords.proofs.chase_tool.Statement.{statement}
-use Rattle.chords.proofs.chase_tool.Tie as tie
+use Rattle.chords.proofs.chase.Statement.{statement}
+use Rattle.chords.proofs.chase.Tie as tie
 
 abbrev Inv-loop2 : tie.InvT-loop2
-Inv-loop2 mesh starts members boxes marks₀ stamp columns m low table x0 x1 y0 y1 v₀ y x part j₀ j-end marks v j =
-    Going stamp (strike stamp (toolBlocksAt mesh boxes m low table)) (judged marks₀ v₀) part (judged marks v) (drop j part) × (j-end ≡ length part) × (j ≤ j-end) × (v .clear ≡ true)
+Inv-loop2 mesh starts members boxes marks₀ stamp columns m shape table x0 x1 y0 y1 v₀ y x part j₀ j-end marks v j =
+    Going stamp (strike stamp (shapeBlocksAt mesh boxes m shape table)) (judged marks₀ v₀) part (judged marks v) (drop j part) × (j-end ≡ length part) × (j ≤ j-end) × (v .clear ≡ true)
 
 abbrev μ-loop2 : tie.MeasureT-loop2
-μ-loop2 mesh starts members boxes marks₀ stamp columns m low table x0 x1 y0 y1 v₀ y x part j₀ j-end marks v j = j-end - j
+μ-loop2 mesh starts members boxes marks₀ stamp columns m shape table x0 x1 y0 y1 v₀ y x part j₀ j-end marks v j = j-end - j
 
 abbrev Inv-loop : tie.InvT-loop
-Inv-loop mesh starts members boxes marks₀ stamp columns m low table x0 x1 y0 y1 v₀ y x₀ marks v x =
-    Going stamp (strike stamp (toolBlocksAt mesh boxes m low table)) (judged marks₀ v₀) (row starts members columns x0 x1 y) (judged marks v) (over (λ k. cell starts members (y * columns + k)) x (x1 - x)) × (x0 ≤ x) × (v .clear ≡ true)
+Inv-loop mesh starts members boxes marks₀ stamp columns m shape table x0 x1 y0 y1 v₀ y x₀ marks v x =
+    Going stamp (strike stamp (shapeBlocksAt mesh boxes m shape table)) (judged marks₀ v₀) (row starts members columns x0 x1 y) (judged marks v) (over (λ k. cell starts members (y * columns + k)) x (x1 - x)) × (x0 ≤ x) × (v .clear ≡ true)
 
 abbrev μ-loop : tie.MeasureT-loop
-μ-loop mesh starts members boxes marks₀ stamp columns m low table x0 x1 y0 y1 v₀ y x₀ marks v x = x1 - x
+μ-loop mesh starts members boxes marks₀ stamp columns m shape table x0 x1 y0 y1 v₀ y x₀ marks v x = x1 - x
 
 abbrev Inv-rows : tie.InvT-rows
-Inv-rows mesh starts members boxes marks₀ stamp columns m low table x0 x1 y0 y1 v₀ y₀ marks v y =
-    Going stamp (strike stamp (toolBlocksAt mesh boxes m low table)) (judged marks₀ v₀) (block starts members columns x0 x1 y0 y1) (judged marks v) (block starts members columns x0 x1 y y1) × (y0 ≤ y) × (v .clear ≡ true)
+Inv-rows mesh starts members boxes marks₀ stamp columns m shape table x0 x1 y0 y1 v₀ y₀ marks v y =
+    Going stamp (strike stamp (shapeBlocksAt mesh boxes m shape table)) (judged marks₀ v₀) (block starts members columns x0 x1 y0 y1) (judged marks v) (block starts members columns x0 x1 y y1) × (y0 ≤ y) × (v .clear ≡ true)
 
 abbrev μ-rows : tie.MeasureT-rows
-μ-rows mesh starts members boxes marks₀ stamp columns m low table x0 x1 y0 y1 v₀ y₀ marks v y = y1 - y
+μ-rows mesh starts members boxes marks₀ stamp columns m shape table x0 x1 y0 y1 v₀ y₀ marks v y = y1 - y
 
 rows-holds : tie.Need-rows-holds Inv-loop2 μ-loop2 Inv-loop μ-loop Inv-rows μ-rows
 rows-holds c = (going-starts, omega arith, refl)
@@ -66,10 +66,10 @@ member-below c =
 loop2-holds : tie.Need-loop2-holds Inv-loop2 μ-loop2 Inv-loop μ-loop Inv-rows μ-rows
 loop2-holds c = (going-starts, search needs, search needs, c .before .before .loop .inv .2)
 
-cast-strike : tie.Need-cast-strike-tool Inv-loop2 μ-loop2 Inv-loop μ-loop Inv-rows μ-rows
+cast-strike : tie.Need-cast-strike-at Inv-loop2 μ-loop2 Inv-loop μ-loop Inv-rows μ-rows
 cast-strike c = omega (arith, c .shared-slice-known6 .given (c .before .before .before .loop2 .j))
 
-strike-requires : tie.Need-strike-tool-requires Inv-loop2 μ-loop2 Inv-loop μ-loop Inv-rows μ-rows
+strike-requires : tie.Need-strike-at-requires Inv-loop2 μ-loop2 Inv-loop μ-loop Inv-rows μ-rows
 strike-requires c κs =
     let l = c .before .before .before .loop2 in
     let i = c .before .before .before .before .before .before in
@@ -85,7 +85,7 @@ strike-requires c κs =
 loop2-again : tie.Need-loop2-again Inv-loop2 μ-loop2 Inv-loop μ-loop Inv-rows μ-rows
 loop2-again c =
     let l = c .before .before .before .before .before .before .before .before .loop2 in
-    let r = c .before .before .before .before .strike-tool in
+    let r = c .before .before .before .before .strike-at in
     let a = strike-requires (c .before .before .before .before .before) (r .lifetimes) in
     (member-turns (l .j) (omega arith) (strike-keeps _ _ _ _ (a .1)) (l .inv .0) (r .ensures), search needs, search needs, not-false _ (c .if1 .left))
 
@@ -115,7 +115,7 @@ returns c = ring-ends _ (c .before .rows .y) _ (omega arith) (c .before .rows .i
 same-length-2 : tie.Need-same-length-2 Inv-loop2 μ-loop2 Inv-loop μ-loop Inv-rows μ-rows
 same-length-2 c =
     let l = c .before .before .before .before .before .before .before .before .loop2 in
-    let r = c .before .before .before .before .strike-tool in
+    let r = c .before .before .before .before .strike-at in
     let a = strike-requires (c .before .before .before .before .before) (r .lifetimes) in
     let i = c .before .before .before .before .before .before .before .before .before .before .before in
     struck-keeps _ _ _ _ _ (a .1) (r .ensures) .size ∙ l .inv .0 .kept .size ∙ i .loop .inv .0 .kept .size ∙ i .before .before .rows .inv .0 .kept .size
@@ -125,12 +125,12 @@ returns-2 c =
     let l = c .before .before .before .before .before .before .before .before .loop2 in
     let i = c .before .before .before .before .before .before .before .before .before .before in
     let n = not-true _ (c .if1 .taken) in
-    let e = member-blocks _ (l .j) (omega arith) (l .inv .0) (c .before .before .before .before .strike-tool .ensures) n in
+    let e = member-blocks _ (l .j) (omega arith) (l .inv .0) (c .before .before .before .before .strike-at .ensures) n in
     let f = ring-blocks _ _ (i .before .loop .x) _ (i .loop-test .taken) (i .before .loop .inv .0) (e ∙ ap (fold _ _) (c .before .before .before .before .before .before .before .before .before .stretch .ensures)) n in
     ring-blocks _ _ (i .before .before .before .rows .y) _ (i .before .before .rows-test .taken) (i .before .before .before .rows .inv .0) f n
 
-pub chase-tool-spec : {M : Type 1} → statement M
-chase-tool-spec =
+pub chase-spec : {M : Type 1} → statement M
+chase-spec =
     tie.close
     (tie.spec Inv-loop2 μ-loop2 Inv-loop μ-loop Inv-rows μ-rows rows-holds loop-holds
     (λ c. record { fits = omega (arith, cell-fits c, c .before .before .before .before .before .before .before .before .before .before) })
