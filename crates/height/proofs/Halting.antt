@@ -36,28 +36,12 @@ module _ {stamp : ℕ} {s : Walk Best → ℕ → Walk Best} {w₀ : Walk Best} 
         kept = kept-trans (g .kept) k;
       }
 
-  -- a row that is gone over
-  pub gone-over : (f : ℕ → List ℕ) (a b : ℕ) {w : Walk Best} → b ≤ a → Gone stamp s w₀ all w (over f a (b - a)) → Gone stamp s w₀ all w []
-  unfolding over
-  gone-over f a b h g =
-      let n : b - a ≡ 0 = omega arith in record { front = g .front; whole = rw n at (g .whole); walk = g .walk; kept = g .kept }
-
-  -- a part of a row, with the rows behind it
-  pub gone-inside : (f : ℕ → List ℕ) (a b : ℕ) {w w′ : Walk Best} {rest : List ℕ} → a < b → Gone stamp s w₀ all w (over f a (b - a)) → Gone stamp s w (f a) w′ rest → Gone stamp s w₀ all w′ (rest ++ over f (a + 1) (b - (a + 1)))
-  unfolding over
-  gone-inside f a b {w} {w′} {rest} h g i =
-      let n : b - a ≡ suc (b - (a + 1)) = omega arith in
-      let later = over f (a + 1) (b - (a + 1)) in
-      record {
-        front = g .front ++ i .front;
-        whole = (rw n at (g .whole)) ∙ (ap (λ ms. g .front ++ (ms ++ later)) (i .whole) ∙ (ap (λ ms. g .front ++ ms) (append-assoc (i .front) rest later) ∙ sym (append-assoc (g .front) (i .front) (rest ++ later))));
-        walk = i .walk ∙ (ap (λ (u : Walk Best). fold s u (i .front)) (g .walk) ∙ sym (fold-append s (g .front) (i .front) w₀));
-        kept = kept-trans (g .kept) (i .kept);
-      }
-
   -- the end, and a best above the limit
   pub gone-ends : (f : ℕ → List ℕ) (a b : ℕ) (limit : Float) {w : Walk Best} → b ≤ a → Gone stamp s w₀ all w (over f a (b - a)) → Halted (fold s w₀) all limit w
-  gone-ends f a b limit h g = let d = gone-over f a b h g in record { front = d .front; rest = []; whole = d .whole; walk = d .walk; why = inl refl }
+  unfolding over
+  gone-ends f a b limit h g =
+      let n : b - a ≡ 0 = omega arith in
+      record { front = g .front; rest = []; whole = rw n at (g .whole); walk = g .walk; why = inl refl }
 
   pub gone-halts : (limit : Float) (rest : List ℕ) {w : Walk Best} → lt limit (w .value .height) ≡ true → Gone stamp s w₀ all w rest → Halted (fold s w₀) all limit w
   gone-halts limit rest h g = record { front = g .front; rest = rest; whole = g .whole; walk = g .walk; why = inr h }

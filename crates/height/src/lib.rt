@@ -338,7 +338,7 @@ fn is_above(s: Seen, limit: f64) -> bool
     best.height > limit
 }
 
-// The walk over the cells of a patch: rows, then columns, then the numbers of each cell. No cell is begun with a best above the limit.
+// The walk over the cells of a patch: rows, then columns, then the numbers of each cell. No row is begun with a best above the limit.
 fn visit(
     mesh: &[f64],
     starts: &[u32],
@@ -364,10 +364,10 @@ fn visit(
     let y1 = p.y1;
     let mut found = s;
     for y in y0..y1 {
+        if is_above(found, limit) {
+            return found;
+        }
         for x in x0..x1 {
-            if is_above(found, limit) {
-                return found;
-            }
             let part = walk::stretch(starts, members, y * columns + x);
             found = visit_cell(mesh, boxes, part, marks, stamp, q, found);
         }
