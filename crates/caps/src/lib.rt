@@ -69,30 +69,16 @@ pub fn tame_on(e: Edge, x: f64, y: f64, lo: f64, hi: f64) -> bool
     let by = e.by;
     let az = e.az;
     let bz = e.bz;
-    if in_order(lo, hi) {
-        if side_tame(e.ax, e.bx, x, lo, hi) {
-            if side_tame(ay, by, y, lo, hi) {
-                side_tame(az, bz, 0.0, lo, hi)
-            } else {
-                false
-            }
-        } else {
-            false
-        }
-    } else {
-        false
-    }
+    in_order(lo, hi)
+        && (side_tame(e.ax, e.bx, x, lo, hi)
+            && (side_tame(ay, by, y, lo, hi) && side_tame(az, bz, 0.0, lo, hi)))
 }
 
 // Whether 0 <= lo <= hi <= 1.
 pub fn in_order(lo: f64, hi: f64) -> bool
     ensures { λ r. ⌜ r ≡ inOrder lo hi ⌝ }
 {
-    if 0.0 <= lo {
-        if lo <= hi { hi <= 1.0 } else { false }
-    } else {
-        false
-    }
+    0.0 <= lo && (lo <= hi && hi <= 1.0)
 }
 
 // Whether one coordinate is of ordinary size at lo and hi, seen from x.
@@ -101,11 +87,7 @@ fn side_tame(a: f64, b: f64, x: f64, lo: f64, hi: f64) -> bool
 {
     let p = a + lo * (b - a) - x;
     let q = a + hi * (b - a) - x;
-    if spans::is_coordinate(p) {
-        spans::is_coordinate(q)
-    } else {
-        false
-    }
+    spans::is_coordinate(p) && spans::is_coordinate(q)
 }
 
 // Whether an edge's heights, its rise and its length are of ordinary size.
@@ -117,47 +99,20 @@ pub fn tame_rise(e: Edge) -> bool
     let ez = e.bz - e.az;
     let p = e.az + 0.0 * ez;
     let q = e.az + 1.0 * ez;
-    if spans::is_coordinate(p) {
-        if spans::is_coordinate(q) {
-            if spans::is_coordinate(ez) {
-                ex * ex + ey * ey <= SQUARE_22
-            } else {
-                false
-            }
-        } else {
-            false
-        }
-    } else {
-        false
-    }
+    spans::is_coordinate(p)
+        && (spans::is_coordinate(q) && (spans::is_coordinate(ez) && ex * ex + ey * ey <= SQUARE_22))
 }
 
 // Whether two points lie in a bracket.
 pub fn bracketed(a: f64, b: f64, x1: f64, x2: f64) -> bool
     ensures { λ r. ⌜ (r ≡ true → Inner a b x1 x2) ⌝ }
 {
-    if a <= x1 {
-        if x1 <= b {
-            if a <= x2 { x2 <= b } else { false }
-        } else {
-            false
-        }
-    } else {
-        false
-    }
+    a <= x1 && (x1 <= b && (a <= x2 && x2 <= b))
 }
 
 // Whether a search that stands at g before step n is looked at, to be given up there: before every fourth of its first 24 steps.
 pub fn looks(g: Golden, n: usize) -> bool
     ensures { λ r. ⌜ (r ≡ true → InnerOf g) ⌝ }
 {
-    if n % 4 == 3 {
-        if n < 24 {
-            bracketed(g.a, g.b, g.x1, g.x2)
-        } else {
-            false
-        }
-    } else {
-        false
-    }
+    n % 4 == 3 && (n < 24 && bracketed(g.a, g.b, g.x1, g.x2))
 }

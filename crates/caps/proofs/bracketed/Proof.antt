@@ -1,4 +1,4 @@
-use mathlib.Core.Path.{_≡_, sym, subst}
+use mathlib.Core.Path.{_≡_, sym, subst, _∙_}
 use lib.Dec.{T}
 use Rattle.numbers.proofs.Branches.{no}
 use Rattle.caps.proofs.bracketed.Statement.{statement}
@@ -19,13 +19,13 @@ returns c =
     }
 
 returns-2 : tie.Need-returns-2
-returns-2 c = λ e. absurd (no e)
+returns-2 c = λ e. absurd (no (sym (c .if3 .left) ∙ e))
 
 returns-3 : tie.Need-returns-3
-returns-3 c = λ e. absurd (no e)
+returns-3 c = λ e. absurd (no (sym (c .if2 .left) ∙ e))
 
 returns-4 : tie.Need-returns-4
-returns-4 c = λ e. absurd (no e)
+returns-4 c = λ e. absurd (no (sym (c .if1 .left) ∙ e))
 
 pub bracketed-spec : {M : Type 1} → statement M
 bracketed-spec = tie.close (tie.spec returns returns-2 returns-3 returns-4)

@@ -1,4 +1,4 @@
-use mathlib.Core.Path.{_≡_, refl, ap, sym, _∙_}
+use mathlib.Core.Path.{_≡_, ap, sym, _∙_}
 use Rattle.numbers.proofs.Branches.{and-on, and-off, bool-called}
 use Rattle.caps.specs.Inside.{sideTame}
 use Rattle.caps.proofs.side_tame.Statement.{statement}
@@ -10,7 +10,7 @@ returns c = and-on _ _ _ (bool-called _ _ _ (c .before .before .is-coordinate .e
 
 returns-2 : tie.Need-returns-2
 unfolding sideTame
-returns-2 c = and-off _ _ _ (bool-called _ _ _ (c .before .is-coordinate .ensures) (c .if1 .left)) refl
+returns-2 c = and-off _ _ _ (bool-called _ _ _ (c .before .is-coordinate .ensures) (c .if1 .left)) (c .if1 .left)
 
 pub side-tame-spec : {M : Type 1} → statement M
 side-tame-spec = tie.close (tie.spec (λ c κs. tt) (λ c κs. tt) returns returns-2)
