@@ -23,15 +23,7 @@ pub fn base_of(k: Bull) -> f64
 pub fn low_vertex(base: f64, z: f64, dx: f64, dy: f64, b: f64) -> bool
     ensures { λ r. ⌜ r ≡ lowVertex base z dx dy b ⌝ }
 {
-    if z - base <= b {
-        if spans::is_coordinate(dx) {
-            spans::is_coordinate(dy)
-        } else {
-            false
-        }
-    } else {
-        false
-    }
+    z - base <= b && (spans::is_coordinate(dx) && spans::is_coordinate(dy))
 }
 
 // What the tip's height over an edge from lo to hi is at most.
