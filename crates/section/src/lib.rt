@@ -55,22 +55,14 @@ pub fn valid(s: Section) -> bool
 fn positive(r1: f64, rise: f64) -> bool
     ensures { λ b. ⌜ b ≡ positiveReach r1 rise ⌝ }
 {
-    if 0.0 < r1 {
-        if r1 <= 1e6 {
-            within_range(rise, 1e9)
-        } else {
-            false
-        }
-    } else {
-        false
-    }
+    0.0 < r1 && (r1 <= 1e6 && within_range(rise, 1e9))
 }
 
 // Whether x is from 0 to `high`.
 fn within_range(x: f64, high: f64) -> bool
     ensures { λ b. ⌜ b ≡ within x high ⌝ }
 {
-    if 0.0 <= x { x <= high } else { false }
+    0.0 <= x && x <= high
 }
 
 // The tip's height where the section, its axis at (x, y), rests on the triangle: an upper bound.
