@@ -484,11 +484,7 @@ fn offer_at(k: Capsule, best: Best, e: Edge, t: f64) -> Best
 fn on_edge(t: f64) -> bool
     ensures { λ b. ⌜ b ≡ onEdge t ⌝ }
 {
-    if t >= MINUS_SLACK {
-        t <= PAST_ONE
-    } else {
-        false
-    }
+    t >= MINUS_SLACK && t <= PAST_ONE
 }
 
 // What was found, and the inner points of a triangle that does not stand upright.
