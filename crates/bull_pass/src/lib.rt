@@ -62,26 +62,14 @@ pub struct Products {
 pub fn passes(t: Triangle, m: Chord, r: f64, rc: f64, lo: f64, hi: f64) -> bool
     ensures { λ b. ⌜ b ≡ passesOf t m r rc lo hi ⌝ }
 {
-    if fair(m, r, rc, lo, hi) {
-        over_all(strip_of(m, r, rc, lo, hi), t)
-    } else {
-        false
-    }
+    fair(m, r, rc, lo, hi) && over_all(strip_of(m, r, rc, lo, hi), t)
 }
 
 // The corners, the facet, the edges.
 fn over_all(k: Strip, t: Triangle) -> bool
     ensures { λ b. ⌜ b ≡ (cornersPass k t && (facetPasses k t (facingOf t) && edgesPass k t)) ⌝ }
 {
-    if corners_pass(k, t) {
-        if facet_passes(k, t, touch::facing_of(t)) {
-            edges_pass(k, t)
-        } else {
-            false
-        }
-    } else {
-        false
-    }
+    corners_pass(k, t) && (facet_passes(k, t, touch::facing_of(t)) && edges_pass(k, t))
 }
 
 // The box of the chord from lo to hi.
@@ -114,56 +102,29 @@ fn fair(m: Chord, r: f64, rc: f64, lo: f64, hi: f64) -> bool
     let ay = m.ay;
     let bx = m.bx;
     let by = m.by;
-    if cutter_fair(r, rc) {
-        if axis_fair(ax, bx, lo, hi) {
-            if axis_fair(ay, by, lo, hi) {
-                height_fair(m, lo, hi)
-            } else {
-                false
-            }
-        } else {
-            false
-        }
-    } else {
-        false
-    }
+    cutter_fair(r, rc)
+        && (axis_fair(ax, bx, lo, hi) && (axis_fair(ay, by, lo, hi) && height_fair(m, lo, hi)))
 }
 
 // The same of the chord's heights.
 fn height_fair(m: Chord, lo: f64, hi: f64) -> bool
     ensures { λ b. ⌜ b ≡ (axisFair (m .az) (m .bz) lo hi && tipFair m lo hi) ⌝ }
 {
-    if axis_fair(m.az, m.bz, lo, hi) {
-        tip_fair(m, lo, hi)
-    } else {
-        false
-    }
+    axis_fair(m.az, m.bz, lo, hi) && tip_fair(m, lo, hi)
 }
 
 // Radii, and a corner whose square's root is not above it.
 fn cutter_fair(r: f64, rc: f64) -> bool
     ensures { λ b. ⌜ b ≡ cutterFair r rc ⌝ }
 {
-    if spans::is_radius(r) {
-        if spans::is_radius(rc) {
-            numbers::root(rc * rc) <= rc
-        } else {
-            false
-        }
-    } else {
-        false
-    }
+    spans::is_radius(r) && (spans::is_radius(rc) && numbers::root(rc * rc) <= rc)
 }
 
 // Two coordinates.
 fn axis_fair(a: f64, b: f64, lo: f64, hi: f64) -> bool
     ensures { λ f. ⌜ f ≡ axisFair a b lo hi ⌝ }
 {
-    if spans::is_coordinate(a + lo * (b - a)) {
-        spans::is_coordinate(a + hi * (b - a))
-    } else {
-        false
-    }
+    spans::is_coordinate(a + lo * (b - a)) && spans::is_coordinate(a + hi * (b - a))
 }
 
 // Whether the lower tip less the lift, lifted, is not above the lower tip.
@@ -179,37 +140,21 @@ fn tip_fair(m: Chord, lo: f64, hi: f64) -> bool
 fn tip_kept(low: f64, lift: f64) -> bool
     ensures { λ b. ⌜ b ≡ tipKept low lift ⌝ }
 {
-    if spans::is_coordinate(lift) {
-        if spans::is_coordinate(low - lift) {
-            tip_back(low, lift)
-        } else {
-            false
-        }
-    } else {
-        false
-    }
+    spans::is_coordinate(lift) && (spans::is_coordinate(low - lift) && tip_back(low, lift))
 }
 
 fn tip_back(low: f64, lift: f64) -> bool
     ensures { λ b. ⌜ b ≡ (isCoordinate (low ⊖ lift ⊕ lift) && le (low ⊖ lift ⊕ lift ⊖ low) f0) ⌝ }
 {
     let back = low - lift + lift;
-    if spans::is_coordinate(back) {
-        back - low <= 0.0
-    } else {
-        false
-    }
+    spans::is_coordinate(back) && back - low <= 0.0
 }
 
 // Whether a side of a block lies a coordinate from the strip's.
 fn side_tame(low: f64, high: f64, a: f64, b: f64) -> bool
     ensures { λ f. ⌜ f ≡ sideTame low high a b ⌝ }
 {
-    if spans::is_coordinate(low - b) {
-        spans::is_coordinate(high - a)
-    } else {
-        false
-    }
+    spans::is_coordinate(low - b) && spans::is_coordinate(high - a)
 }
 
 fn tame(k: Strip, b: Block) -> bool
@@ -220,15 +165,8 @@ fn tame(k: Strip, b: Block) -> bool
     let high = b.high_y;
     let first = k.low_y;
     let last = k.high_y;
-    if side_tame(b.low_x, b.high_x, k.low_x, k.high_x) {
-        if side_tame(low, high, first, last) {
-            spans::is_coordinate(z)
-        } else {
-            false
-        }
-    } else {
-        false
-    }
+    side_tame(b.low_x, b.high_x, k.low_x, k.high_x)
+        && (side_tame(low, high, first, last) && spans::is_coordinate(z))
 }
 
 // The least distance of a block from the strip.
@@ -305,26 +243,15 @@ fn edge_block(e: Edge, lo: f64, hi: f64) -> Block
 fn corners_pass(k: Strip, t: Triangle) -> bool
     ensures { λ b. ⌜ b ≡ cornersPass k t ⌝ }
 {
-    if under(k, point_block(t.ax, t.ay, t.az)) {
-        if under(k, point_block(t.bx, t.by, t.bz)) {
-            under(k, point_block(t.cx, t.cy, t.cz))
-        } else {
-            false
-        }
-    } else {
-        false
-    }
+    under(k, point_block(t.ax, t.ay, t.az))
+        && (under(k, point_block(t.bx, t.by, t.bz)) && under(k, point_block(t.cx, t.cy, t.cz)))
 }
 
 // Whether nothing of an edge from lo to hi gives a tip above the strip's height.
 fn piece_under(k: Strip, e: Edge, lo: f64, hi: f64) -> bool
     ensures { λ b. ⌜ b ≡ pieceUnder k e lo hi ⌝ }
 {
-    if edge_fair(e, lo, hi) {
-        under(k, edge_block(e, lo, hi))
-    } else {
-        false
-    }
+    edge_fair(e, lo, hi) && under(k, edge_block(e, lo, hi))
 }
 
 fn edge_fair(e: Edge, lo: f64, hi: f64) -> bool
@@ -334,15 +261,7 @@ fn edge_fair(e: Edge, lo: f64, hi: f64) -> bool
     let by = e.by;
     let az = e.az;
     let bz = e.bz;
-    if axis_fair(e.ax, e.bx, lo, hi) {
-        if axis_fair(ay, by, lo, hi) {
-            axis_fair(az, bz, lo, hi)
-        } else {
-            false
-        }
-    } else {
-        false
-    }
+    axis_fair(e.ax, e.bx, lo, hi) && (axis_fair(ay, by, lo, hi) && axis_fair(az, bz, lo, hi))
 }
 
 // One block more.
@@ -388,15 +307,8 @@ fn edge_passes(k: Strip, e: Edge) -> bool
 fn edges_pass(k: Strip, t: Triangle) -> bool
     ensures { λ b. ⌜ b ≡ edgesPass k t ⌝ }
 {
-    if edge_passes(k, touch::edge_ab(t)) {
-        if edge_passes(k, touch::edge_bc(t)) {
-            edge_passes(k, touch::edge_ca(t))
-        } else {
-            false
-        }
-    } else {
-        false
-    }
+    edge_passes(k, touch::edge_ab(t))
+        && (edge_passes(k, touch::edge_bc(t)) && edge_passes(k, touch::edge_ca(t)))
 }
 
 // The numbers between two.
@@ -429,30 +341,15 @@ fn plain_products(p: Products) -> bool
     let b = p.b;
     let c = p.c;
     let d = p.d;
-    if spans::is_coordinate(p.a) {
-        if spans::is_coordinate(b) {
-            if spans::is_coordinate(c) {
-                spans::is_coordinate(d)
-            } else {
-                false
-            }
-        } else {
-            false
-        }
-    } else {
-        false
-    }
+    spans::is_coordinate(p.a)
+        && (spans::is_coordinate(b) && (spans::is_coordinate(c) && spans::is_coordinate(d)))
 }
 
 fn plain(r: Range) -> bool
     ensures { λ b. ⌜ b ≡ plainRange r ⌝ }
 {
     let high = r.high;
-    if spans::is_coordinate(r.low) {
-        spans::is_coordinate(high)
-    } else {
-        false
-    }
+    spans::is_coordinate(r.low) && spans::is_coordinate(high)
 }
 
 const SLACK: f64 = -1e-12;
@@ -473,29 +370,13 @@ fn outside(v: Range, w: Range) -> bool
 fn ranges_miss(v: Range, w: Range) -> bool
     ensures { λ b. ⌜ b ≡ rangesMiss v w ⌝ }
 {
-    if plain(v) {
-        if plain(w) {
-            outside(span_of(v.low, v.high), span_of(w.low, w.high))
-        } else {
-            false
-        }
-    } else {
-        false
-    }
+    plain(v) && (plain(w) && outside(span_of(v.low, v.high), span_of(w.low, w.high)))
 }
 
 fn products_miss(v: Products, w: Products, det: f64) -> bool
     ensures { λ b. ⌜ b ≡ productsMiss v w det ⌝ }
 {
-    if plain_products(v) {
-        if plain_products(w) {
-            ranges_miss(weight(v, det), weight(w, det))
-        } else {
-            false
-        }
-    } else {
-        false
-    }
+    plain_products(v) && (plain_products(w) && ranges_miss(weight(v, det), weight(w, det)))
 }
 
 // Whether no place between p and q is on the triangle.
@@ -523,11 +404,7 @@ fn misses(t: Triangle, p: Rest, q: Rest) -> bool
         c: dx * by,
         d: gx * by,
     };
-    if spans::is_coordinate(det) {
-        products_miss(v, w, det)
-    } else {
-        false
-    }
+    spans::is_coordinate(det) && products_miss(v, w, det)
 }
 
 // Whether the cutter's places of rest miss the facet.

@@ -1,4 +1,4 @@
-use mathlib.Core.Path.{_≡_, refl, ap, sym, _∙_}
+use mathlib.Core.Path.{_≡_, ap, sym, _∙_}
 use Rattle.numbers.proofs.Branches.{and-on, and-off, bool-called}
 use Rattle.bull_pass.specs.Inside.{edgesPass, edgePasses}
 use Rattle.bull_pass.proofs.edges_pass.Statement.{statement}
@@ -10,11 +10,11 @@ returns c = and-on _ _ _ (bool-called _ _ _ (c .before .before .before .before .
 
 returns-2 : tie.Need-returns-2
 unfolding edgesPass
-returns-2 c = and-on _ _ _ (bool-called _ _ _ (c .before .before .before .before .edge-passes .ensures ∙ ap (edgePasses _) (c .before .before .before .before .before .edge-ab .ensures)) (c .before .before .before .if1 .taken)) (and-off _ _ _ (bool-called _ _ _ (c .before .edge-passes2 .ensures ∙ ap (edgePasses _) (c .before .before .edge-bc .ensures)) (c .if2 .left)) refl)
+returns-2 c = and-on _ _ _ (bool-called _ _ _ (c .before .before .before .before .edge-passes .ensures ∙ ap (edgePasses _) (c .before .before .before .before .before .edge-ab .ensures)) (c .before .before .before .if1 .taken)) (and-off _ _ _ (bool-called _ _ _ (c .before .edge-passes2 .ensures ∙ ap (edgePasses _) (c .before .before .edge-bc .ensures)) (c .if2 .left)) (c .if2 .left))
 
 returns-3 : tie.Need-returns-3
 unfolding edgesPass
-returns-3 c = and-off _ _ _ (bool-called _ _ _ (c .before .edge-passes .ensures ∙ ap (edgePasses _) (c .before .before .edge-ab .ensures)) (c .if1 .left)) refl
+returns-3 c = and-off _ _ _ (bool-called _ _ _ (c .before .edge-passes .ensures ∙ ap (edgePasses _) (c .before .before .edge-ab .ensures)) (c .if1 .left)) (c .if1 .left)
 
 pub edges-pass-spec : {M : Type 1} → statement M
 edges-pass-spec = tie.close (tie.spec (λ c κs. tt) (λ c κs. tt) (λ c κs. tt) (λ c κs. tt) (λ c κs. tt) (λ c κs. tt) returns returns-2 returns-3)

@@ -1,4 +1,4 @@
-use mathlib.Core.Path.{_≡_, refl, ap, sym, _∙_}
+use mathlib.Core.Path.{_≡_, ap, sym, _∙_}
 use Rattle.numbers.proofs.Branches.{and-on, and-off, bool-called}
 use Rattle.bull_pass.specs.Inside.{facetPasses}
 use Rattle.bull_pass.proofs.over_all.Statement.{statement}
@@ -8,10 +8,10 @@ returns : tie.Need-returns
 returns c = and-on _ _ _ (bool-called _ _ _ (c .before .before .before .before .before .corners-pass .ensures) (c .before .before .before .before .if1 .taken)) (and-on _ _ _ (bool-called _ _ _ (c .before .before .facet-passes .ensures ∙ ap (facetPasses _ _) (c .before .before .before .facing-of .ensures)) (c .before .if2 .taken)) (c .edges-pass .ensures))
 
 returns-2 : tie.Need-returns-2
-returns-2 c = and-on _ _ _ (bool-called _ _ _ (c .before .before .before .before .corners-pass .ensures) (c .before .before .before .if1 .taken)) (and-off _ _ _ (bool-called _ _ _ (c .before .facet-passes .ensures ∙ ap (facetPasses _ _) (c .before .before .facing-of .ensures)) (c .if2 .left)) refl)
+returns-2 c = and-on _ _ _ (bool-called _ _ _ (c .before .before .before .before .corners-pass .ensures) (c .before .before .before .if1 .taken)) (and-off _ _ _ (bool-called _ _ _ (c .before .facet-passes .ensures ∙ ap (facetPasses _ _) (c .before .before .facing-of .ensures)) (c .if2 .left)) (c .if2 .left))
 
 returns-3 : tie.Need-returns-3
-returns-3 c = and-off _ _ _ (bool-called _ _ _ (c .before .corners-pass .ensures) (c .if1 .left)) refl
+returns-3 c = and-off _ _ _ (bool-called _ _ _ (c .before .corners-pass .ensures) (c .if1 .left)) (c .if1 .left)
 
 pub over-all-spec : {M : Type 1} → statement M
 over-all-spec = tie.close (tie.spec (λ c κs. tt) (λ c κs. tt) (λ c κs. tt) (λ c κs. tt) returns returns-2 returns-3)

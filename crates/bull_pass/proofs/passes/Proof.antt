@@ -1,4 +1,4 @@
-use mathlib.Core.Path.{_≡_, refl, ap, sym, _∙_}
+use mathlib.Core.Path.{_≡_, ap, sym, _∙_}
 use Rattle.numbers.proofs.Branches.{and-on, and-off, bool-called}
 use Rattle.bull_pass.specs.Inside.{passesOf}
 use Rattle.bull_pass.proofs.passes.Statement.{statement}
@@ -10,7 +10,7 @@ returns c = and-on _ _ _ (bool-called _ _ _ (c .before .before .before .fair .en
 
 returns-2 : tie.Need-returns-2
 unfolding passesOf
-returns-2 c = and-off _ _ _ (bool-called _ _ _ (c .before .fair .ensures) (c .if1 .left)) refl
+returns-2 c = and-off _ _ _ (bool-called _ _ _ (c .before .fair .ensures) (c .if1 .left)) (c .if1 .left)
 
 pub passes-spec : {M : Type 1} → statement M
 passes-spec = tie.close (tie.spec (λ c κs. tt) (λ c κs. tt) (λ c κs. tt) returns returns-2)
