@@ -58,11 +58,7 @@ fn stands(t: Triangle, m: Chord, r: f64, rc: f64, lo: f64, hi: f64) -> bool
 fn passes_between(t: Triangle, m: Chord, r: f64, rc: f64, lo: f64, hi: f64) -> bool
     ensures { λ b. ⌜ b ≡ (inOrder lo hi && passesOf t m r rc lo hi) ⌝ }
 {
-    if caps::in_order(lo, hi) {
-        bull_pass::passes(t, m, r, rc, lo, hi)
-    } else {
-        false
-    }
+    caps::in_order(lo, hi) && bull_pass::passes(t, m, r, rc, lo, hi)
 }
 
 // The same by a search, the gaps at both places being low and high. It breaks off where the cutter surely passes in the bracket that it has come to,
@@ -87,15 +83,7 @@ fn settled(t: Triangle, m: Chord, r: f64, rc: f64, g: Golden, n: usize) -> bool
 {
     let a = g.a;
     let b = g.b;
-    if n % 4 == 3 {
-        if caps::bracketed(a, b, g.x1, g.x2) {
-            passes_between(t, m, r, rc, a, b)
-        } else {
-            false
-        }
-    } else {
-        false
-    }
+    n % 4 == 3 && (caps::bracketed(a, b, g.x1, g.x2) && passes_between(t, m, r, rc, a, b))
 }
 
 // The search's first bracket.
