@@ -23,15 +23,8 @@ pub fn in_ranges(h: Header) -> bool
     let floor = h.floor;
     let eps = h.eps;
     let r = h.r;
-    if is_from(1, 65536, n) {
-        if places_in_ranges(x, y, floor) {
-            sizes_in_ranges(cell, columns, rows, eps, r)
-        } else {
-            false
-        }
-    } else {
-        false
-    }
+    is_from(1, 65536, n)
+        && (places_in_ranges(x, y, floor) && sizes_in_ranges(cell, columns, rows, eps, r))
 }
 
 // Whether the header is in its ranges, its n is the mesh's, and starts has an entry for each cell and one more.
@@ -41,87 +34,47 @@ pub fn head_usable(mesh: &[f64], h: Header, starts: &[u32]) -> bool
     let n = h.n;
     let columns = h.columns;
     let rows = h.rows;
-    if in_ranges(h) {
-        if mesh.len() == n * 9 {
-            rows * columns + 1 <= starts.len()
-        } else {
-            false
-        }
-    } else {
-        false
-    }
+    in_ranges(h) && (mesh.len() == n * 9 && rows * columns + 1 <= starts.len())
 }
 
 // Whether k is one of the numbers from a to e.
 pub fn is_from(a: usize, e: usize, k: usize) -> bool
     ensures { λ r. ⌜ r ≡ isFrom a e k ⌝ }
 {
-    if a <= k { k <= e } else { false }
+    a <= k && k <= e
 }
 
 // Whether an origin and a floor are in their ranges.
 fn places_in_ranges(x: f64, y: f64, floor: f64) -> bool
     ensures { λ r. ⌜ r ≡ (isCoordinate x && (isCoordinate y && isCoordinate floor)) ⌝ }
 {
-    if spans::is_coordinate(x) {
-        if spans::is_coordinate(y) {
-            spans::is_coordinate(floor)
-        } else {
-            false
-        }
-    } else {
-        false
-    }
+    spans::is_coordinate(x) && (spans::is_coordinate(y) && spans::is_coordinate(floor))
 }
 
 // Whether a grid has at least one cell, and columns, rows and cells are within refusal 5.
 fn counts_in_ranges(columns: usize, rows: usize) -> bool
     ensures { λ r. ⌜ r ≡ (isFrom 1 65536 columns && (isFrom 1 65536 rows && isFrom 1 1048576 (rows * columns))) ⌝ }
 {
-    if is_from(1, 65536, columns) {
-        if is_from(1, 65536, rows) {
-            is_from(1, 1048576, rows * columns)
-        } else {
-            false
-        }
-    } else {
-        false
-    }
+    is_from(1, 65536, columns) && (is_from(1, 65536, rows) && is_from(1, 1048576, rows * columns))
 }
 
 // Whether a cell size is in its range.
 fn size_in_range(cell: f64) -> bool
     ensures { λ r. ⌜ r ≡ (le millionth cell && le cell twoMillion) ⌝ }
 {
-    if 1e-6 <= cell { cell <= 2e6 } else { false }
+    1e-6 <= cell && cell <= 2e6
 }
 
 // Whether eps and r are.
 fn eps_in_range(eps: f64, r: f64) -> bool
     ensures { λ a. ⌜ a ≡ ((lt f0 eps && le eps twoMillionths) && isRadius r) ⌝ }
 {
-    if 0.0 < eps {
-        if eps <= 2e-6 {
-            spans::is_radius(r)
-        } else {
-            false
-        }
-    } else {
-        false
-    }
+    0.0 < eps && (eps <= 2e-6 && spans::is_radius(r))
 }
 
 // Whether cell size, columns, rows, eps and r are.
 fn sizes_in_ranges(cell: f64, columns: usize, rows: usize, eps: f64, r: f64) -> bool
     ensures { λ a. ⌜ a ≡ sizesInRanges cell columns rows eps r ⌝ }
 {
-    if size_in_range(cell) {
-        if counts_in_ranges(columns, rows) {
-            eps_in_range(eps, r)
-        } else {
-            false
-        }
-    } else {
-        false
-    }
+    size_in_range(cell) && (counts_in_ranges(columns, rows) && eps_in_range(eps, r))
 }
