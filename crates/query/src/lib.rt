@@ -32,11 +32,7 @@ pub fn is_marked(mesh: &[f64], marks: &[u32]) -> bool
     ensures { λ r. ⌜ r ≡ isMarked (now (mesh .entry)) (now (marks .entry)) ⌝ }
 {
     let n = marks.len();
-    if n <= 65536 {
-        mesh.len() == n * 9
-    } else {
-        false
-    }
+    n <= 65536 && mesh.len() == n * 9
 }
 
 // Whether x can be a coordinate of a question's point.
@@ -175,11 +171,7 @@ fn each_usable(mesh: &[f64], boxes: &[f64], i: usize) -> bool
     requires { ⌜ (9 * i + 9 ≤ length (now mesh)) × (5 * i + 5 ≤ length (now boxes)) ⌝ }
     ensures { λ r. ⌜ r ≡ triangleUsable (now (mesh .entry)) (now (boxes .entry)) i ⌝ }
 {
-    if corners_usable(mesh, i) {
-        box_usable(grid::box_at(boxes, i))
-    } else {
-        false
-    }
+    corners_usable(mesh, i) && box_usable(grid::box_at(boxes, i))
 }
 
 // Whether no number of a box is one that 4 would refuse.
@@ -187,30 +179,15 @@ fn box_usable(b: Bounds) -> bool
     ensures { λ r. ⌜ r ≡ boxUsable b ⌝ }
 {
     let top = b.top;
-    if are_coordinates(b.low_x, b.low_y, b.high_x, b.high_y) {
-        spans::is_coordinate(top)
-    } else {
-        false
-    }
+    are_coordinates(b.low_x, b.low_y, b.high_x, b.high_y) && spans::is_coordinate(top)
 }
 
 // Whether four numbers are coordinates.
 fn are_coordinates(a: f64, b: f64, c: f64, d: f64) -> bool
     ensures { λ r. ⌜ r ≡ areCoordinates a b c d ⌝ }
 {
-    if spans::is_coordinate(a) {
-        if spans::is_coordinate(b) {
-            if spans::is_coordinate(c) {
-                spans::is_coordinate(d)
-            } else {
-                false
-            }
-        } else {
-            false
-        }
-    } else {
-        false
-    }
+    spans::is_coordinate(a)
+        && (spans::is_coordinate(b) && (spans::is_coordinate(c) && spans::is_coordinate(d)))
 }
 
 // Whether no coordinate of triangle i is one that 4 would refuse, one after the other.
@@ -231,15 +208,7 @@ fn member_usable(mesh: &[f64], boxes: &[f64], n: usize, marks: &[u32], stamp: u3
     requires { ⌜ (length (now mesh) ≡ n * 9) × (length (now marks) ≡ n) × (length (now boxes) ≡ n * 5) ⌝ }
     ensures { λ r. ⌜ r ≡ memberUsable (now (mesh .entry)) (now (boxes .entry)) n (now (marks .entry)) stamp i ⌝ }
 {
-    if i < n {
-        if triangle_usable(mesh, boxes, i) {
-            marks[i] <= stamp
-        } else {
-            false
-        }
-    } else {
-        false
-    }
+    i < n && (triangle_usable(mesh, boxes, i) && marks[i] <= stamp)
 }
 
 // The same of a member of which `recent` may tell that it was tested: a triangle stands in several cells, one beside the other. It has a place for 256 numbers.
@@ -321,15 +290,9 @@ fn cell_usable(
 {
     let a = starts[c] as usize;
     let e = starts[c + 1] as usize;
-    if a <= e {
-        if e <= members.len() {
-            members_usable(mesh, boxes, n, marks, stamp, &members[a..e], recent)
-        } else {
-            false
-        }
-    } else {
-        false
-    }
+    a <= e
+        && (e <= members.len()
+            && members_usable(mesh, boxes, n, marks, stamp, &members[a..e], recent))
 }
 
 // The same of columns x0 up to x1 of row y.

@@ -1,7 +1,9 @@
 -- `query::cell_usable` meets its contract: a test for each conjunct.
+use mathlib.Core.Path.{sym, _∙_}
 use Prim.Native.Nat.{_+_}
 use native.Mathlib.Omega.{arith}
 use borrow.Author.Needs.{needs}
+use borrow.Author.Tests.{lt-leb}
 use Rattle.numbers.proofs.Branches.{branches, no}
 use Rattle.query.specs.Usable.{cellUsable}
 use Rattle.query.proofs.cell_usable.Statement.{statement}
@@ -21,11 +23,11 @@ returns c =
 
 returns-2 : tie.Need-returns-2
 unfolding cellUsable
-returns-2 c = (search branches, (λ e. absurd (no e)))
+returns-2 c = (search branches, (λ e. absurd (no (sym (lt-leb _ _ (c .if2 .left)) ∙ e))))
 
 returns-3 : tie.Need-returns-3
 unfolding cellUsable
-returns-3 c = (search branches, (λ e. absurd (no e)))
+returns-3 c = (search branches, (λ e. absurd (no (sym (lt-leb _ _ (c .if1 .left)) ∙ e))))
 
 pub cell-usable-spec : {M : Type 1} → statement M
 cell-usable-spec =
