@@ -15,15 +15,8 @@ pub fn usable_whole(mesh: &[f64], h: Header, starts: &[u32], members: &[u32], bo
     let n = h.n;
     let columns = h.columns;
     let rows = h.rows;
-    if header::head_usable(mesh, h, starts) {
-        if triangles_usable(mesh, boxes, n) {
-            cells_below(starts, members, n, rows * columns)
-        } else {
-            false
-        }
-    } else {
-        false
-    }
+    header::head_usable(mesh, h, starts)
+        && (triangles_usable(mesh, boxes, n) && cells_below(starts, members, n, rows * columns))
 }
 
 // Whether no number of the first n triangles and of their boxes is one that 4 would refuse.
@@ -59,15 +52,7 @@ fn cell_below(starts: &[u32], members: &[u32], n: usize, c: usize) -> bool
 {
     let a = starts[c] as usize;
     let e = starts[c + 1] as usize;
-    if a <= e {
-        if e <= members.len() {
-            members_below(&members[a..e], n)
-        } else {
-            false
-        }
-    } else {
-        false
-    }
+    a <= e && (e <= members.len() && members_below(&members[a..e], n))
 }
 
 // Whether each number of a cell is below n.
