@@ -187,30 +187,14 @@ fn no_limit() -> f64
 fn is_sweep(px: f64, py: f64, qx: f64, qy: f64, r: f64) -> bool
     ensures { λ a. ⌜ a ≡ isSweep (sweep px py qx qy r) ⌝ }
 {
-    if are_points(px, py, qx, qy) {
-        spans::is_radius(r)
-    } else {
-        false
-    }
+    are_points(px, py, qx, qy) && spans::is_radius(r)
 }
 
 // Whether the coordinates of its ends are.
 fn are_points(px: f64, py: f64, qx: f64, qy: f64) -> bool
     ensures { λ a. ⌜ a ≡ arePoints px py qx qy ⌝ }
 {
-    if query::is_point(px) {
-        if query::is_point(py) {
-            if query::is_point(qx) {
-                query::is_point(qy)
-            } else {
-                false
-            }
-        } else {
-            false
-        }
-    } else {
-        false
-    }
+    query::is_point(px) && (query::is_point(py) && (query::is_point(qx) && query::is_point(qy)))
 }
 
 // The walk of a sweep over the cells p: it begins at the floor, with the next stamp, and is left once the best is above the limit.
