@@ -206,26 +206,14 @@ pub fn max_sections(
 fn is_stand(x: f64, y: f64, r: f64) -> bool
     ensures { λ b. ⌜ b ≡ isStand x y r ⌝ }
 {
-    if query::is_point(x) {
-        if query::is_point(y) {
-            spans::is_radius(r)
-        } else {
-            false
-        }
-    } else {
-        false
-    }
+    query::is_point(x) && (query::is_point(y) && spans::is_radius(r))
 }
 
 // Whether a tool's axis is a point.
 fn is_place(x: f64, y: f64) -> bool
     ensures { λ b. ⌜ b ≡ isPlace x y ⌝ }
 {
-    if query::is_point(x) {
-        query::is_point(y)
-    } else {
-        false
-    }
+    query::is_point(x) && query::is_point(y)
 }
 
 // The best so far with triangle i, whose top is given.
