@@ -229,15 +229,7 @@ fn finding_of(clear: bool) -> Finding
 pub fn is_end(x: f64, y: f64, z: f64) -> bool
     ensures { λ b. ⌜ b ≡ isEnd x y z ⌝ }
 {
-    if query::is_point(x) {
-        if query::is_point(y) {
-            query::is_point(z)
-        } else {
-            false
-        }
-    } else {
-        false
-    }
+    query::is_point(x) && (query::is_point(y) && query::is_point(z))
 }
 
 // Whether a chord's numbers are in their ranges.
@@ -248,26 +240,14 @@ fn is_chord(m: Chord) -> bool
     let by = m.by;
     let bz = m.bz;
     let lift = m.lift;
-    if is_end(m.ax, m.ay, m.az) {
-        if is_end(bx, by, bz) {
-            spans::is_coordinate(lift)
-        } else {
-            false
-        }
-    } else {
-        false
-    }
+    is_end(m.ax, m.ay, m.az) && (is_end(bx, by, bz) && spans::is_coordinate(lift))
 }
 
 // The same with a radius.
 fn is_ride(m: Chord, r: f64) -> bool
     ensures { λ b. ⌜ b ≡ isRide m r ⌝ }
 {
-    if is_chord(m) {
-        spans::is_radius(r)
-    } else {
-        false
-    }
+    is_chord(m) && spans::is_radius(r)
 }
 
 // Whether a chord's lower end is under floor + lift.
