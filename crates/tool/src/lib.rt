@@ -31,18 +31,14 @@ pub fn is_tool(table: &[f64]) -> bool
     ensures { λ r. ⌜ r ≡ isTool (now (table .entry)) ⌝ }
 {
     let n = table.len() / 4;
-    if table.len() % 4 == 0 {
-        if few(n) { all_valid(table) } else { false }
-    } else {
-        false
-    }
+    table.len() % 4 == 0 && (few(n) && all_valid(table))
 }
 
 // Whether n is from 1 to 32.
 fn few(n: usize) -> bool
     ensures { λ r. ⌜ r ≡ isFrom 1 32 n ⌝ }
 {
-    if 1 <= n { n <= 32 } else { false }
+    1 <= n && n <= 32
 }
 
 // Whether every section is valid.
