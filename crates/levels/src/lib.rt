@@ -105,26 +105,14 @@ fn gather_one(
 fn flat(t: Triangle, tolerance: f64, least: f64) -> bool
     ensures { λ r. ⌜ r ≡ isFlat t tolerance least ⌝ }
 {
-    if even(t, tolerance) {
-        if bary_answers(t) { t.az > least } else { false }
-    } else {
-        false
-    }
+    even(t, tolerance) && (bary_answers(t) && t.az > least)
 }
 
 // Whether all three z lie within the tolerance of the first.
 fn even(t: Triangle, tolerance: f64) -> bool
     ensures { λ r. ⌜ r ≡ evenOf t tolerance ⌝ }
 {
-    if near(tolerance, t.az, t.az) {
-        if near(tolerance, t.az, t.bz) {
-            near(tolerance, t.az, t.cz)
-        } else {
-            false
-        }
-    } else {
-        false
-    }
+    near(tolerance, t.az, t.az) && (near(tolerance, t.az, t.bz) && near(tolerance, t.az, t.cz))
 }
 
 // Whether z lies within the tolerance of z0.
