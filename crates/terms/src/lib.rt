@@ -28,45 +28,23 @@ pub struct Parameters {
 pub fn are_terms(p: Parameters, r: f64, floor: f64) -> bool
     ensures { λ b. ⌜ b ≡ areTerms p r floor ⌝ }
 {
-    if are_numbers(p) {
-        if are_steps(p, r) {
-            are_heights(p, floor)
-        } else {
-            false
-        }
-    } else {
-        false
-    }
+    are_numbers(p) && (are_steps(p, r) && are_heights(p, floor))
 }
 
 // Whether all numbers are finite, with magnitude at most 1e6.
 fn are_numbers(p: Parameters) -> bool
     ensures { λ b. ⌜ b ≡ areNumbers p ⌝ }
 {
-    if are_three(p.tolerance, p.level_tolerance, p.stepover) {
-        if spans::is_coordinate(p.stock_to_leave) {
-            are_three(p.stock_bottom, p.stock_top, p.cutting_length)
-        } else {
-            false
-        }
-    } else {
-        false
-    }
+    are_three(p.tolerance, p.level_tolerance, p.stepover)
+        && (spans::is_coordinate(p.stock_to_leave)
+            && are_three(p.stock_bottom, p.stock_top, p.cutting_length))
 }
 
 // The same of three numbers.
 pub fn are_three(a: f64, b: f64, c: f64) -> bool
     ensures { λ r. ⌜ r ≡ areThree a b c ⌝ }
 {
-    if spans::is_coordinate(a) {
-        if spans::is_coordinate(b) {
-            spans::is_coordinate(c)
-        } else {
-            false
-        }
-    } else {
-        false
-    }
+    spans::is_coordinate(a) && (spans::is_coordinate(b) && spans::is_coordinate(c))
 }
 
 // Whether tolerance and stepover are in their ranges.
