@@ -118,22 +118,14 @@ fn joins(y: Tally, r: Run) -> bool
     ensures { λ b. ⌜ b ≡ (y .some && touchesOf (y .last) r) ⌝ }
 {
     let last = y.last;
-    if y.some { touches(last, r) } else { false }
+    y.some && touches(last, r)
 }
 
 // Whether a run begins where the last one ended, at the same z.
 pub fn touches(last: Run, r: Run) -> bool
     ensures { λ b. ⌜ b ≡ touchesOf last r ⌝ }
 {
-    if last.bx == r.ax {
-        if last.by == r.ay {
-            last.z == r.z
-        } else {
-            false
-        }
-    } else {
-        false
-    }
+    last.bx == r.ax && (last.by == r.ay && last.z == r.z)
 }
 
 // The open run written.
