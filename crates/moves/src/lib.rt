@@ -168,15 +168,8 @@ fn refusal_of_runs(runs: &[f64], feed: f64, first_id: u64) -> u32
 fn are_heights(h: Heights, p: Point) -> bool
     ensures { λ b. ⌜ b ≡ areHeights h p ⌝ }
 {
-    if terms::are_three(h.clearance, h.retract, h.feed) {
-        if terms::are_three(p.x, p.y, p.z) {
-            in_order(h, p)
-        } else {
-            false
-        }
-    } else {
-        false
-    }
+    terms::are_three(h.clearance, h.retract, h.feed)
+        && (terms::are_three(p.x, p.y, p.z) && in_order(h, p))
 }
 
 // feed <= retract <= clearance <= start z.
@@ -202,19 +195,8 @@ fn are_runs(feed: f64, runs: &[f64]) -> bool
 fn is_run(feed: f64, r: Run) -> bool
     ensures { λ b. ⌜ b ≡ isRun feed r ⌝ }
 {
-    if terms::are_three(r.ax, r.ay, r.z) {
-        if spans::is_coordinate(r.bx) {
-            if spans::is_coordinate(r.by) {
-                r.z <= feed
-            } else {
-                false
-            }
-        } else {
-            false
-        }
-    } else {
-        false
-    }
+    terms::are_three(r.ax, r.ay, r.z)
+        && (spans::is_coordinate(r.bx) && (spans::is_coordinate(r.by) && r.z <= feed))
 }
 
 // Whether the ids of n runs fit: the first is not 0, and the first and 7 * n + 1 more end within a u64.
@@ -260,7 +242,7 @@ fn is_within(n: usize, s: State) -> bool
     if s.run < n {
         return true;
     }
-    if is_lift(phase) { n == 0 } else { false }
+    is_lift(phase) && n == 0
 }
 
 // Whether a state that is not ended has no next id.
