@@ -153,30 +153,15 @@ fn is_question(q: Question) -> bool
     ensures { λ b. ⌜ b ≡ isQuestion q ⌝ }
 {
     let r = q.r;
-    if are_points(q.px, q.py, q.qx, q.qy) {
-        micro::is_radius(r)
-    } else {
-        false
-    }
+    are_points(q.px, q.py, q.qx, q.qy) && micro::is_radius(r)
 }
 
 // Whether the coordinates of its ends are.
 fn are_points(px: u64, py: u64, qx: u64, qy: u64) -> bool
     ensures { λ b. ⌜ b ≡ arePoints px py qx qy ⌝ }
 {
-    if micro::is_coordinate(px) {
-        if micro::is_coordinate(py) {
-            if micro::is_coordinate(qx) {
-                micro::is_coordinate(qy)
-            } else {
-                false
-            }
-        } else {
-            false
-        }
-    } else {
-        false
-    }
+    micro::is_coordinate(px)
+        && (micro::is_coordinate(py) && (micro::is_coordinate(qx) && micro::is_coordinate(qy)))
 }
 
 // A question's box, and how far it is grown.
@@ -281,7 +266,7 @@ fn touches(low: u64, high: u64, a: u64, b: u64, r: u64) -> bool
     requires { ⌜ (high < 2 ^ 32) × (b < 2 ^ 32) × (r < 2 ^ 32) ⌝ }
     ensures { λ t. ⌜ t ≡ touchesOf low high a b r ⌝ }
 {
-    if a <= high + r { low <= b + r } else { false }
+    a <= high + r && low <= b + r
 }
 
 // Whether a box meets the question's box grown by r.
@@ -294,11 +279,7 @@ fn meets(w: Reach, b: Box) -> bool
     let top = w.top;
     let low = b.low_y;
     let high = b.high_y;
-    if touches(b.low_x, b.high_x, w.left, w.right, by) {
-        touches(low, high, bottom, top, by)
-    } else {
-        false
-    }
+    touches(b.low_x, b.high_x, w.left, w.right, by) && touches(low, high, bottom, top, by)
 }
 
 // The best so far with one triangle more.

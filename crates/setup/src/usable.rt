@@ -15,11 +15,7 @@ pub fn is_marked(mesh: &[i32], marks: &[u32]) -> bool
     ensures { λ r. ⌜ r ≡ isMarked (now (mesh .entry)) (now (marks .entry)) ⌝ }
 {
     let n = marks.len();
-    if n <= 65536 {
-        mesh.len() == n * 9
-    } else {
-        false
-    }
+    n <= 65536 && mesh.len() == n * 9
 }
 
 // Whether the header is in its ranges, its n is the mesh's, and starts has an entry for each cell and one more.
@@ -29,15 +25,7 @@ pub fn head_usable(mesh: &[i32], h: Header, starts: &[u32]) -> bool
     let n = h.n;
     let columns = h.columns;
     let rows = h.rows;
-    if in_ranges(h) {
-        if mesh.len() == n * 9 {
-            rows * columns + 1 <= starts.len()
-        } else {
-            false
-        }
-    } else {
-        false
-    }
+    in_ranges(h) && (mesh.len() == n * 9 && rows * columns + 1 <= starts.len())
 }
 
 // Whether a header is in its ranges.
@@ -48,60 +36,30 @@ fn in_ranges(h: Header) -> bool
     let columns = h.columns;
     let rows = h.rows;
     let cell = h.cell;
-    if is_from(1, 65536, n) {
-        if places_in(h.x, h.y, h.floor, h.r) {
-            if counts_in(columns, rows) {
-                is_power(cell)
-            } else {
-                false
-            }
-        } else {
-            false
-        }
-    } else {
-        false
-    }
+    is_from(1, 65536, n)
+        && (places_in(h.x, h.y, h.floor, h.r) && (counts_in(columns, rows) && is_power(cell)))
 }
 
 // Whether k is one of the numbers from a to e.
 fn is_from(a: usize, e: usize, k: usize) -> bool
     ensures { λ r. ⌜ r ≡ isFrom a e k ⌝ }
 {
-    if a <= k { k <= e } else { false }
+    a <= k && k <= e
 }
 
 // Whether an origin, a floor and a radius are in their ranges.
 fn places_in(x: u64, y: u64, floor: u64, r: u64) -> bool
     ensures { λ b. ⌜ b ≡ placesIn x y floor r ⌝ }
 {
-    if micro::is_coordinate(x) {
-        if micro::is_coordinate(y) {
-            if micro::is_coordinate(floor) {
-                micro::is_radius(r)
-            } else {
-                false
-            }
-        } else {
-            false
-        }
-    } else {
-        false
-    }
+    micro::is_coordinate(x)
+        && (micro::is_coordinate(y) && (micro::is_coordinate(floor) && micro::is_radius(r)))
 }
 
 // Whether a grid has at least one cell, and columns, rows and cells are within refusal 5.
 fn counts_in(columns: usize, rows: usize) -> bool
     ensures { λ r. ⌜ r ≡ countsIn columns rows ⌝ }
 {
-    if is_from(1, 65536, columns) {
-        if is_from(1, 65536, rows) {
-            is_from(1, 1048576, rows * columns)
-        } else {
-            false
-        }
-    } else {
-        false
-    }
+    is_from(1, 65536, columns) && (is_from(1, 65536, rows) && is_from(1, 1048576, rows * columns))
 }
 
 // Whether a cell is a power of two from 1 to 2^31.
@@ -136,15 +94,7 @@ fn member_usable(mesh: &[i32], n: usize, marks: &[u32], stamp: u32, i: usize) ->
     requires { ⌜ (length (now mesh) ≡ n * 9) × (length (now marks) ≡ n) ⌝ }
     ensures { λ r. ⌜ r ≡ memberUsable (now (mesh .entry)) n (now (marks .entry)) stamp i ⌝ }
 {
-    if i < n {
-        if triangle_usable(mesh, i) {
-            marks[i] <= stamp
-        } else {
-            false
-        }
-    } else {
-        false
-    }
+    i < n && (triangle_usable(mesh, i) && marks[i] <= stamp)
 }
 
 // Whether each number of one cell can be looked at.
@@ -176,15 +126,7 @@ fn cell_usable(
 {
     let a = starts[c] as usize;
     let e = starts[c + 1] as usize;
-    if a <= e {
-        if e <= members.len() {
-            members_usable(mesh, n, marks, stamp, &members[a..e])
-        } else {
-            false
-        }
-    } else {
-        false
-    }
+    a <= e && (e <= members.len() && members_usable(mesh, n, marks, stamp, &members[a..e]))
 }
 
 // The same of columns x0 up to x1 of row y.
