@@ -308,15 +308,7 @@ fn valid_body(b: Body) -> bool
     let end = b.end;
     let cut = b.cut;
     let neck = b.neck;
-    if valid_part(end) {
-        if valid_part(cut) {
-            valid_part(neck)
-        } else {
-            false
-        }
-    } else {
-        false
-    }
+    valid_part(end) && (valid_part(cut) && valid_part(neck))
 }
 
 // Whether a part has no section that is invalid.

@@ -1,4 +1,3 @@
-use mathlib.Core.Path.{refl}
 use Rattle.numbers.proofs.Branches.{and-on, and-off, bool-called}
 use Rattle.sheet.proofs.valid_body.Statement.{statement}
 use Rattle.sheet.proofs.valid_body.Tie as tie
@@ -13,10 +12,10 @@ returns-2 : tie.Need-returns-2
 returns-2 c =
     let one = c .before .before in
     and-on _ _ _ (bool-called _ _ _ (one .before .valid-part .ensures) (one .if1 .taken))
-    (and-off _ _ _ (bool-called _ _ _ (c .before .valid-part2 .ensures) (c .if2 .left)) refl)
+    (and-off _ _ _ (bool-called _ _ _ (c .before .valid-part2 .ensures) (c .if2 .left)) (c .if2 .left))
 
 returns-3 : tie.Need-returns-3
-returns-3 c = and-off _ _ _ (bool-called _ _ _ (c .before .valid-part .ensures) (c .if1 .left)) refl
+returns-3 c = and-off _ _ _ (bool-called _ _ _ (c .before .valid-part .ensures) (c .if1 .left)) (c .if1 .left)
 
 pub valid-body-spec : {M : Type 1} → statement M
 valid-body-spec = tie.close (tie.spec (λ c κs. tt) (λ c κs. tt) (λ c κs. tt) returns returns-2 returns-3)
