@@ -97,7 +97,7 @@ fn spell(out: &mut [u8], at: usize, n: u64, base: u64, least: usize, k: usize) -
 fn is_done(n: u64, least: usize) -> bool
     ensures { λ b. ⌜ b ≡ (eqb n 0 && eqb least 0) ⌝ }
 {
-    if n == 0 { least == 0 } else { false }
+    n == 0 && least == 0
 }
 
 fn one_less(least: usize) -> usize
