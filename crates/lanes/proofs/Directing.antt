@@ -1,30 +1,32 @@
--- Which way a row is walked, and how many rows have a stretch.
-use mathlib.Core.Bool.{Bool, true, false, cond, not, _&&_}
-use mathlib.Core.List.{List, [], _∷_, map}
-use mathlib.Core.Path.{_≡_, refl, sym, ap, _∙_}
+-- Which way a row is walked, what it adds to the search, and the rows of a level one after the other.
+use mathlib.Core.Bool.{Bool, true, false, cond, not}
+use mathlib.Core.List.{List, [], _∷_, _++_, map, reverse, reverse-cons}
+use mathlib.Core.Path.{_≡_, refl, sym, ap, subst, _∙_}
 use Prim.Native.Nat.{ℕ, suc, _+_, _-_, _%_, _≤_, _<_}
 use native.Mathlib.Omega.{arith}
 use lib.Dec.{eqb}
 use lib.Ieee.{Float}
-use Rattle.numbers.specs.Reals.{_⊕_}
-use Rattle.fives.specs.Tables.{putAt, roomOf}
+use Rattle.numbers.proofs.Branches.{no}
 use Rattle.runs.specs.declared.Run.{Run}
-use Rattle.runs.specs.declared.Tally.{Tally}
-use Rattle.runs.specs.Runs.{touchesOf, lengthened, lengthOf, fiveOf}
-use Rattle.runs.specs.Pieces.{Piece, piecesOf}
-use Rattle.runs.specs.Inside.{Work, work, onTo, takenBy, takenAll, keptBy, leftBy, closedOf}
+use Rattle.runs.specs.Pieces.{Piece}
+use Rattle.runs.specs.Inside.{work, takenAll}
 use Rattle.levels.specs.declared.Level.{Level}
 use Rattle.rows.specs.declared.Axis.{Axis}
 use Rattle.rows.specs.declared.Lane.{Lane}
 use Rattle.rows.specs.declared.Spread.{Spread}
-use Rattle.rows.specs.Lanes.{spreadOf, intervalsOf, between}
-use Rattle.rows.specs.Stretches.{Ends, stretchesOf, backward}
+use Rattle.rows.specs.Lanes.{spreadOf, intervalsOf}
+use Rattle.rows.specs.Stretches.{Ends, turned, stretchesOf, backward}
 use Rattle.rows.proofs.Turning.{row-turned}
 use Rattle.probe.specs.declared.Aim.{Aim}
-use Rattle.probe.specs.Probe.{onLevel, clear}
+use Rattle.probe.specs.Probe.{onLevel}
 use Rattle.terms.specs.declared.Parameters.{Parameters}
-use Rattle.search.specs.Search.{directed, aimOf, laneOf}
-use Rattle.search.specs.Inside.{numberOf, numbered, counting, rowTaken, laneTaken, lanesTaken, levelTaken, Coarse}
+use Rattle.search.specs.declared.Walked.{Walked}
+use Rattle.search.specs.Search.{Found, piecesAlong, empty, directed, rowFound, rowsFound, levelFound, aimOf, laneOf}
+use Rattle.search.specs.Inside.{numberOf, numbered, Trodden, Coarse}
+use Rattle.search.proofs.Walking.{empty-map}
+use Rattle.lanes.specs.declared.Swept.{Swept}
+use Rattle.lanes.specs.Inside.{from, Takes}
+use Rattle.lanes.proofs.Finding.{row-behind, takes-none, takes-on}
 
 -- ---- which way a row is walked
 
@@ -32,7 +34,7 @@ map-itself : (f : Ends → Ends) → ((e : Ends) → f e ≡ e) → (es : List E
 map-itself f h [] = refl
 map-itself f h (e ∷ es) = rw (h e, map-itself f h es)
 
-pub directed-is : (on : ℕ → Bool) (samples n : ℕ) (forward : Bool) → forward ≡ not (eqb (n % 2) 0) → map (numbered forward samples) (stretchesOf (λ j. on (numberOf forward samples j)) samples) ≡ directed n (stretchesOf on samples)
+directed-is : (on : ℕ → Bool) (samples n : ℕ) (forward : Bool) → forward ≡ not (eqb (n % 2) 0) → map (numbered forward samples) (stretchesOf (λ j. on (numberOf forward samples j)) samples) ≡ directed n (stretchesOf on samples)
 unfolding numberOf directed
 directed-is on samples n forward e = by forward (eqb (n % 2) 0) e
   where
@@ -42,68 +44,105 @@ directed-is on samples n forward e = by forward (eqb (n % 2) 0) e
     by false true p = row-turned on samples
     by false false p = cc
 
--- ---- how many rows have a stretch
+empty-append : (es : List Ends) (e : Ends) → empty (es ++ e ∷ []) ≡ false
+unfolding empty
+empty-append [] e = refl
+empty-append (x ∷ es) e = refl
 
-one-row : (t : List Float) (y : Tally) (r : Run) (kept : Bool) → takenBy t y r kept .tally .rows ≡ y .rows
-unfolding takenBy keptBy leftBy closedOf
-one-row t y r false = refl
-one-row t y r true = by (y .some && touchesOf (y .last) r) (y .some)
+empty-reverse : (es : List Ends) → empty (reverse es) ≡ empty es
+unfolding empty
+empty-reverse [] = refl
+empty-reverse (e ∷ es) = ap empty (reverse-cons e es) ∙ empty-append (reverse es) e
+
+empty-directed : (n : ℕ) (es : List Ends) → empty (directed n es) ≡ empty es
+unfolding directed backward
+empty-directed n es = by (eqb (n % 2) 0)
   where
-    by : (b d : Bool) → cond b (work t (record { some = true; last = lengthened (y .last) r; count = y .count; cut = y .cut; dropped = y .dropped; rows = y .rows })) (let w = cond d (work (putAt t (y .count) (fiveOf (y .last))) (record { some = false; last = y .last; count = onTo (roomOf t) (y .count); cut = y .cut ⊕ lengthOf (y .last); dropped = y .dropped; rows = y .rows })) (work t y) in work (w .table) (record { some = true; last = r; count = w .tally .count; cut = w .tally .cut; dropped = w .tally .dropped; rows = w .tally .rows })) .tally .rows ≡ y .rows
-    by true d = refl
-    by false true = refl
-    by false false = refl
+    by : (b : Bool) → empty (cond b (map turned (reverse es)) es) ≡ empty es
+    by true = empty-map turned (reverse es) ∙ empty-reverse es
+    by false = refl
 
-taken-rows : (ps : List Piece) (w : Work) → takenAll w ps .tally .rows ≡ w .tally .rows
-unfolding takenAll
-taken-rows [] w = refl
-taken-rows (p ∷ ps) w = taken-rows ps (takenBy (w .table) (w .tally) (p .run) (p .kept)) ∙ one-row (w .table) (w .tally) (p .run) (p .kept)
+-- ---- what a row adds
 
-stay : (under : Run → Float) (a : Aim) (l : Lane) (n : ℕ) (es : List Ends) (w : Work) → w .tally .rows ≡ n → rowTaken under a l n w es .tally .rows ≤ n
-unfolding rowTaken
-stay under a l n [] w e = omega arith
-stay under a l n (x ∷ es) w e = stay under a l n es _ (taken-rows (piecesOf (clear under a) (a .least) 32 (between l (x .from) (x .to))) (counting n w))
+along-none : (under : Run → Float) (a : Aim) (l : Lane) (es : List Ends) → empty es ≡ true → piecesAlong under a l es ≡ []
+unfolding piecesAlong empty
+along-none under a l [] e = refl
+along-none under a l (x ∷ es) e = absurd (no e)
 
-row-rows : (under : Run → Float) (a : Aim) (l : Lane) (n : ℕ) (es : List Ends) (w : Work) → n ≡ w .tally .rows + 1 → rowTaken under a l n w es .tally .rows ≤ n
-unfolding rowTaken
-row-rows under a l n [] w e = omega arith
-row-rows under a l n (x ∷ es) w e = stay under a l n es _ (taken-rows (piecesOf (clear under a) (a .least) 32 (between l (x .from) (x .to))) (counting n w))
+module _ (under : Run → Float) (a : Aim) (l : Lane) (t : List Float) (s : Swept) (t′ : List Float) (w : Walked) (n : ℕ) (forward : Bool) (e : n ≡ s .rows + 1) (f : forward ≡ not (eqb (n % 2) 0)) (x : Trodden under a l (map (numbered forward (l .samples)) (stretchesOf (λ j. onLevel under a l (numberOf forward (l .samples) j)) (l .samples))) t (s .stand) t′ w) where
+  abbrev es : List Ends
+  es = stretchesOf (onLevel under a l) (l .samples)
 
-pub lane-rows : (under : Run → Float) (a : Aim) (l : Lane) (w : Work) → laneTaken under a l w .tally .rows ≤ w .tally .rows + 1
-unfolding laneTaken
-lane-rows under a l w = row-rows under a l (w .tally .rows + 1) _ w refl
+  abbrev ds : List Ends
+  ds = directed (s .rows + 1) es
 
--- a row as it is walked
-pub lane-is : (under : Run → Float) (a : Aim) (l : Lane) (w w′ : Work) (n : ℕ) (forward : Bool) → n ≡ w .tally .rows + 1 → forward ≡ not (eqb (n % 2) 0) → w′ ≡ rowTaken under a l n w (map (numbered forward (l .samples)) (stretchesOf (λ j. onLevel under a l (numberOf forward (l .samples) j)) (l .samples))) → w′ ≡ laneTaken under a l w
-unfolding laneTaken
-lane-is under a l w w′ n forward e f p =
-    p
-    ∙ ap (rowTaken under a l n w) (directed-is (onLevel under a l) (l .samples) n forward f)
-    ∙ ap (λ (m : ℕ). rowTaken under a l m w (directed m (stretchesOf (onLevel under a l) (l .samples)))) e
+  walked : map (numbered forward (l .samples)) (stretchesOf (λ j. onLevel under a l (numberOf forward (l .samples) j)) (l .samples)) ≡ ds
+  walked = directed-is (onLevel under a l) (l .samples) n forward f ∙ ap (λ (m : ℕ). directed m es) e
+
+  one : w .some ≡ not (empty es)
+  one = x .some ∙ ap (λ (z : List Ends). not (empty z)) walked ∙ ap not (empty-directed (s .rows + 1) es)
+
+  all : work t′ (w .stand .tally) ≡ takenAll (work t (s .stand .tally)) (piecesAlong under a l ds)
+  all = x .taken ∙ ap (λ (z : List Ends). takenAll (work t (s .stand .tally)) (piecesAlong under a l z)) walked
+
+  pub row-some : w .some ≡ true → Takes t s (rowFound under a (from s) l) t′ (record { rows = n; stand = w .stand })
+  unfolding rowFound
+  row-some h = by (empty es) (sym one ∙ h)
+    where
+      by : (b : Bool) → not b ≡ true → Takes t s (cond b (from s) (record { rows = s .rows + 1; pieces = piecesAlong under a l ds })) t′ (record { rows = n; stand = w .stand })
+      by true p = absurd (no p)
+      by false p = record { rows = e; taken = all }
+
+  pub row-none : w .some ≡ false → Takes t s (rowFound under a (from s) l) t′ (record { rows = s .rows; stand = w .stand })
+  unfolding rowFound takenAll
+  row-none h = by (empty es) refl (sym one ∙ h)
+    where
+      by : (b : Bool) → empty es ≡ b → not b ≡ false → Takes t s (cond b (from s) (record { rows = s .rows + 1; pieces = piecesAlong under a l ds })) t′ (record { rows = s .rows; stand = w .stand })
+      by true q p = record { rows = refl; taken = all ∙ ap (takenAll (work t (s .stand .tally))) (along-none under a l ds (empty-directed (s .rows + 1) es ∙ q)) }
+      by false q p = absurd (no (sym p))
+
+pub row-rows : (under : Run → Float) (a : Aim) (f : Found) (l : Lane) → rowFound under a f l .rows ≤ f .rows + 1
+unfolding rowFound
+row-rows under a f l = by (empty (stretchesOf (onLevel under a l) (l .samples)))
+  where
+    ps : List Piece
+    ps = f .pieces ++ piecesAlong under a l (directed (f .rows + 1) (stretchesOf (onLevel under a l) (l .samples)))
+
+    by : (b : Bool) → cond b f (record { rows = f .rows + 1; pieces = ps }) .rows ≤ f .rows + 1
+    by true = omega arith
+    by false = omega arith
 
 -- ---- rows row, row + 1, .. of a level
 
-module _ (under : Run → Float) (a : Aim) (lane : ℕ → Lane) (w₀ : Work) where
-  -- what is left of n rows, taken from where the search stands, gives what all give from its start; each row passed counts at most once
-  pub record Laning (w : Work) (row n : ℕ) : Type 0 where
-    pub same : lanesTaken under a lane w row (n - row) ≡ lanesTaken under a lane w₀ 0 n
-    pub few : w .tally .rows ≤ w₀ .tally .rows + row
+module _ (under : Run → Float) (a : Aim) (lane : ℕ → Lane) (t₀ : List Float) (s₀ : Swept) where
+  -- what is found so far is taken; what is left of n rows, found from there, gives what all give from the start; each row passed counts at most once
+  pub record Laning (t : List Float) (s : Swept) (row n : ℕ) : Type 0 where
+    pub found : Found
+    pub taken : Takes t₀ s₀ found t s
+    pub same : rowsFound under a lane found row (n - row) ≡ rowsFound under a lane (from s₀) 0 n
+    pub few : s .rows ≤ s₀ .rows + row
 
-  pub laning-starts : (n : ℕ) → Laning w₀ 0 n
-  laning-starts n = let e : n - 0 ≡ n = omega arith in record { same = rw e; few = omega arith }
+  pub laning-starts : (n : ℕ) → Laning t₀ s₀ 0 n
+  laning-starts n = let e : n - 0 ≡ n = omega arith in record { found = from s₀; taken = takes-none t₀ s₀; same = rw e; few = omega arith }
 
-  pub laning-goes : (w w′ : Work) (row n : ℕ) (l : Lane) → row < n → Laning w row n → l ≡ lane row → w′ ≡ laneTaken under a l w → Laning w′ (row + 1) n
-  unfolding lanesTaken
-  laning-goes w w′ row n l h g p e =
+  pub laning-goes : (t : List Float) (s : Swept) (t′ : List Float) (s′ : Swept) (row n : ℕ) (l : Lane) → row < n → Laning t s row n → l ≡ lane row → Takes t s (rowFound under a (from s) l) t′ s′ → Laning t′ s′ (row + 1) n
+  unfolding rowsFound
+  laning-goes t s t′ s′ row n l h g p x =
       let q : n - row ≡ suc (n - (row + 1)) = omega arith in
+      let y = takes-on (λ (f : Found). rowFound under a f l) (row-behind under a l) t₀ s₀ (g .found) t s t′ s′ (g .taken) x in
       record {
-        same = ap (λ (v : Work). lanesTaken under a lane v (row + 1) (n - (row + 1))) (e ∙ ap (λ (x : Lane). laneTaken under a x w) p) ∙ (rw q at (g .same));
-        few = omega (arith, g .few, lane-rows under a l w, ap (λ (v : Work). v .tally .rows) e);
+        found = rowFound under a (g .found) l;
+        taken = y;
+        same = ap (λ (v : Lane). rowsFound under a lane (rowFound under a (g .found) v) (row + 1) (n - (row + 1))) p ∙ (rw q at (g .same));
+        few = omega (arith, g .few, y .rows, g .taken .rows, row-rows under a (g .found) l);
       }
 
-  pub laning-ends : (w : Work) (row n : ℕ) → n ≤ row → Laning w row n → w ≡ lanesTaken under a lane w₀ 0 n
-  unfolding lanesTaken
-  laning-ends w row n h g = let q : n - row ≡ 0 = omega arith in rw q at (g .same)
+  pub laning-ends : (t : List Float) (s : Swept) (row n : ℕ) → n ≤ row → Laning t s row n → Takes t₀ s₀ (rowsFound under a lane (from s₀) 0 n) t s
+  unfolding rowsFound
+  laning-ends t s row n h g =
+      let q : n - row ≡ 0 = omega arith in
+      let e : g .found ≡ rowsFound under a lane (from s₀) 0 n = rw q at (g .same) in
+      subst (λ (f : Found). Takes t₀ s₀ f t s) e (g .taken)
 
 -- ---- a level, with what the code finds of it
 
@@ -116,6 +155,9 @@ module _ (p : Parameters) (axis : Axis) (r : Float) (l : Level) where
   unfolding Coarse laneOf
   coarse-samples row lane e h = rw e (h .1)
 
-  pub level-is : (under : Run → Float) (w₀ w : Work) (a : Aim) (s : Spread) (n : ℕ) → a ≡ aimOf p r l → s ≡ spreadOf axis r l → n ≡ intervalsOf s (p .stepover) → w ≡ lanesTaken under a (laneOf p axis r l) w₀ 0 (n + 1) → w ≡ levelTaken under p axis r w₀ l
-  unfolding levelTaken
-  level-is under w₀ w a s n x y z e = e ∙ (rw (x, z, y))
+  pub level-is : (under : Run → Float) (t₀ : List Float) (s₀ : Swept) (t : List Float) (s : Swept) (a : Aim) (b : Spread) (n : ℕ) → a ≡ aimOf p r l → b ≡ spreadOf axis r l → n ≡ intervalsOf b (p .stepover)
+      → Takes t₀ s₀ (rowsFound under a (laneOf p axis r l) (from s₀) 0 (n + 1)) t s → Takes t₀ s₀ (levelFound under p axis r (from s₀) l) t s
+  unfolding levelFound
+  level-is under t₀ s₀ t s a b n x y z e =
+      let q : rowsFound under a (laneOf p axis r l) (from s₀) 0 (n + 1) ≡ levelFound under p axis r (from s₀) l = rw (x, z, y) in
+      subst (λ (f : Found). Takes t₀ s₀ f t s) q e

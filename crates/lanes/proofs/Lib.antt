@@ -1,3 +1,3 @@
-pub mod Directing
 pub mod Finding
+pub mod Directing
 pub mod Sweeping

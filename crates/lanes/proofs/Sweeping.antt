@@ -1,7 +1,7 @@
 -- The levels of a table taken one after the other: none is too fine, and each has at most 65,536 rows.
 use mathlib.Core.Bool.{Bool, true, false, _||_}
 use mathlib.Core.List.{List}
-use mathlib.Core.Path.{_≡_, refl, sym, ap, _∙_}
+use mathlib.Core.Path.{_≡_, refl, sym, ap, subst, _∙_}
 use Prim.Native.Nat.{ℕ, zero, suc, _+_, _-_, _*_, _≤_, _<_}
 use native.Mathlib.Omega.{arith}
 use borrow.Author.Tests.{ltb-false}
@@ -9,7 +9,6 @@ use lib.Ieee.{Float}
 use Rattle.levels.specs.declared.Level.{Level}
 use Rattle.levels.specs.Inside.{levelIn}
 use Rattle.runs.specs.declared.Run.{Run}
-use Rattle.runs.specs.Inside.{Work}
 use Rattle.rows.specs.declared.Axis.{Axis}
 use Rattle.rows.specs.declared.Lane.{Lane}
 use Rattle.rows.specs.Lanes.{spreadOf, intervalsOf}
@@ -18,9 +17,12 @@ use Rattle.terms.specs.Terms.{anyOf, tooFine}
 use Rattle.terms.specs.Inside.{levelsIn}
 use Rattle.terms.proofs.Testing.{any-next}
 use Rattle.probe.specs.declared.Aim.{Aim}
-use Rattle.search.specs.Search.{aimOf, laneOf}
-use Rattle.search.specs.Inside.{laneTaken, lanesTaken, levelTaken, levelsTaken, Coarse}
-use Rattle.lanes.proofs.Directing.{lane-rows}
+use Rattle.search.specs.Search.{Found, rowFound, rowsFound, levelFound, levelsFound, aimOf, laneOf}
+use Rattle.search.specs.Inside.{Coarse}
+use Rattle.lanes.specs.declared.Swept.{Swept}
+use Rattle.lanes.specs.Inside.{from, Takes}
+use Rattle.lanes.proofs.Finding.{level-behind, takes-none, takes-on}
+use Rattle.lanes.proofs.Directing.{row-rows}
 
 neither : (a b : Bool) → (a || b) ≡ false → (a ≡ false) × (b ≡ false)
 neither true b e = (cc, cc)
@@ -32,46 +34,56 @@ coarse-is p axis r l e = let n = neither _ _ e in (ltb-false _ _ (n .0), ltb-fal
 
 -- ---- how many rows a level has at most
 
-lanes-rows : (under : Run → Float) (a : Aim) (lane : ℕ → Lane) (n row : ℕ) (w : Work) → lanesTaken under a lane w row n .tally .rows ≤ w .tally .rows + n
-unfolding lanesTaken
-lanes-rows under a lane zero row w = omega arith
-lanes-rows under a lane (suc n) row w =
-    omega (arith, lanes-rows under a lane n (row + 1) (laneTaken under a (lane row) w), lane-rows under a (lane row) w)
+rows-rows : (under : Run → Float) (a : Aim) (lane : ℕ → Lane) (n row : ℕ) (f : Found) → rowsFound under a lane f row n .rows ≤ f .rows + n
+unfolding rowsFound
+rows-rows under a lane zero row f = omega arith
+rows-rows under a lane (suc n) row f =
+    omega (arith, rows-rows under a lane n (row + 1) (rowFound under a f (lane row)), row-rows under a f (lane row))
 
 module _ (under : Run → Float) (p : Parameters) (axis : Axis) (r : Float) where
-  pub level-rows : (w : Work) (l : Level) → Coarse p axis r l → levelTaken under p axis r w l .tally .rows ≤ w .tally .rows + 65536
-  unfolding levelTaken Coarse
-  level-rows w l h = omega (arith, h .0, lanes-rows under (aimOf p r l) (laneOf p axis r l) (intervalsOf (spreadOf axis r l) (p .stepover) + 1) 0 w)
+  level-rows : (f : Found) (l : Level) → Coarse p axis r l → levelFound under p axis r f l .rows ≤ f .rows + 65536
+  unfolding levelFound Coarse
+  level-rows f l h = omega (arith, h .0, rows-rows under (aimOf p r l) (laneOf p axis r l) (intervalsOf (spreadOf axis r l) (p .stepover) + 1) 0 f)
 
   -- ---- levels m, m + 1, .. of a table
 
-  module _ (t : List Float) (w₀ : Work) where
-    -- what is left of n levels, taken from where the search stands, gives what all give from its start; none that is left is too fine
-    pub record Sweeping (w : Work) (m n : ℕ) : Type 0 where
-      pub same : levelsTaken under p axis r w (levelsIn t m (n - m)) ≡ levelsTaken under p axis r w₀ (levelsIn t 0 n)
-      pub coarse : anyOf (tooFine p axis r) (levelsIn t m (n - m)) ≡ false
-      pub few : w .tally .rows ≤ w₀ .tally .rows + m * 65536
+  module _ (levels t₀ : List Float) (s₀ : Swept) where
+    -- what is found so far is taken; what is left of n levels, found from there, gives what all give from the start; none that is left is too fine
+    pub record Sweeping (t : List Float) (s : Swept) (m n : ℕ) : Type 0 where
+      pub found : Found
+      pub taken : Takes t₀ s₀ found t s
+      pub same : levelsFound under p axis r found (levelsIn levels m (n - m)) ≡ levelsFound under p axis r (from s₀) (levelsIn levels 0 n)
+      pub coarse : anyOf (tooFine p axis r) (levelsIn levels m (n - m)) ≡ false
+      pub few : s .rows ≤ s₀ .rows + m * 65536
 
-    pub sweeping-starts : (n : ℕ) → anyOf (tooFine p axis r) (levelsIn t 0 n) ≡ false → Sweeping w₀ 0 n
-    sweeping-starts n h = let e : n - 0 ≡ n = omega arith in record { same = rw e; coarse = rw e h; few = omega arith }
+    pub sweeping-starts : (n : ℕ) → anyOf (tooFine p axis r) (levelsIn levels 0 n) ≡ false → Sweeping t₀ s₀ 0 n
+    sweeping-starts n h =
+        let e : n - 0 ≡ n = omega arith in
+        record { found = from s₀; taken = takes-none t₀ s₀; same = rw e; coarse = rw e h; few = omega arith }
 
-    module _ (w : Work) (m n : ℕ) (l : Level) (h : m < n) (g : Sweeping w m n) (e : l ≡ levelIn t m) where
-      abbrev parted : (tooFine p axis r (levelIn t m) ≡ false) × (anyOf (tooFine p axis r) (levelsIn t (m + 1) (n - (m + 1))) ≡ false)
-      parted = neither _ _ (sym (any-next (tooFine p axis r) t m n h) ∙ g .coarse)
+    module _ (t : List Float) (s : Swept) (m n : ℕ) (l : Level) (h : m < n) (g : Sweeping t s m n) (e : l ≡ levelIn levels m) where
+      abbrev parted : (tooFine p axis r (levelIn levels m) ≡ false) × (anyOf (tooFine p axis r) (levelsIn levels (m + 1) (n - (m + 1))) ≡ false)
+      parted = neither _ _ (sym (any-next (tooFine p axis r) levels m n h) ∙ g .coarse)
 
       pub sweeping-coarse : Coarse p axis r l
       sweeping-coarse = coarse-is p axis r l (ap (tooFine p axis r) e ∙ parted .0)
 
-      pub sweeping-goes : (w′ : Work) → w′ ≡ levelTaken under p axis r w l → Sweeping w′ (m + 1) n
-      unfolding levelsIn levelsTaken
-      sweeping-goes w′ s =
+      pub sweeping-goes : (t′ : List Float) (s′ : Swept) → Takes t s (levelFound under p axis r (from s) l) t′ s′ → Sweeping t′ s′ (m + 1) n
+      unfolding levelsIn levelsFound
+      sweeping-goes t′ s′ x =
           let q : n - m ≡ suc (n - (m + 1)) = omega arith in
+          let y = takes-on (λ (f : Found). levelFound under p axis r f l) (level-behind under p axis r l) t₀ s₀ (g .found) t s t′ s′ (g .taken) x in
           record {
-            same = ap (λ (v : Work). levelsTaken under p axis r v (levelsIn t (m + 1) (n - (m + 1)))) (s ∙ ap (levelTaken under p axis r w) e) ∙ (rw q at (g .same));
+            found = levelFound under p axis r (g .found) l;
+            taken = y;
+            same = ap (λ (v : Level). levelsFound under p axis r (levelFound under p axis r (g .found) v) (levelsIn levels (m + 1) (n - (m + 1)))) e ∙ (rw q at (g .same));
             coarse = parted .1;
-            few = omega (arith, g .few, level-rows w l sweeping-coarse, ap (λ (v : Work). v .tally .rows) s);
+            few = omega (arith, g .few, y .rows, g .taken .rows, level-rows (g .found) l sweeping-coarse);
           }
 
-    pub sweeping-ends : (w : Work) (m n : ℕ) → n ≤ m → Sweeping w m n → w ≡ levelsTaken under p axis r w₀ (levelsIn t 0 n)
-    unfolding levelsIn levelsTaken
-    sweeping-ends w m n h g = let q : n - m ≡ 0 = omega arith in rw q at (g .same)
+    pub sweeping-ends : (t : List Float) (s : Swept) (m n : ℕ) → n ≤ m → Sweeping t s m n → Takes t₀ s₀ (levelsFound under p axis r (from s₀) (levelsIn levels 0 n)) t s
+    unfolding levelsIn levelsFound
+    sweeping-ends t s m n h g =
+        let q : n - m ≡ 0 = omega arith in
+        let e : g .found ≡ levelsFound under p axis r (from s₀) (levelsIn levels 0 n) = rw q at (g .same) in
+        subst (λ (f : Found). Takes t₀ s₀ f t s) e (g .taken)

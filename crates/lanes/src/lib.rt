@@ -5,14 +5,13 @@ ghost use mathlib.Core.Path.{_≡_};
 ghost use Prim.Native.Nat.{_*_, _≤_, _<_};
 ghost use lib.ListN.{length};
 ghost use Rattle.grid.specs.Index.{indexOf};
-ghost use Rattle.runs.specs.Inside.{work};
 ghost use Rattle.terms.specs.Terms.{tooFine, anyOf};
 ghost use Rattle.terms.specs.Inside.{levelsIn};
 ghost use Rattle.probe.specs.Probe.{heightUnder};
 ghost use Rattle.probe.specs.Inside.{Askable, Marked};
-ghost use Rattle.search.specs.Search.{levelsFound};
-ghost use Rattle.search.specs.Inside.{laneTaken, levelTaken, Coarse};
-ghost use Rattle.lanes.specs.Inside.{Searched};
+ghost use Rattle.search.specs.Search.{rowFound, levelFound, levelsFound};
+ghost use Rattle.search.specs.Inside.{Coarse};
+ghost use Rattle.lanes.specs.Inside.{from, Takes, Searched};
 use grid::Header;
 use halving::Stand;
 use levels::Level;
@@ -21,6 +20,18 @@ use rows::Axis;
 use rows::Lane;
 use runs::Tally;
 use terms::Parameters;
+
+// Where the search stands: how many rows have a stretch, and what is taken of them.
+pub struct Swept {
+    pub rows: usize,
+    pub stand: Stand,
+}
+
+// What a search counts: the rows that have a stretch, and what was made of their pieces.
+pub struct Counted {
+    pub rows: usize,
+    pub tally: Tally,
+}
 
 // The levels of a table searched, one after the other, from nothing; the joined runs written to the table of runs.
 pub fn search_levels(
@@ -35,7 +46,7 @@ pub fn search_levels(
     axis: Axis,
     levels: &[f64],
     count: usize,
-) -> Tally
+) -> Counted
     requires { ⌜ Askable (indexOf (now mesh) h (now starts) (now members) (now boxes)) × Marked (h .n) 0 (now marks) × (count * 5 ≤ length (now levels))
         × (count ≤ 65536) × (anyOf (tooFine p axis (h .r)) (levelsIn (now levels) 0 count) ≡ false) ⌝ }
     ensures { λ y. ⌜ Searched (now (runs .entry)) (levelsFound
@@ -43,12 +54,13 @@ pub fn search_levels(
         (record { rows = 0; pieces = [] })
         (levelsIn (now (levels .entry)) 0 count)) (now (runs .exit)) y × (length (now (marks .exit)) ≡ h .n) ⌝ }
 {
-    let mut stand = Stand {
+    let stand = Stand {
         tally: runs::begin(),
         stamp: 0,
     };
+    let mut s = Swept { rows: 0, stand };
     for m in 0..count {
-        stand = search_level(
+        s = search_level(
             mesh,
             h,
             starts,
@@ -59,11 +71,14 @@ pub fn search_levels(
             p,
             axis,
             levels::level_at(levels, m),
-            stand,
+            s,
         );
     }
-    let tally = stand.tally;
-    runs::close(runs, tally)
+    let rows = s.rows;
+    let end = s.stand;
+    let open = end.tally;
+    let tally = runs::close(runs, open);
+    Counted { rows, tally }
 }
 
 // The rows of a level taken, from the first to the last.
@@ -78,20 +93,20 @@ fn search_level(
     p: Parameters,
     axis: Axis,
     level: Level,
-    s: Stand,
-) -> Stand
-    requires { ⌜ Askable (indexOf (now mesh) h (now starts) (now members) (now boxes)) × Marked (h .n) (s .stamp) (now marks) × Coarse p axis (h .r) level
-        × (s .tally .rows ≤ 4294967296) ⌝ }
-    ensures { λ e. ⌜ (work (now (runs .exit)) (e .tally)
-        ≡ levelTaken (heightUnder (indexOf (now (mesh .entry)) h (now (starts .entry)) (now (members .entry)) (now (boxes .entry)))) p axis (h .r)
-        (work (now (runs .entry)) (s .tally)) level) × Marked (h .n) (e .stamp) (now (marks .exit)) ⌝ }
+    s: Swept,
+) -> Swept
+    requires { ⌜ Askable (indexOf (now mesh) h (now starts) (now members) (now boxes)) × Marked (h .n) (s .stand .stamp) (now marks) × Coarse p axis (h .r) level
+        × (s .rows ≤ 4294967296) ⌝ }
+    ensures { λ e. ⌜ Takes (now (runs .entry)) s
+        (levelFound (heightUnder (indexOf (now (mesh .entry)) h (now (starts .entry)) (now (members .entry)) (now (boxes .entry)))) p axis (h .r) (from s) level)
+        (now (runs .exit)) e × Marked (h .n) (e .stand .stamp) (now (marks .exit)) ⌝ }
 {
     let r = h.r;
     let a = search::aim_of(p, r, level);
     let rows = rows::intervals(rows::spread_of(axis, r, level), p.stepover) + 1;
-    let mut stand = s;
+    let mut e = s;
     for row in 0..rows {
-        stand = search_row(
+        e = search_row(
             mesh,
             h,
             starts,
@@ -101,10 +116,10 @@ fn search_level(
             runs,
             a,
             search::lane_of(p, axis, r, level, row),
-            stand,
+            e,
         );
     }
-    stand
+    e
 }
 
 // A row taken: every second row that has a stretch is walked back.
@@ -118,17 +133,18 @@ fn search_row(
     runs: &mut [f64],
     a: Aim,
     l: Lane,
-    s: Stand,
-) -> Stand
-    requires { ⌜ Askable (indexOf (now mesh) h (now starts) (now members) (now boxes)) × Marked (h .n) (s .stamp) (now marks) × (l .samples ≤ 65535)
-        × (s .tally .rows < 8589934592) ⌝ }
-    ensures { λ e. ⌜ (work (now (runs .exit)) (e .tally)
-        ≡ laneTaken (heightUnder (indexOf (now (mesh .entry)) h (now (starts .entry)) (now (members .entry)) (now (boxes .entry)))) a l
-        (work (now (runs .entry)) (s .tally))) × Marked (h .n) (e .stamp) (now (marks .exit)) ⌝ }
+    s: Swept,
+) -> Swept
+    requires { ⌜ Askable (indexOf (now mesh) h (now starts) (now members) (now boxes)) × Marked (h .n) (s .stand .stamp) (now marks) × (l .samples ≤ 65535)
+        × (s .rows < 8589934592) ⌝ }
+    ensures { λ e. ⌜ Takes (now (runs .entry)) s
+        (rowFound (heightUnder (indexOf (now (mesh .entry)) h (now (starts .entry)) (now (members .entry)) (now (boxes .entry)))) a (from s) l)
+        (now (runs .exit)) e × Marked (h .n) (e .stand .stamp) (now (marks .exit)) ⌝ }
 {
-    let t = s.tally;
-    let n = t.rows + 1;
-    search::walk_row(
+    let rows = s.rows;
+    let begin = s.stand;
+    let n = rows + 1;
+    let w = search::walk_row(
         mesh,
         h,
         starts,
@@ -139,7 +155,11 @@ fn search_row(
         a,
         l,
         n % 2 != 0,
-        n,
-        s,
-    )
+        begin,
+    );
+    let stand = w.stand;
+    if w.some {
+        return Swept { rows: n, stand };
+    }
+    Swept { rows, stand }
 }

@@ -25,7 +25,6 @@ use Rattle.whole.proofs.Wholly.{whole-head, whole-walkable, sound-whole}
 use Rattle.levels.specs.declared.Level.{Level}
 use Rattle.levels.specs.Levels.{levelsOf, fiveOf as levelFive}
 use Rattle.runs.specs.declared.Run.{Run}
-use Rattle.runs.specs.declared.Tally.{Tally}
 use Rattle.runs.specs.Runs.{joinedOf, fiveOf as runFive}
 use Rattle.runs.specs.Pieces.{keptOf}
 use Rattle.rows.specs.declared.Axis.{Axis}
@@ -35,6 +34,7 @@ use Rattle.terms.specs.Inside.{levelsIn}
 use Rattle.terms.proofs.Testing.{levels-read}
 use Rattle.probe.specs.Inside.{Askable, Marked}
 use Rattle.search.specs.Search.{Found}
+use Rattle.lanes.specs.declared.Counted.{Counted}
 use Rattle.lanes.specs.Inside.{Searched}
 use Rattle.plan.specs.declared.Planned.{Planned}
 use Rattle.plan.specs.declared.Surveyed.{Surveyed}
@@ -135,7 +135,7 @@ module _ (ix : Index) (marks : List ℕ) (levels runs : List Float) (p : Paramet
 -- ---- 11, 10, 12 and 13
 
 -- what the search left is settled as what it found
-module _ (t u₀ u : List Float) (count : ℕ) (f : Found) (y : Tally) (s : Searched u₀ f u y) where
+module _ (t u₀ u : List Float) (count : ℕ) (f : Found) (y : Counted) (s : Searched u₀ f u y) where
   abbrev rs : List Run
   rs = joinedOf (keptOf (f .pieces))
 
@@ -147,14 +147,14 @@ module _ (t u₀ u : List Float) (count : ℕ) (f : Found) (y : Tally) (s : Sear
   finished-is =
       let r : roomOf u ≡ roomOf u₀ = ap (λ (n : ℕ). n / 5) searched-room in
       ⊎-elim
-      (λ (b : ltb (roomOf u) (y .count) ≡ true).
-      let l : roomOf u < y .count = ltb-true (roomOf u) (y .count) b in
+      (λ (b : ltb (roomOf u) (y .tally .count) ≡ true).
+      let l : roomOf u < y .tally .count = ltb-true (roomOf u) (y .tally .count) b in
       rw (b, searched-room, lt-ltb (roomOf u₀) (length rs) (omega (arith, s .count))))
-      (λ (b : ltb (roomOf u) (y .count) ≡ false).
-      let l : y .count ≤ roomOf u = ltb-false (roomOf u) (y .count) b in
-      let n : y .count ≡ length rs = omega (arith, s .count) in
+      (λ (b : ltb (roomOf u) (y .tally .count) ≡ false).
+      let l : y .tally .count ≤ roomOf u = ltb-false (roomOf u) (y .tally .count) b in
+      let n : y .tally .count ≡ length rs = omega (arith, s .count) in
       rw (b, le-ltb (roomOf u₀) (length rs) (omega (arith, s .count)), s .table, n, s .rows, s .cut, s .dropped))
-      (on-or-off (ltb (roomOf u) (y .count)))
+      (on-or-off (ltb (roomOf u) (y .tally .count)))
 
 pub settled-same : (a b : Planned) (t t′ u u′ : List Float) → a ≡ b → t ≡ t′ → u ≡ u′ → settled a t u ≡ settled b t′ u′
 settled-same a b t t′ u u′ e p q = ap (λ (x : Planned). settled x t u) e ∙ (rw (p, q))

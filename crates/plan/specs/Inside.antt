@@ -11,7 +11,6 @@ use Rattle.grid.specs.Index.{Index}
 use Rattle.fives.specs.Tables.{roomOf, written, zeroed}
 use Rattle.levels.specs.declared.Level.{Level}
 use Rattle.levels.specs.Levels.{fiveOf as levelFive}
-use Rattle.runs.specs.declared.Tally.{Tally}
 use Rattle.runs.specs.Runs.{joinedOf, cutOf, fiveOf as runFive}
 use Rattle.runs.specs.Pieces.{keptOf, droppedBy}
 use Rattle.rows.specs.declared.Axis.{Axis}
@@ -19,6 +18,7 @@ use Rattle.terms.specs.declared.Parameters.{Parameters}
 use Rattle.terms.specs.Terms.{refusalOfLevels}
 use Rattle.probe.specs.Inside.{Askable}
 use Rattle.search.specs.Search.{Found}
+use Rattle.lanes.specs.declared.Counted.{Counted}
 use Rattle.plan.specs.declared.Planned.{Planned}
 use Rattle.plan.specs.declared.Surveyed.{Surveyed}
 use Rattle.plan.specs.Plan.{refusedBy, wiped}
@@ -49,10 +49,10 @@ abbrev pub givenUp : ℕ → List Float → List Float → Settled
 givenUp k levels runs = settled (refusedBy k) (zeroed levels) (zeroed runs)
 
 -- 13 where the search counted more runs than there is room for; else the answer, and the tables as they stand.
-unfoldable pub settledOf : List Float → List Float → ℕ → Tally → Settled
+unfoldable pub settledOf : List Float → List Float → ℕ → Counted → Settled
 settledOf levels runs count y =
-    cond (ltb (roomOf runs) (y .count)) (givenUp 13 levels runs)
-    (settled (record { refusal = 0; levels = count; rows = y .rows; runs = y .count; cut = y .cut; dropped = y .dropped }) levels runs)
+    cond (ltb (roomOf runs) (y .tally .count)) (givenUp 13 levels runs)
+    (settled (record { refusal = 0; levels = count; rows = y .rows; runs = y .tally .count; cut = y .tally .cut; dropped = y .tally .dropped }) levels runs)
 
 -- The same from what the search found, over a table of runs that it was written to.
 unfoldable pub finishedOf : List Float → List Float → ℕ → Found → Settled

@@ -13,8 +13,8 @@ ghost use Rattle.plan.specs.Plan.{refusalOfInput, foundOn, outcome, refu
 ghost use Rattle.plan.specs.Lost.{NothingLost};
 ghost use Rattle.plan.specs.Inside.{Ready, Surveys, settled, givenUp, settledOf, finishedOf};
 use grid::Header;
+use lanes::Counted;
 use rows::Axis;
-use runs::Tally;
 use terms::Parameters;
 
 // A plan's answer: its refusal or 0, the numbers of levels, rows and runs, the cut length and the dropped length.
@@ -239,18 +239,19 @@ fn give_up(levels: &mut [f64], runs: &mut [f64], k: u32) -> Planned
 }
 
 // Refusal 13, or the answer.
-fn settle(levels: &mut [f64], runs: &mut [f64], count: usize, y: Tally) -> Planned
+fn settle(levels: &mut [f64], runs: &mut [f64], count: usize, y: Counted) -> Planned
     ensures { λ a. ⌜ settled a (now (levels .exit)) (now (runs .exit)) ≡ settledOf (now (levels .entry)) (now (runs .entry)) count y ⌝ }
 {
-    if runs.len() / 5 < y.count {
+    let tally = y.tally;
+    if runs.len() / 5 < tally.count {
         return give_up(levels, runs, 13);
     }
     Planned {
         refusal: 0,
         levels: count,
         rows: y.rows,
-        runs: y.count,
-        cut: y.cut,
-        dropped: y.dropped,
+        runs: tally.count,
+        cut: tally.cut,
+        dropped: tally.dropped,
     }
 }

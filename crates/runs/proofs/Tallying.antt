@@ -25,7 +25,7 @@ on-or-off : (b : Bool) → (b ≡ true) ⊎ (b ≡ false)
 on-or-off true = inl refl
 on-or-off false = inr refl
 
-pub closed-is : (t t′ : List Float) (y : Tally) (more : ℕ) (len : Float) → y .some ≡ true → t′ ≡ putAt t (y .count) (fiveOf (y .last)) → more ≡ onTo (roomOf t) (y .count) → len ≡ lengthOf (y .last) → work t′ (record { some = false; last = y .last; count = more; cut = y .cut ⊕ len; dropped = y .dropped; rows = y .rows }) ≡ closedOf t y
+pub closed-is : (t t′ : List Float) (y : Tally) (more : ℕ) (len : Float) → y .some ≡ true → t′ ≡ putAt t (y .count) (fiveOf (y .last)) → more ≡ onTo (roomOf t) (y .count) → len ≡ lengthOf (y .last) → work t′ (record { some = false; last = y .last; count = more; cut = y .cut ⊕ len; dropped = y .dropped }) ≡ closedOf t y
 unfolding closedOf
 closed-is t t′ y more len e p q r = rw (e, p, q, r)
 
@@ -104,10 +104,10 @@ module _ (t₀ : List Float) where
       (rw m (put-past t count (length done) (fiveOf r) (omega arith) (omega arith) ∙ (rw e)), rw p (omega arith)))
       (on-or-off _)
 
-  abbrev tally : Bool → Run → ℕ → Float → Float → ℕ → Tally
-  tally b l n c d k = record { some = b; last = l; count = n; cut = c; dropped = d; rows = k }
+  abbrev tally : Bool → Run → ℕ → Float → Float → Tally
+  tally b l n c d = record { some = b; last = l; count = n; cut = c; dropped = d }
 
-  module _ (ps : List Piece) (t : List Float) (l : Run) (n : ℕ) (c d : Float) (k : ℕ) (r : Run) where
+  module _ (ps : List Piece) (t : List Float) (l : Run) (n : ℕ) (c d : Float) (r : Run) where
     kept-more : keptOf (ps ++ piece r true ∷ []) ≡ keptOf ps ++ r ∷ []
     unfolding keptOf
     kept-more = kept-append ps (piece r true ∷ [])
@@ -117,7 +117,7 @@ module _ (t₀ : List Float) where
     left-more = kept-append ps (piece r false ∷ []) ∙ append-nil (keptOf ps)
 
     -- a run dropped
-    drops : (b : Bool) → Tallied t₀ ps (work t (tally b l n c d k)) → Tallied t₀ (ps ++ piece r false ∷ []) (work t (leftBy (tally b l n c d k) r))
+    drops : (b : Bool) → Tallied t₀ ps (work t (tally b l n c d)) → Tallied t₀ (ps ++ piece r false ∷ []) (work t (leftBy (tally b l n c d) r))
     unfolding leftBy
     drops b g =
         record {
@@ -130,7 +130,7 @@ module _ (t₀ : List Float) where
         }
 
     -- the first run kept
-    begins : Tallied t₀ ps (work t (tally false l n c d k)) → Tallied t₀ (ps ++ piece r true ∷ []) (work t (tally true r n c d k))
+    begins : Tallied t₀ ps (work t (tally false l n c d)) → Tallied t₀ (ps ++ piece r true ∷ []) (work t (tally true r n c d))
     begins g =
         record {
           done = [];
@@ -142,7 +142,7 @@ module _ (t₀ : List Float) where
         }
 
     -- a run that touches the open one, and one that does not
-    grows : Tallied t₀ ps (work t (tally true l n c d k)) → touchesOf l r ≡ true → Tallied t₀ (ps ++ piece r true ∷ []) (work t (tally true (lengthened l r) n c d k))
+    grows : Tallied t₀ ps (work t (tally true l n c d)) → touchesOf l r ≡ true → Tallied t₀ (ps ++ piece r true ∷ []) (work t (tally true (lengthened l r) n c d))
     grows g e =
         record {
           done = g .done;
@@ -153,7 +153,7 @@ module _ (t₀ : List Float) where
           last = rw kept-more (opened-joins touchesOf lengthened (λ r. r) (keptOf ps) (g .done) l r (g .last) e);
         }
 
-    opens : Tallied t₀ ps (work t (tally true l n c d k)) → touchesOf l r ≡ false → Tallied t₀ (ps ++ piece r true ∷ []) (work (putAt t n (fiveOf l)) (tally true r (onTo (roomOf t) n) (c ⊕ lengthOf l) d k))
+    opens : Tallied t₀ ps (work t (tally true l n c d)) → touchesOf l r ≡ false → Tallied t₀ (ps ++ piece r true ∷ []) (work (putAt t n (fiveOf l)) (tally true r (onTo (roomOf t) n) (c ⊕ lengthOf l) d))
     opens g e =
         let w = written-next (g .done) l t n (g .table) (g .count) in
         record {
@@ -165,32 +165,32 @@ module _ (t₀ : List Float) where
           last = rw kept-more (opened-next touchesOf lengthened (λ r. r) (keptOf ps) (g .done) l r (g .last) e);
         }
 
-    keeps : (b : Bool) → Tallied t₀ ps (work t (tally b l n c d k)) → Tallied t₀ (ps ++ piece r true ∷ []) (keptBy t (tally b l n c d k) r)
+    keeps : (b : Bool) → Tallied t₀ ps (work t (tally b l n c d)) → Tallied t₀ (ps ++ piece r true ∷ []) (keptBy t (tally b l n c d) r)
     unfolding keptBy closedOf
     keeps false g = begins g
     keeps true g = by (touchesOf l r) refl
       where
-        by : (b : Bool) → touchesOf l r ≡ b → Tallied t₀ (ps ++ piece r true ∷ []) (cond b (work t (tally true (lengthened l r) n c d k)) (work (putAt t n (fiveOf l)) (tally true r (onTo (roomOf t) n) (c ⊕ lengthOf l) d k)))
+        by : (b : Bool) → touchesOf l r ≡ b → Tallied t₀ (ps ++ piece r true ∷ []) (cond b (work t (tally true (lengthened l r) n c d)) (work (putAt t n (fiveOf l)) (tally true r (onTo (roomOf t) n) (c ⊕ lengthOf l) d)))
         by true e = grows g e
         by false e = opens g e
 
   -- one piece more
   pub tallied-goes : (ps : List Piece) (w : Work) (r : Run) (b : Bool) → Tallied t₀ ps w → Tallied t₀ (ps ++ piece r b ∷ []) (takenBy (w .table) (w .tally) r b)
   unfolding takenBy
-  tallied-goes ps w r true g = keeps ps (w .table) (w .tally .last) (w .tally .count) (w .tally .cut) (w .tally .dropped) (w .tally .rows) r (w .tally .some) g
-  tallied-goes ps w r false g = drops ps (w .table) (w .tally .last) (w .tally .count) (w .tally .cut) (w .tally .dropped) (w .tally .rows) r (w .tally .some) g
+  tallied-goes ps w r true g = keeps ps (w .table) (w .tally .last) (w .tally .count) (w .tally .cut) (w .tally .dropped) r (w .tally .some) g
+  tallied-goes ps w r false g = drops ps (w .table) (w .tally .last) (w .tally .count) (w .tally .cut) (w .tally .dropped) r (w .tally .some) g
 
   pub tallied-all : (ps qs : List Piece) (w : Work) → Tallied t₀ ps w → Tallied t₀ (ps ++ qs) (takenAll w qs)
   unfolding takenAll
   tallied-all ps [] w g = rw (append-nil ps) g
   tallied-all ps (q ∷ qs) w g = rw (← (append-assoc ps (q ∷ []) qs)) (tallied-all (ps ++ q ∷ []) qs _ (tallied-goes ps w (q .run) (q .kept) g))
 
-  ends : (ps : List Piece) (t : List Float) (l : Run) (n : ℕ) (c d : Float) (k : ℕ) (b : Bool) → Tallied t₀ ps (work t (tally b l n c d k)) → Written t₀ ps (closedOf t (tally b l n c d k))
+  ends : (ps : List Piece) (t : List Float) (l : Run) (n : ℕ) (c d : Float) (b : Bool) → Tallied t₀ ps (work t (tally b l n c d)) → Written t₀ ps (closedOf t (tally b l n c d))
   unfolding closedOf joinedOf
-  ends ps t l n c d k false g =
+  ends ps t l n c d false g =
       let e : joinedOf (keptOf ps) ≡ g .done = ap joinedOf (g .last .0) ∙ (unfold grouped in sym (g .last .1)) in
       record { table = rw e (g .table); count = rw e (g .count); cut = rw e (g .cut); dropped = g .dropped }
-  ends ps t l n c d k true g =
+  ends ps t l n c d true g =
       let e : joinedOf (keptOf ps) ≡ g .done ++ l ∷ [] = opened-ends touchesOf lengthened (λ r. r) (keptOf ps) (g .done) l (g .last) in
       let w = written-next (g .done) l t n (g .table) (g .count) in
       record {
@@ -202,4 +202,4 @@ module _ (t₀ : List Float) where
 
   -- the search's end
   pub tallied-ends : (ps : List Piece) (w : Work) → Tallied t₀ ps w → Written t₀ ps (closedOf (w .table) (w .tally))
-  tallied-ends ps w g = ends ps (w .table) (w .tally .last) (w .tally .count) (w .tally .cut) (w .tally .dropped) (w .tally .rows) (w .tally .some) g
+  tallied-ends ps w g = ends ps (w .table) (w .tally .last) (w .tally .count) (w .tally .cut) (w .tally .dropped) (w .tally .some) g

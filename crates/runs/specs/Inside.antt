@@ -27,20 +27,20 @@ unfoldable pub closedOf : List Float → Tally → Work
 closedOf t y =
     cond (y .some)
     (work (putAt t (y .count) (fiveOf (y .last)))
-    (record { some = false; last = y .last; count = onTo (roomOf t) (y .count); cut = y .cut ⊕ lengthOf (y .last); dropped = y .dropped; rows = y .rows }))
+    (record { some = false; last = y .last; count = onTo (roomOf t) (y .count); cut = y .cut ⊕ lengthOf (y .last); dropped = y .dropped }))
     (work t y)
 
 -- A run kept: it joins the open one, or that one is written and it is the open one.
 unfoldable pub keptBy : List Float → Tally → Run → Work
 keptBy t y r =
     cond (y .some && touchesOf (y .last) r)
-    (work t (record { some = true; last = lengthened (y .last) r; count = y .count; cut = y .cut; dropped = y .dropped; rows = y .rows }))
+    (work t (record { some = true; last = lengthened (y .last) r; count = y .count; cut = y .cut; dropped = y .dropped }))
     (let w = closedOf t y in
-    work (w .table) (record { some = true; last = r; count = w .tally .count; cut = w .tally .cut; dropped = w .tally .dropped; rows = w .tally .rows }))
+    work (w .table) (record { some = true; last = r; count = w .tally .count; cut = w .tally .cut; dropped = w .tally .dropped }))
 
 -- A run dropped.
 unfoldable pub leftBy : Tally → Run → Tally
-leftBy y r = record { some = y .some; last = y .last; count = y .count; cut = y .cut; dropped = y .dropped ⊕ lengthOf r; rows = y .rows }
+leftBy y r = record { some = y .some; last = y .last; count = y .count; cut = y .cut; dropped = y .dropped ⊕ lengthOf r }
 
 -- One piece more.
 unfoldable pub takenBy : List Float → Tally → Run → Bool → Work
@@ -56,4 +56,4 @@ abbrev pub noRun : Run
 noRun = record { ax = f0; ay = f0; bx = f0; by = f0; z = f0 }
 
 abbrev pub begun : Tally
-begun = record { some = false; last = noRun; count = 0; cut = f0; dropped = f0; rows = 0 }
+begun = record { some = false; last = noRun; count = 0; cut = f0; dropped = f0 }

@@ -16,15 +16,13 @@ pub struct Run {
     pub z: f64,
 }
 
-// Where the run search stands: the run that later ones may join, if there is one; how many are written; their length and that of what was dropped; how many
-// rows have a run.
+// What was made of the pieces so far: the run that later ones may join, if there is one; how many are written; their length and that of what was dropped.
 pub struct Tally {
     pub some: bool,
     pub last: Run,
     pub count: usize,
     pub cut: f64,
     pub dropped: f64,
-    pub rows: usize,
 }
 
 // Nothing yet.
@@ -44,7 +42,6 @@ pub fn begin() -> Tally
         count: 0,
         cut: 0.0,
         dropped: 0.0,
-        rows: 0,
     }
 }
 
@@ -72,13 +69,12 @@ fn keep(runs: &mut [f64], y: Tally, r: Run) -> Tally
         count: c.count,
         cut: c.cut,
         dropped: c.dropped,
-        rows: c.rows,
     }
 }
 
 // The open run with one that touches it.
 fn lengthen(y: Tally, r: Run) -> Tally
-    ensures { λ a. ⌜ a ≡ record { some = true; last = lengthened (y .last) r; count = y .count; cut = y .cut; dropped = y .dropped; rows = y .rows } ⌝ }
+    ensures { λ a. ⌜ a ≡ record { some = true; last = lengthened (y .last) r; count = y .count; cut = y .cut; dropped = y .dropped } ⌝ }
 {
     let l = y.last;
     let last = Run {
@@ -94,7 +90,6 @@ fn lengthen(y: Tally, r: Run) -> Tally
         count: y.count,
         cut: y.cut,
         dropped: y.dropped,
-        rows: y.rows,
     }
 }
 
@@ -109,7 +104,6 @@ fn leave(y: Tally, r: Run) -> Tally
         count: y.count,
         cut: y.cut,
         dropped: y.dropped + length(r),
-        rows: y.rows,
     }
 }
 
@@ -145,7 +139,6 @@ pub fn close(runs: &mut [f64], y: Tally) -> Tally
         count: more,
         cut: y.cut + length(last),
         dropped: y.dropped,
-        rows: y.rows,
     }
 }
 

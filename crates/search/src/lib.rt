@@ -5,13 +5,11 @@ ghost use mathlib.Core.Bool.{true, false};
 ghost use Prim.Native.Nat.{_+_, _*_, _≤_, _<_};
 ghost use lib.ListN.{length};
 ghost use Rattle.grid.specs.Index.{indexOf};
-ghost use Rattle.rows.specs.Stretches.{endedAt, stretchesFrom, stretchesOf, sampled};
-ghost use Rattle.runs.specs.Pieces.{piecesOf};
-ghost use Rattle.runs.specs.Inside.{work, takenAll};
-ghost use Rattle.probe.specs.Probe.{heightUnder, onLevel, clear};
+ghost use Rattle.rows.specs.Stretches.{stretchesOf};
+ghost use Rattle.probe.specs.Probe.{heightUnder, onLevel};
 ghost use Rattle.probe.specs.Inside.{Askable, Marked};
 ghost use Rattle.search.specs.Search.{aimOf, laneOf};
-ghost use Rattle.search.specs.Inside.{numberOf, numbered, Advanced, rowTaken};
+ghost use Rattle.search.specs.Inside.{numberOf, numbered, Ended, Advanced, Trodden};
 use grid::Header;
 use halving::Stand;
 use levels::Level;
@@ -19,12 +17,12 @@ use probe::Aim;
 use rows::Axis;
 use rows::Lane;
 use runs::Run;
-use runs::Tally;
 use terms::Parameters;
 
-// Where a row stands: how many samples in front of the next are on the level.
+// Where a row stands: how many samples in front of the next are on the level, whether it has had a stretch, and what is taken.
 pub struct Walked {
     pub k: usize,
+    pub some: bool,
     pub stand: Stand,
 }
 
@@ -36,7 +34,7 @@ fn number(forward: bool, samples: usize, j: usize) -> usize
     if forward { j } else { samples - j }
 }
 
-// The stretch of k samples in front of sample j taken, if they are two or more.
+// The stretch in front of sample j has ended: it is taken, if it has two samples or more.
 fn end_stretch(
     mesh: &[f64],
     h: Header,
@@ -48,24 +46,28 @@ fn end_stretch(
     a: Aim,
     l: Lane,
     forward: bool,
-    n: usize,
     j: usize,
-    k: usize,
-    s: Stand,
-) -> Stand
-    requires { ⌜ Askable (indexOf (now mesh) h (now starts) (now members) (now boxes)) × Marked (h .n) (s .stamp) (now marks) × (k ≤ j) ×
+    w: Walked,
+) -> Walked
+    requires { ⌜ Askable (indexOf (now mesh) h (now starts) (now members) (now boxes)) × Marked (h .n) (w .stand .stamp) (now marks) × (w .k ≤ j) ×
         (j ≤ l .samples + 1) ⌝ }
-    ensures { λ e. ⌜ (work (now (runs .exit)) (e .tally)
-        ≡ rowTaken (heightUnder (indexOf (now (mesh .entry)) h (now (starts .entry)) (now (members .entry)) (now (boxes .entry)))) a l n
-        (work (now (runs .entry)) (s .tally)) (map (numbered forward (l .samples)) (endedAt k j))) × Marked (h .n) (e .stamp) (now (marks .exit)) ⌝ }
+    ensures { λ e. ⌜ Ended (heightUnder (indexOf (now (mesh .entry)) h (now (starts .entry)) (now (members .entry)) (now (boxes .entry)))) a l forward j w
+        (now (runs .entry)) e (now (runs .exit)) × Marked (h .n) (e .stand .stamp) (now (marks .exit)) ⌝ }
 {
+    let k = w.k;
+    let some = w.some;
+    let s = w.stand;
     if k <= 1 {
-        return s;
+        return Walked {
+            k: 0,
+            some,
+            stand: s,
+        };
     }
     let samples = l.samples;
     let first = number(forward, samples, j - k);
     let last = number(forward, samples, j - 1);
-    halving::halve(
+    let stand = halving::halve(
         mesh,
         h,
         starts,
@@ -75,37 +77,12 @@ fn end_stretch(
         runs,
         a,
         rows::run_between(l, first, last),
-        counted(s, n),
-    )
-}
-
-// The number of rows with a stretch becomes n.
-fn counted(s: Stand, n: usize) -> Stand
-    ensures { λ e. ⌜ e ≡ record {
-      tally = record {
-        some = s .tally .some;
-        last = s .tally .last;
-        count = s .tally .count;
-        cut = s .tally .cut;
-        dropped = s .tally .dropped;
-        rows = n;
-      };
-      stamp = s .stamp;
-    } ⌝ }
-{
-    let t = s.tally;
-    let last = t.last;
-    let tally = Tally {
-        some: t.some,
-        last,
-        count: t.count,
-        cut: t.cut,
-        dropped: t.dropped,
-        rows: n,
-    };
-    Stand {
-        tally,
-        stamp: s.stamp,
+        s,
+    );
+    Walked {
+        k: 0,
+        some: true,
+        stand,
     }
 }
 
@@ -121,17 +98,17 @@ fn advance(
     a: Aim,
     l: Lane,
     forward: bool,
-    n: usize,
     j: usize,
     w: Walked,
 ) -> Walked
     requires { ⌜ Askable (indexOf (now mesh) h (now starts) (now members) (now boxes)) × Marked (h .n) (w .stand .stamp) (now marks) × (w .k ≤ j)
         × (j ≤ l .samples) × (l .samples ≤ 65535) ⌝ }
-    ensures { λ e. ⌜ Advanced (heightUnder (indexOf (now (mesh .entry)) h (now (starts .entry)) (now (members .entry)) (now (boxes .entry)))) a l forward n j w
+    ensures { λ e. ⌜ Advanced (heightUnder (indexOf (now (mesh .entry)) h (now (starts .entry)) (now (members .entry)) (now (boxes .entry)))) a l forward j w
         (now (runs .entry)) e (now (runs .exit)) × Marked (h .n) (e .stand .stamp) (now (marks .exit)) ⌝ }
 {
     let s = w.stand;
     let k = w.k;
+    let some = w.some;
     let t = s.tally;
     let samples = l.samples;
     let o = probe::sample(
@@ -146,17 +123,18 @@ fn advance(
         l,
         number(forward, samples, j),
     );
-    let next = Stand {
+    let stand = Stand {
         tally: t,
         stamp: o.stamp,
     };
     if o.on {
         return Walked {
             k: k + 1,
-            stand: next,
+            some,
+            stand,
         };
     }
-    let stand = end_stretch(
+    end_stretch(
         mesh,
         h,
         starts,
@@ -167,15 +145,12 @@ fn advance(
         a,
         l,
         forward,
-        n,
         j,
-        k,
-        next,
-    );
-    Walked { k: 0, stand }
+        Walked { k, some, stand },
+    )
 }
 
-// A row walked forward or back; it is the n-th that has a stretch, if it has one.
+// A row walked forward or back: its stretches are taken.
 pub fn walk_row(
     mesh: &[f64],
     h: Header,
@@ -187,18 +162,19 @@ pub fn walk_row(
     a: Aim,
     l: Lane,
     forward: bool,
-    n: usize,
     s: Stand,
-) -> Stand
+) -> Walked
     requires { ⌜ Askable (indexOf (now mesh) h (now starts) (now members) (now boxes)) × Marked (h .n) (s .stamp) (now marks) × (l .samples ≤ 65535) ⌝ }
-    ensures { λ e. ⌜ (work (now (runs .exit)) (e .tally)
-        ≡ rowTaken (heightUnder (indexOf (now (mesh .entry)) h (now (starts .entry)) (now (members .entry)) (now (boxes .entry)))) a l n
-        (work (now (runs .entry)) (s .tally)) (map (numbered forward (l .samples))
+    ensures { λ e. ⌜ Trodden (heightUnder (indexOf (now (mesh .entry)) h (now (starts .entry)) (now (members .entry)) (now (boxes .entry)))) a l (map (numbered forward (l .samples))
         (stretchesOf (λ j. onLevel (heightUnder (indexOf (now (mesh .entry)) h (now (starts .entry)) (now (members .entry)) (now (boxes .entry)))) a l
-        (numberOf forward (l .samples) j)) (l .samples)))) × Marked (h .n) (e .stamp) (now (marks .exit)) ⌝ }
+        (numberOf forward (l .samples) j)) (l .samples))) (now (runs .entry)) s (now (runs .exit)) e × Marked (h .n) (e .stand .stamp) (now (marks .exit)) ⌝ }
 {
     let samples = l.samples;
-    let mut w = Walked { k: 0, stand: s };
+    let mut w = Walked {
+        k: 0,
+        some: false,
+        stand: s,
+    };
     for j in 0..samples + 1 {
         w = advance(
             mesh,
@@ -211,13 +187,10 @@ pub fn walk_row(
             a,
             l,
             forward,
-            n,
             j,
             w,
         );
     }
-    let k = w.k;
-    let stand = w.stand;
     end_stretch(
         mesh,
         h,
@@ -229,10 +202,8 @@ pub fn walk_row(
         a,
         l,
         forward,
-        n,
         samples + 1,
-        k,
-        stand,
+        w,
     )
 }
 

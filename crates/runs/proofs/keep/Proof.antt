@@ -33,7 +33,7 @@ returns-2 : tie.Need-returns-2
 unfolding keptBy
 returns-2 c =
     left _ _ _ _ (bool-called _ _ _ (c .before .before .before .before .before .joins .ensures) (c .before .before .before .before .if1 .left))
-    (ap (λ (w : Work). work (w .table) (record { some = true; last = c .before .before .before .before .before .before .before .args .r; count = w .tally .count; cut = w .tally .cut; dropped = w .tally .dropped; rows = w .tally .rows })) (c .before .before .close .ensures))
+    (ap (λ (w : Work). work (w .table) (record { some = true; last = c .before .before .before .before .before .before .before .args .r; count = w .tally .count; cut = w .tally .cut; dropped = w .tally .dropped })) (c .before .before .close .ensures))
 
 pub keep-spec : {M : Type 1} → statement M
 keep-spec =

@@ -1,4 +1,4 @@
-use mathlib.Core.Path.{_≡_, refl}
+use mathlib.Core.Path.{refl}
 use native.Mathlib.Omega.{arith}
 use borrow.Author.Needs.{needs}
 use Rattle.search.proofs.Walking.{advanced-on, advanced-off}
@@ -7,14 +7,15 @@ use Rattle.search.proofs.advance.Tie as tie
 
 returns : tie.Need-returns
 returns c =
-    (advanced-on _ _ _ _ _ _ _ _ _ _ _ _ (c .before .before .before .before .number .ensures) (c .before .before .before .sample .ensures .0) (c .if1 .taken) refl refl, c .before .before .before .sample .ensures .1)
+    (advanced-on _ _ _ _ _ _ _ _ _ _ _ (c .before .before .before .before .number .ensures) (c .before .before .before .sample .ensures .0) (c .if1 .taken) refl refl refl, c .before .before .before .sample .ensures .1)
 
 end-stretch-requires : tie.Need-end-stretch-requires
 end-stretch-requires c κs = let s = c .before .before .before .before .before .before .before .before .before .before .before .before .before .before .before .before in (s .pre .0, c .before .before .before .before .before .sample .ensures .1, s .pre .2, omega (arith, s .pre .3))
 
 returns-2 : tie.Need-returns-2
 returns-2 c =
-    (advanced-off _ _ _ _ _ _ _ _ _ _ _ _ (c .before .before .before .before .before .before .before .before .before .before .before .number .ensures) (c .before .before .before .before .before .before .before .before .before .before .sample .ensures .0) (c .before .before .before .before .before .before .before .if1 .left) refl (c .before .before .before .before .end-stretch .ensures .0), c .before .before .before .before .end-stretch .ensures .1)
+    let e = c .before .before .before .before .end-stretch .ensures in
+    (advanced-off _ _ _ _ _ _ _ _ _ _ _ (c .before .before .before .before .before .before .before .before .before .before .before .number .ensures) (c .before .before .before .before .before .before .before .before .before .before .sample .ensures .0) _ (c .before .before .before .before .before .before .before .if1 .left) (e .0), e .1)
 
 pub advance-spec : {M : Type 1} → statement M
 advance-spec =
