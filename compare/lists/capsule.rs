@@ -1,15 +1,12 @@
-// Writes crates/replay_capsule/stdin: what camlib's own functions, with document 01's numbers, answer to a fixed list of triangles and capsules.
+// Writes the capsules' lines of crates/replay_contacts/stdin: what camlib's own functions, with document 01's numbers, answer to a fixed list of triangles and capsules.
 #[path = "capsule_cases.rs"]
 #[allow(dead_code)]
 mod cases;
-#[allow(dead_code)]
-mod oracle {
-    include!(concat!(env!("OUT"), "/capsule-oracle.rs"));
-}
 use cases::*;
+use oracle_doc::flat::door::Triangle;
 fn bits(x: f64) -> String { format!("{:016x}", if x.is_nan() { 0x7ff8000000000000 } else { x.to_bits() }) }
 fn line(kind: u64, m: &[f64; 15]) -> (bool, String) {
-    let t = oracle::Tri { p: [[m[0], m[1], m[2]], [m[3], m[4], m[5]], [m[6], m[7], m[8]]] };
+    let t = Triangle::new(&std::array::from_fn(|k| m[k]));
     let a = t.max_in_capsule([m[9], m[10]], [m[11], m[12]], m[13], m[14]);
     let d = t.distance_xy([m[9], m[10]]);
     let mut s = format!("{}", (b'a' + kind as u8) as char);
