@@ -50,7 +50,7 @@ pub beyond-none : (level tolerance : Float) → BeyondLevel level tolerance (ofB
 unfolding ofBits
 beyond-none level tolerance v h = absurd (none-above v h)
 
-finite-of : (t d : Float) → lt t d ≡ true → le d threeMillion ≡ true → T (finite d)
+pub finite-of : (t d : Float) → lt t d ≡ true → le d threeMillion ≡ true → T (finite d)
 unfolding lt le eq ofBits
 finite-of t (fin s m e) p q = tt
 finite-of t (inf false) p q = absurd (no q)
@@ -61,7 +61,7 @@ finite-of (inf false) (inf true) p q = absurd (no p)
 finite-of (fin s m e) (inf true) p q = absurd (no p)
 
 -- infinity is not within a tolerance that is below a number
-infinite-not : (t d : Float) → T (finite d) → lt t d ≡ true → le (inf false) t ≡ false
+pub infinite-not : (t d : Float) → T (finite d) → lt t d ≡ true → le (inf false) t ≡ false
 unfolding lt le eq
 infinite-not nan d f p = refl
 infinite-not (inf true) d f p = refl
@@ -80,7 +80,7 @@ at-most-size true m e = by (m * up e * down e)
     by zero = tt
     by (suc a) = rw (lt-ltb 0 (suc a + suc a) (omega arith)) tt
 
-far-off : (t d x : Float) → T (finite d) → lt t d ≡ true → T (le d x) → le (absOf x) t ≡ false
+pub far-off : (t d x : Float) → T (finite d) → lt t d ≡ true → T (le d x) → le (absOf x) t ≡ false
 unfolding absOf
 far-off t d nan f p h = unfold lt le eq in refl
 far-off t d (inf s) f p h = infinite-not t d f p
