@@ -1,3 +1,4 @@
 pub mod Finding
 pub mod Directing
 pub mod Sweeping
+pub mod Starting

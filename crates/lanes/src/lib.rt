@@ -81,8 +81,45 @@ pub fn search_levels(
     Counted { rows, tally }
 }
 
-// The rows of a level taken, from the first to the last.
+// A level taken: its heights are asked from just under it where that decides nothing otherwise.
 fn search_level(
+    mesh: &[f64],
+    h: Header,
+    starts: &[u32],
+    members: &[u32],
+    boxes: &[f64],
+    marks: &mut [u32],
+    runs: &mut [f64],
+    p: Parameters,
+    axis: Axis,
+    level: Level,
+    s: Swept,
+) -> Swept
+    requires { ⌜ Askable (indexOf (now mesh) h (now starts) (now members) (now boxes)) × Marked (h .n) (s .stand .stamp) (now marks) × Coarse p axis (h .r) level
+        × (s .rows ≤ 4294967296) ⌝ }
+    ensures { λ e. ⌜ Takes (now (runs .entry)) s
+        (levelFound (heightUnder (indexOf (now (mesh .entry)) h (now (starts .entry)) (now (members .entry)) (now (boxes .entry)))) p axis (h .r) (from s) level)
+        (now (runs .exit)) e × Marked (h .n) (e .stand .stamp) (now (marks .exit)) ⌝ }
+{
+    let a = search::aim_of(p, h.r, level);
+    let g = start::header_for(mesh, h, boxes, a, level.z + p.stock_to_leave);
+    search_rows(
+        mesh,
+        g,
+        starts,
+        members,
+        boxes,
+        marks,
+        runs,
+        p,
+        axis,
+        level,
+        s,
+    )
+}
+
+// The rows of a level taken, from the first to the last, over the header's floor.
+fn search_rows(
     mesh: &[f64],
     h: Header,
     starts: &[u32],
