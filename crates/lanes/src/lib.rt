@@ -102,7 +102,17 @@ fn search_level(
         (now (runs .exit)) e × Marked (h .n) (e .stand .stamp) (now (marks .exit)) ⌝ }
 {
     let a = search::aim_of(p, h.r, level);
-    let g = start::header_for(mesh, h, boxes, a, level.z + p.stock_to_leave);
+    let l = search::lane_of(p, axis, h.r, level, 0);
+    let rows = rows::intervals(l.spread, p.stepover);
+    let g = start::header_for(
+        mesh,
+        h,
+        boxes,
+        a,
+        level.z + p.stock_to_leave,
+        rows,
+        l.samples,
+    );
     search_rows(
         mesh,
         g,

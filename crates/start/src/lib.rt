@@ -24,14 +24,32 @@ const LOWEST_START: f64 = -1048575.0;
 
 const HIGHEST_START: f64 = 1048576.0;
 
+// A look over a mesh with this many times as many triangles as a level has samples costs more than it saves.
+const FEW: usize = 256;
+
 // The header with which the heights of a level's rows are asked: its floor is raised to just under the level where that decides nothing otherwise, and
-// else as it was. The cuts lie at z.
-pub fn header_for(mesh: &[f64], h: Header, boxes: &[f64], a: Aim, z: f64) -> Header
+// else as it was. The cuts lie at z. A level of few samples, so many rows of so many each, is asked from the floor, so that small levels of a large part
+// do not each look over the whole of it.
+pub fn header_for(
+    mesh: &[f64],
+    h: Header,
+    boxes: &[f64],
+    a: Aim,
+    z: f64,
+    rows: usize,
+    samples: usize,
+) -> Header
     requires { ⌜ (length (now mesh) ≡ h .n * 9) × (length (now boxes) ≡ h .n * 5) × (h .n ≤ 65536) ⌝ }
     ensures { λ g. ⌜ (g ≡ withFloor h (g .floor))
         × ((starts members : List ℕ) → Serves (heightUnder (indexOf (now (mesh .entry)) h starts members (now (boxes .entry))))
         (heightUnder (indexOf (now (mesh .entry)) g starts members (now (boxes .entry)))) a z) ⌝ }
 {
+    if samples == 0 {
+        return h;
+    }
+    if rows < h.n / FEW / samples {
+        return h;
+    }
     let below = a.level - a.level_tolerance;
     let mut gap = MARGIN;
     for k in 0..8usize {
