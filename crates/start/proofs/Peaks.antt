@@ -24,9 +24,9 @@ use Rattle.capsule.specs.declared.Edge.{Edge}
 use Rattle.capsule.specs.Region.{inCapsule, offerOf, offeredAll}
 use Rattle.capsule.specs.Candidates.{each, cornerA, cornerB, cornerC, corners, edgeOf, edges, onEdge, pointOn, reached, squared, solved, circled, ends, sided, sides, crossed}
 use Rattle.capsule.specs.Candidates.{places, determinantOf, riseOf, pointOver, raised, planeOver, inner, candidates, highestIn}
-use Rattle.start.specs.Inside.{deepest, isLow, liesLow}
-use Rattle.start.proofs.Weights.{S, I}
-use Rattle.start.proofs.Tops.{deep, first, last, step, corner-under, edge-under, facet-under}
+use Rattle.tops.specs.Inside.{deepest, isLow, liesLow}
+use Rattle.tops.proofs.Weights.{S, I}
+use Rattle.tops.proofs.Tops.{deep, first, last, step, corner-under, edge-under, facet-under}
 
 -- ---- a contact, a list of points that are not above a height
 pub data Topped (f : Float) : Contact → Type 0 where

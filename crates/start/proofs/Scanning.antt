@@ -15,7 +15,8 @@ use Rattle.plane.specs.declared.Bounds.{Bounds}
 use Rattle.plane.specs.declared.Triangle.{Triangle}
 use Rattle.plane.specs.Mesh.{triangleOf}
 use Rattle.grid.specs.Boxes.{boxAt}
-use Rattle.start.specs.Inside.{margin, liesLow, Apart}
+use Rattle.tops.specs.Inside.{margin, liesLow}
+use Rattle.start.specs.Inside.{Apart}
 
 module _ (mesh boxes : List Float) (from : Float) where
   pub apart-high : (i : ℕ) (b : Bounds) → b ≡ boxAt boxes i → le (b .top) from ≡ false → Apart mesh boxes from i

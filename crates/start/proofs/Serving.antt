@@ -8,10 +8,11 @@ use lib.Dec.{T}
 use lib.Ieee.{Float, nan, inf, fin, binary64, sub, add, neg, lt, le, eq}
 use lib.Ieee.Scale.{finite}
 use Rattle.numbers.specs.Reals.{_⊕_, _⊖_, absOf, threeMillion}
-use Rattle.numbers.proofs.Branches.{no}
+use Rattle.numbers.proofs.Branches.{no, both-true}
 use Rattle.spans.proofs.Ranges.{sub-mono}
 use Rattle.bound.proofs.Order.{neg-finite, neg-neg, neg-turns}
 use Rattle.bound.proofs.Along.{sub-parts}
+use Rattle.tops.specs.Inside.{lowestStart, highestStart, isStart}
 use Rattle.grid.specs.declared.Header.{Header}
 use Rattle.grid.specs.Index.{indexOf}
 use Rattle.runs.specs.declared.Run.{Run}
@@ -57,8 +58,12 @@ module _ (mesh : List Float) (h : Header) (starts members : List ℕ) (boxes : L
   abbrev other : Run → Float
   other = heightUnder (indexOf mesh (withFloor h from) starts members boxes)
 
+  ends : (le lowestStart from ≡ true) × (le from highestStart ≡ true)
+  unfolding isStart
+  ends = both-true (le lowestStart from) (le from highestStart) (b .start)
+
   agree : (r : Run) → (other r ≡ under r) ⊎ ((le (other r) from ≡ true) × (le (under r) from ≡ true))
-  agree r = heights-agree mesh h starts members boxes from (subst T (sym (b .first)) tt) (subst T (sym (b .last)) tt) apart (b .over) r
+  agree r = heights-agree mesh h starts members boxes from (subst T (sym (ends .0)) tt) (subst T (sym (ends .1)) tt) apart (b .over) r
 
   cleared : (v : Float) (r : Run) → r .z ≡ z → le v from ≡ true → le v (r .z ⊕ a .tolerance) ≡ true
   cleared v r e l = le-goes-on v from (r .z ⊕ a .tolerance) l (ap (λ (x : Float). le from (x ⊕ a .tolerance)) e ∙ b .clears)

@@ -31,7 +31,8 @@ use Rattle.ask.specs.Ask.{atFloor, raisedTo, raisedBy}
 use Rattle.height.specs.Sweep.{sweep, patchFor, capsuleFor, heightOf, diskStep, capsuleWalk, sweepWalk}
 use Rattle.runs.specs.declared.Run.{Run}
 use Rattle.probe.specs.Probe.{heightUnder}
-use Rattle.start.specs.Inside.{margin, lowestStart, highestStart, liesLow, Apart, withFloor}
+use Rattle.tops.specs.Inside.{margin, lowestStart, highestStart, liesLow}
+use Rattle.start.specs.Inside.{Apart, withFloor}
 use Rattle.start.proofs.Peaks.{Topped, met, peak}
 
 -- ---- the order of numbers

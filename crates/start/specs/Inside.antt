@@ -1,40 +1,18 @@
 -- What the parts promise each other where a level's walks begin higher than at the floor; no answer is defined here.
-use mathlib.Core.Bool.{Bool, true, false, _&&_}
+use mathlib.Core.Bool.{true, false}
 use mathlib.Core.List.{List}
 use mathlib.Core.Logic.{_⊎_}
 use mathlib.Core.Path.{_≡_}
 use Prim.Native.Nat.{ℕ}
-use lib.Ieee.{Float, le, binary64, ofBits}
+use lib.Ieee.{Float, le}
 use Rattle.numbers.specs.Reals.{_⊕_, _⊖_, absOf}
-use Rattle.plane.specs.declared.Triangle.{Triangle}
 use Rattle.plane.specs.Mesh.{triangleOf}
+use Rattle.tops.specs.Inside.{margin, isStart, liesLow}
 use Rattle.grid.specs.declared.Header.{Header}
 use Rattle.grid.specs.Boxes.{boxAt}
 use Rattle.runs.specs.declared.Run.{Run}
 use Rattle.probe.specs.declared.Aim.{Aim}
 use Rattle.probe.specs.Probe.{clear}
-
--- 2^-15, more than a computed height can be above its triangle's highest corner
-abbrev pub margin : Float
-margin = ofBits binary64 0x3f00_0000_0000_0000
-
--- -2^20, which is below every coordinate; -2^20 + 1 and 2^20, between which a walk may begin
-abbrev pub deepest : Float
-deepest = ofBits binary64 0xc130_0000_0000_0000
-
-abbrev pub lowestStart : Float
-lowestStart = ofBits binary64 0xc12f_fffe_0000_0000
-
-abbrev pub highestStart : Float
-highestStart = ofBits binary64 0x4130_0000_0000_0000
-
--- Whether z is a height of at most `low`.
-unfoldable pub isLow : Float → Float → Bool
-isLow low z = le deepest z && le z low
-
--- Whether all corners of a triangle are.
-unfoldable pub liesLow : Float → Triangle → Bool
-liesLow low t = isLow low (t .az) && (isLow low (t .bz) && isLow low (t .cz))
 
 -- Triangle i is looked at by every walk whose best is at most `from`, or no height of it is above `from`.
 abbrev pub Apart : List Float → List Float → Float → ℕ → Type 0
@@ -47,8 +25,7 @@ UnderLevel level tolerance from = (v : Float) → le v from ≡ true → le (abs
 -- What a number has to be so that the walks of a level, whose cuts lie at z, may begin there: not under the floor, off the level, and clear.
 pub record Begins (floor : Float) (a : Aim) (z from : Float) : Type 0 where
   pub over : le floor from ≡ true
-  pub first : le lowestStart from ≡ true
-  pub last : le from highestStart ≡ true
+  pub start : isStart from ≡ true
   pub clears : le from (z ⊕ a .tolerance) ≡ true
   pub off : UnderLevel (a .level) (a .«level_tolerance») from
 

@@ -8,21 +8,10 @@ ghost use mathlib.Core.List.{List};
 ghost use Rattle.numbers.specs.Reals.{_⊖_};
 ghost use Rattle.grid.specs.Index.{indexOf};
 ghost use Rattle.probe.specs.Probe.{heightUnder};
-ghost use Rattle.start.specs.Inside.{margin, isLow, liesLow, Apart, UnderLevel, Begins, withFloor, Serves};
+ghost use Rattle.tops.specs.Inside.{margin};
+ghost use Rattle.start.specs.Inside.{Apart, UnderLevel, Begins, withFloor, Serves};
 use grid::Header;
-use plane::Triangle;
 use probe::Aim;
-
-// 2^-15: a computed height is less than that above its triangle's highest corner.
-const MARGIN: f64 = 0.000030517578125;
-
-// -2^20, which is below every coordinate.
-const DEEPEST: f64 = -1048576.0;
-
-// Between these a walk may begin.
-const LOWEST_START: f64 = -1048575.0;
-
-const HIGHEST_START: f64 = 1048576.0;
 
 // A look over a mesh with this many times as many triangles as a level has samples costs more than it saves.
 const FEW: usize = 256;
@@ -51,7 +40,7 @@ pub fn header_for(
         return h;
     }
     let below = a.level - a.level_tolerance;
-    let mut gap = MARGIN;
+    let mut gap = tops::MARGIN;
     for k in 0..8usize {
         if may_begin(mesh, h, boxes, a, z, below - gap) {
             return with_floor(h, below - gap);
@@ -102,7 +91,7 @@ fn begins(floor: f64, a: Aim, z: f64, from: f64) -> bool
     if !(floor <= from) {
         return false;
     }
-    from >= LOWEST_START && from <= HIGHEST_START
+    tops::is_start(from)
 }
 
 // Whether nothing that is at most `from` is within the tolerance of a level; a false says nothing.
@@ -121,7 +110,7 @@ fn are_apart(mesh: &[f64], boxes: &[f64], n: usize, from: f64) -> bool
     requires { ⌜ (length (now mesh) ≡ n * 9) × (length (now boxes) ≡ n * 5) × (n ≤ 65536) ⌝ }
     ensures { λ r. ⌜ (r ≡ true → (i : ℕ) → Apart (now (mesh .entry)) (now (boxes .entry)) from i) ⌝ }
 {
-    let low = from - MARGIN;
+    let low = from - tops::MARGIN;
     for i in 0..n {
         if !is_apart(mesh, boxes, i, low, from) {
             return false;
@@ -137,27 +126,7 @@ fn is_apart(mesh: &[f64], boxes: &[f64], i: usize, low: f64, from: f64) -> bool
 {
     let b = grid::box_at(boxes, i);
     if b.top <= from {
-        return lies_low(low, plane::triangle_at(mesh, i));
+        return tops::lies_low(low, plane::triangle_at(mesh, i));
     }
     true
-}
-
-// Whether all corners of a triangle are at most `low`.
-fn lies_low(low: f64, t: Triangle) -> bool
-    ensures { λ r. ⌜ r ≡ liesLow low t ⌝ }
-{
-    if is_low(low, t.az) {
-        if is_low(low, t.bz) {
-            return is_low(low, t.cz);
-        }
-        return false;
-    }
-    false
-}
-
-// Whether z is a height of at most `low`.
-fn is_low(low: f64, z: f64) -> bool
-    ensures { λ r. ⌜ r ≡ isLow low z ⌝ }
-{
-    z >= DEEPEST && z <= low
 }

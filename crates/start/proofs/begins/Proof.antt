@@ -8,12 +8,11 @@ returns-4 : tie.Need-returns-4
 returns-4 c e =
     record {
       over = not-false _ (c .before .if3 .left);
-      first = c .if4 .taken;
-      last = e;
+      start = sym (c .is-start .ensures) ∙ e;
       clears = not-false _ (c .before .before .if2 .left);
       off = c .before .before .before .before .before .is-under .ensures (not-false _ (c .before .before .before .before .if1 .left));
     }
 
 pub begins-spec : {M : Type 1} → statement M
 begins-spec =
-    tie.close (tie.spec (λ c κs. tt) (λ c e. absurd (no e)) (λ c e. absurd (no e)) (λ c e. absurd (no e)) returns-4 (λ c e. absurd (no (sym (c .if4 .left) ∙ e))))
+    tie.close (tie.spec (λ c κs. tt) (λ c e. absurd (no e)) (λ c e. absurd (no e)) (λ c e. absurd (no e)) (λ c κs. tt) returns-4)

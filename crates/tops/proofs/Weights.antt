@@ -15,8 +15,8 @@ use Rattle.spans.proofs.Ranges.{finite-between, sub-mono}
 use Rattle.spans.proofs.Sizes.{by-test, not-below}
 use Rattle.bound.proofs.Order.{le-trans, sub-turns}
 use Rattle.bound.proofs.Roots.{lt-le}
-use Rattle.start.proofs.Fractions.{Held, held-more, held-sub, floor, held-floor}
-use Rattle.start.proofs.Products.{G, H, summed, hardly}
+use Rattle.tops.proofs.Fractions.{Held, held-more, held-sub, floor, held-floor}
+use Rattle.tops.proofs.Products.{G, H, summed, hardly}
 
 -- -1e-12, 1 and 2
 abbrev pub S : Float

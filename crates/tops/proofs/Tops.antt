@@ -12,9 +12,9 @@ use lib.Ieee.Scale.{finite}
 use Rattle.numbers.specs.Reals.{_⊕_, _⊖_, _⊗_}
 use Rattle.spans.proofs.Signed.{upper, lower, le→parts, parts→le}
 use Rattle.spans.proofs.Ranges.{finite-between}
-use Rattle.start.proofs.Fractions.{Held, held-more, held-add, held-sub, held-part, floor, held-floor}
-use Rattle.start.proofs.Products.{G, H}
-use Rattle.start.proofs.Weights.{S, I, facet}
+use Rattle.tops.proofs.Fractions.{Held, held-more, held-add, held-sub, held-part, floor, held-floor}
+use Rattle.tops.proofs.Products.{G, H}
+use Rattle.tops.proofs.Weights.{S, I, facet}
 
 -- ---- order beside fractions
 le-above : (x y : Float) (h k o i j : ℕ) → T (finite x) → Held h k o i j y → T (le x y) → h * upper x + o * den x ≤ k * den x + h * lower x

@@ -12,7 +12,7 @@ use lib.Ieee.Positive.{den, den-pos}
 use lib.Ieee.Scale.{finite}
 use Rattle.spans.proofs.Signed.{upper, lower}
 use Rattle.bound.proofs.Order.{is-mul}
-use Rattle.start.proofs.Fractions.{Held, held-of, held-add}
+use Rattle.tops.proofs.Fractions.{Held, held-of, held-add}
 
 -- ---- the product of (r - 2) / g + x and (t - m) / h - y, in whole numbers
 module _ (u l d r x a b c t y g h m : ℕ) (p : g * u + 2 * d ≡ r * d + g * l + x) (q : h * a + m * c + y ≡ t * c + h * b) where

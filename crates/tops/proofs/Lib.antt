@@ -1,0 +1,4 @@
+pub mod Fractions
+pub mod Products
+pub mod Weights
+pub mod Tops
