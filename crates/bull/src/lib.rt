@@ -21,7 +21,7 @@ use touch::Gradient;
 use touch::Rest;
 use touch::Stretch;
 
-mod cap;
+pub mod cap;
 
 const MINUS_ONE: f64 = -1.0;
 

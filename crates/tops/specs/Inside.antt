@@ -1,5 +1,5 @@
 -- What lies so low that no candidate of it is above a height; no answer is defined here.
-use mathlib.Core.Bool.{Bool, true, false, cond, _&&_}
+use mathlib.Core.Bool.{Bool, true, cond, _&&_}
 use lib.Ieee.{Float, lt, le, binary64, ofBits}
 use Rattle.numbers.specs.Reals.{_⊖_}
 use Rattle.plane.specs.declared.Triangle.{Triangle}

@@ -3,6 +3,13 @@ use Rattle.tops.specs.Inside.{isApart}
 use Rattle.tops.proofs.is_apart.Statement.{statement}
 use Rattle.tops.proofs.is_apart.Tie as tie
 
-pub is-apart-spec : {M : Type 1} → statement M
+returns : tie.Need-returns
 unfolding isApart
-is-apart-spec = tie.close (tie.spec (λ c κs. tt) (λ c. search branches) (λ c. search branches))
+returns c = search branches
+
+returns-2 : tie.Need-returns-2
+unfolding isApart
+returns-2 c = search branches
+
+pub is-apart-spec : {M : Type 1} → statement M
+is-apart-spec = tie.close (tie.spec (λ c κs. tt) returns returns-2)

@@ -3,6 +3,13 @@ use Rattle.tops.specs.Inside.{isParted}
 use Rattle.tops.proofs.is_parted.Statement.{statement}
 use Rattle.tops.proofs.is_parted.Tie as tie
 
-pub is-parted-spec : {M : Type 1} → statement M
+returns : tie.Need-returns
 unfolding isParted
-is-parted-spec = tie.close (tie.spec (λ c κs. tt) (λ c κs. tt) (λ c. search branches) (λ c. search branches))
+returns c = search branches
+
+returns-2 : tie.Need-returns-2
+unfolding isParted
+returns-2 c = search branches
+
+pub is-parted-spec : {M : Type 1} → statement M
+is-parted-spec = tie.close (tie.spec (λ c κs. tt) (λ c κs. tt) returns returns-2)

@@ -1,0 +1,5 @@
+pub mod Lowered
+pub mod Resting
+pub mod Under
+pub mod Same
+pub mod Parted
