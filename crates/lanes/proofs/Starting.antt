@@ -93,6 +93,6 @@ module _ (mesh : List Float) (h : Header) (starts members : List ℕ) (boxes : L
       → Takes t s (levelFound (heightUnder (indexOf mesh g starts members boxes)) p axis (g .r) (from s) l) t′ s′ → Takes t s (levelFound (heightUnder (indexOf mesh h starts members boxes)) p axis (h .r) (from s) l) t′ s′
   level-there p axis l a t s t′ s′ d v q =
       let e : levelFound (heightUnder (indexOf mesh g starts members boxes)) p axis (g .r) (from s) l ≡ levelFound (heightUnder (indexOf mesh h starts members boxes)) p axis (h .r) (from s) l =
-        ap (λ (r : Float). levelFound (heightUnder (indexOf mesh g starts members boxes)) p axis r (from s) l) same-r
-        ∙ level-same _ _ p axis (h .r) l (from s) (subst (λ (b : Aim). Serves (heightUnder (indexOf mesh h starts members boxes)) (heightUnder (indexOf mesh g starts members boxes)) b (l .z ⊕ p .«stock_to_leave»)) d v) in
+      ap (λ (r : Float). levelFound (heightUnder (indexOf mesh g starts members boxes)) p axis r (from s) l) same-r
+      ∙ level-same _ _ p axis (h .r) l (from s) (subst (λ (b : Aim). Serves (heightUnder (indexOf mesh h starts members boxes)) (heightUnder (indexOf mesh g starts members boxes)) b (l .z ⊕ p .«stock_to_leave»)) d v) in
       subst (λ (f : Found). Takes t s f t′ s′) e q

@@ -21,5 +21,16 @@ returns-2 : tie.Need-returns-2
 unfolding shapeStep
 returns-2 c = of-kind _ _ _ _ _ _ _ _ (c .before .before .shape2 .given .1) (c .raise-tool .ensures)
 
+returns-3 : tie.Need-returns-3
+unfolding shapeStep
+returns-3 c = of-kind _ _ _ _ _ _ _ _ (c .before .before .shape3 .given .1) (c .raise-corners .ensures)
+
+returns-4 : tie.Need-returns-4
+unfolding shapeStep
+returns-4 c = of-kind _ _ _ _ _ _ _ _ (c .before .before .shape4 .given .1) (c .raise-from .ensures)
+
 pub raise-spec : {M : Type 1} → statement M
-raise-spec = tie.close (tie.spec (λ c. search needs) (λ c κs. search needs) (λ c. search needs) (λ c κs. search needs) returns returns-2)
+raise-spec =
+    tie.close
+    (tie.spec (λ c. search needs) (λ c κs. search needs) (λ c. search needs) (λ c κs. search needs) (λ c. search needs) (λ c κs. search needs)
+    (λ c. search needs) (λ c κs. search needs) returns returns-2 returns-3 returns-4)
