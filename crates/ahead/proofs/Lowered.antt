@@ -6,7 +6,7 @@ use lib.Dec.{T}
 use lib.Ieee.{Float, nan, inf, fin, binary64, add, sub, neg, lt, le, eq, fits, isNan}
 use lib.Ieee.Scale.{finite}
 use Rattle.numbers.specs.Reals.{_⊖_, f0, minOf}
-use Rattle.numbers.specs.Hypot.{infinite, hypotOf}
+use Rattle.roots.specs.Hypot.{infinite, hypotOf}
 use Rattle.numbers.proofs.Branches.{either, by-test, no}
 use Rattle.numbers.proofs.Strict.{lt-never-same}
 use Rattle.spans.proofs.Ranges.{sub-mono}

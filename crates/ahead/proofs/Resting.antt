@@ -12,7 +12,7 @@ use lib.Ieee.Fits.{add-fits}
 use lib.Ieee.Positive.{den, den-pos, num, positive}
 use lib.Ieee.Scale.{finite}
 use Rattle.numbers.specs.Reals.{_⊕_, _⊖_, _⊗_, _⊘_, f0, f1, noSlope}
-use Rattle.numbers.specs.Root.{rootOf, rootOfUnits, nearestRoot, wholeRoot}
+use Rattle.roots.specs.Root.{rootOf, rootOfUnits, nearestRoot, wholeRoot}
 use Rattle.numbers.proofs.Branches.{either, no}
 use Rattle.touch.specs.declared.Gradient.{Gradient}
 use Rattle.touch.specs.declared.Rest.{Rest}

@@ -7,7 +7,7 @@ use lib.Ieee.{Float, nan, inf, fin, binary64, sub, add, neg, sum, round, lt, le,
 use lib.Ieee.Fits.{add-fits, sub-fits}
 use lib.Ieee.Scale.{finite}
 use Rattle.numbers.specs.Reals.{_⊕_, _⊖_, _⊗_, _⊘_, f0, f1, tiny, minusSlack, minusSlack-is, absOf, minOf}
-use Rattle.numbers.specs.Hypot.{hypotOf}
+use Rattle.roots.specs.Hypot.{hypotOf}
 use Rattle.numbers.proofs.Branches.{either, both-true}
 use Rattle.plane.specs.declared.Touch.{Touch}
 use Rattle.plane.specs.declared.Triangle.{Triangle}

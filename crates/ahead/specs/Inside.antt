@@ -2,7 +2,7 @@
 use mathlib.Core.Bool.{cond}
 use lib.Ieee.{Float, le}
 use Rattle.numbers.specs.Reals.{_⊕_, _⊖_, _⊗_, maxOf}
-use Rattle.numbers.specs.Hypot.{hypotOf}
+use Rattle.roots.specs.Hypot.{hypotOf}
 use Rattle.plane.specs.declared.Triangle.{Triangle}
 use Rattle.bull.specs.declared.Bull.{Bull}
 use Rattle.bull.specs.Bull.{bullProfile}

@@ -36,7 +36,7 @@ fn vertex(k: Bull, far: f64, x: f64, y: f64, z: f64, b: f64) -> f64
     if far <= dx * dx + dy * dy {
         return b;
     }
-    over(k, z, numbers::hypot(dx, dy), b)
+    over(k, z, roots::hypot(dx, dy), b)
 }
 
 // The same of one at the distance d from the axis.

@@ -8,7 +8,7 @@ use lib.IntN.{pos}
 use lib.Ieee.{Float, nan, inf, fin, binary64, unlike, sum, round, add, sub, mul, neg, lt, le, fits, ofBits}
 use lib.Ieee.Scale.{finite}
 use Rattle.numbers.specs.Reals.{_⊕_, _⊖_, _⊗_, f0, f1, million, minOf, maxOf}
-use Rattle.numbers.specs.Hypot.{countOf}
+use Rattle.roots.specs.Hypot.{countOf}
 use Rattle.numbers.proofs.Branches.{either}
 use Rattle.spans.proofs.Ranges.{finite-between, sub-mono}
 use Rattle.spans.proofs.Sizes.{by-test, either-of, le-self, not-below, max-least}

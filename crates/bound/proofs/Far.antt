@@ -13,13 +13,13 @@ use lib.Ieee.{Float, nan, inf, fin, binary64, up, down, round, mul, div, neg, lt
 use lib.Ieee.Exact.{HasValue}
 use lib.Ieee.Scale.{finite, grid, round-val, round-under}
 use Rattle.numbers.specs.Reals.{_⊕_, _⊗_, _⊘_, f0, absOf}
-use Rattle.numbers.specs.Hypot.{infinite, countOf, hypotOf}
+use Rattle.roots.specs.Hypot.{infinite, countOf, hypotOf}
 use Rattle.numbers.proofs.Branches.{no}
-use Rattle.numbers.proofs.Distances.{hypot-least, hypot-between}
-use Rattle.numbers.proofs.Packing.{count-of-value}
-use Rattle.numbers.proofs.Scales.{square-power}
+use Rattle.roots.proofs.Distances.{hypot-least, hypot-between}
+use Rattle.roots.proofs.Packing.{count-of-value}
+use Rattle.roots.proofs.Scales.{square-power}
 use Rattle.numbers.proofs.Signs.{under-of-le}
-use Rattle.numbers.proofs.Squares.{square-twice}
+use Rattle.roots.proofs.Squares.{square-twice}
 use Rattle.spans.specs.Mesh.{isRadius}
 use Rattle.spans.proofs.Signed.{parts→le}
 use Rattle.spans.proofs.Ranges.{finite-between}

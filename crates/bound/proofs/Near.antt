@@ -13,9 +13,9 @@ use lib.Ieee.Exact.{HasValue}
 use lib.Ieee.Fits.{down-pos}
 use lib.Ieee.Scale.{finite, grid, round-same, round-val, round-under}
 use Rattle.numbers.specs.Reals.{_⊕_, _⊗_, minus1, absOf, minOf}
-use Rattle.numbers.specs.Hypot.{countOf, hypotOf}
+use Rattle.roots.specs.Hypot.{countOf, hypotOf}
 use Rattle.numbers.proofs.Branches.{either, no}
-use Rattle.numbers.proofs.Distances.{count-is, hypot-under}
+use Rattle.roots.proofs.Distances.{count-is, hypot-under}
 use Rattle.numbers.proofs.Signs.{under-of-le}
 use Rattle.spans.specs.Mesh.{isRadius}
 use Rattle.spans.proofs.Ranges.{finite-between}

@@ -12,11 +12,11 @@ use lib.Ieee.Fits.{up-pos, down-pos}
 use lib.Ieee.Scale.{finite}
 use lib.Ieee.Positive.{positive}
 use Rattle.numbers.specs.Reals.{f0, minOf, maxOf}
-use Rattle.numbers.specs.Root.{wholeRoot, rootOf}
-use Rattle.numbers.specs.Hypot.{countOf, evenRoot, hypotOfCount, hypotOf}
-use Rattle.numbers.proofs.Between.{root-nearest}
-use Rattle.numbers.proofs.Monotone.{root-mono}
-use Rattle.numbers.proofs.Distances.{count-le, counts-mono, hypot-finite}
+use Rattle.roots.specs.Root.{wholeRoot, rootOf}
+use Rattle.roots.specs.Hypot.{countOf, evenRoot, hypotOfCount, hypotOf}
+use Rattle.roots.proofs.Between.{root-nearest}
+use Rattle.roots.proofs.Monotone.{root-mono}
+use Rattle.roots.proofs.Distances.{count-le, counts-mono, hypot-finite}
 use Rattle.numbers.proofs.Signs.{le→under}
 use Rattle.spans.proofs.Signed.{le→parts, parts→le}
 use Rattle.spans.proofs.Sizes.{by-test, either-of, le-self, not-below, max-least, f0-is}

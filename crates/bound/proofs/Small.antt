@@ -7,9 +7,9 @@ use lib.IntN.{pos}
 use lib.Ieee.{Float, nan, inf, fin, binary64, size, odd, units, sum, round, add, sub, mul, neg, lt, le, isNan, ofBits}
 use lib.Ieee.Scale.{finite}
 use Rattle.numbers.specs.Reals.{_⊕_, _⊖_, _⊗_, f0, million, minOf, maxOf}
-use Rattle.numbers.specs.Root.{rootOf, rootOfUnits, nearestRoot, wholeRoot}
-use Rattle.numbers.specs.Hypot.{infinite, countOf, evenRoot, hypotOfCount, hypotOf}
-use Rattle.numbers.proofs.Distances.{hypot-counts}
+use Rattle.roots.specs.Root.{rootOf, rootOfUnits, nearestRoot, wholeRoot}
+use Rattle.roots.specs.Hypot.{infinite, countOf, evenRoot, hypotOfCount, hypotOf}
+use Rattle.roots.proofs.Distances.{hypot-counts}
 use Rattle.spans.specs.Mesh.{isCoordinate, isRadius}
 use Rattle.spans.proofs.Ranges.{finite-between, Coordinate, coordinate, million-is, two, minus-two, extent-finite, extent-high, extent-low}
 use Rattle.spans.proofs.Sizes.{by-test, either-of, le-self, not-below, Radius, radius, f0-is}

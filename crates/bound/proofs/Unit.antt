@@ -15,7 +15,7 @@ use lib.Ieee.Fits.{round-fits, add-fits, sub-fits, neg-fits}
 use lib.Ieee.Scale.{finite}
 use lib.Ieee.Positive.{den, den-pos}
 use Rattle.numbers.specs.Reals.{_⊕_, _⊖_, _⊗_, f0, f1}
-use Rattle.numbers.specs.Golden.{phi}
+use Rattle.golden.specs.Phi.{phi}
 use Rattle.golden.specs.Search.{lower, upper}
 use Rattle.spans.proofs.Signed as signed
 use Rattle.spans.proofs.Signed.{le→parts, parts→le, Is, rounded, is-le, is-sub, round-neg}

@@ -4,7 +4,7 @@ use mathlib.Core.Path.{_≡_}
 use lib.Dec.{T}
 use lib.Ieee.{Float, binary64, lt, le, fits}
 use Rattle.numbers.specs.Reals.{_⊕_, _⊗_, f0}
-use Rattle.numbers.specs.Hypot.{hypotOf}
+use Rattle.roots.specs.Hypot.{hypotOf}
 
 -- Of the numbers from low to high the one that is nearest to 0: 0 itself where it lies among them.
 unfoldable pub nearerOf : Float → Float → Float

@@ -8,8 +8,8 @@ use lib.Ieee.{Float, nan, inf, fin, binary64, sub, neg, add, div, lt, le, eq, fi
 use lib.Ieee.Fits.{mul-fits}
 use lib.Ieee.Scale.{finite}
 use Rattle.numbers.specs.Reals.{_⊖_, _⊗_, _⊘_, f0, minOf}
-use Rattle.numbers.specs.Root.{rootOf}
-use Rattle.numbers.specs.Hypot.{hypotOf}
+use Rattle.roots.specs.Root.{rootOf}
+use Rattle.roots.specs.Hypot.{hypotOf}
 use Rattle.numbers.proofs.Branches.{taken, left, either, by-test, both-true, no}
 use Rattle.plane.specs.declared.Contact.{Contact}
 use Rattle.plane.specs.declared.Contact.the-variants.{Nothing, Height}

@@ -9,7 +9,7 @@ use lib.Ieee.{Float, binary64, lt, le, eq, ofBits}
 use lib.Ieee.Scale.{finite}
 use lib.Ieee.Positive.{den, den-pos}
 use Rattle.numbers.specs.Reals.{_⊕_, _⊖_, _⊗_, f0, minus1, minOf}
-use Rattle.numbers.specs.Hypot.{hypotOf}
+use Rattle.roots.specs.Hypot.{hypotOf}
 use Rattle.spans.specs.Mesh.{isRadius}
 use Rattle.spans.proofs.Signed.{upper, lower, is-le, is-sub}
 use Rattle.spans.proofs.Ranges.{finite-between, sub-mono, zero-is}
@@ -22,8 +22,7 @@ use Rattle.bound.proofs.Near.{near-none, min-under}
 use Rattle.bull.specs.declared.Bull.{Bull}
 use Rattle.bull.specs.declared.Way.{Way}
 use Rattle.bull.specs.Bull.{bullProfile}
-use Rattle.bull.specs.Inside.{wayAt}
-use Rattle.bull.specs.Inside.{FlatTo}
+use Rattle.bull.specs.Inside.{wayAt, FlatTo}
 
 holds : (b : Bool) → b ≡ true → T b
 holds b e = rw e tt

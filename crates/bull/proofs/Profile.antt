@@ -9,7 +9,7 @@ use lib.Ieee.{Float, fin, binary64, sum, round, add, sub, mul, neg, lt, le, eq, 
 use lib.Ieee.Fits.{sub-fits, mul-fits}
 use lib.Ieee.Scale.{finite}
 use Rattle.numbers.specs.Reals.{_⊕_, _⊖_, _⊗_, f0, maxOf}
-use Rattle.numbers.specs.Root.{rootOf}
+use Rattle.roots.specs.Root.{rootOf}
 use Rattle.numbers.proofs.Branches.{left, no}
 use Rattle.spans.proofs.Ranges.{finite-between, sub-mono, two, minus-two}
 use Rattle.spans.proofs.Sizes.{by-test, either-of, le-self, not-below, max-least}

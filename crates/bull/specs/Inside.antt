@@ -2,13 +2,13 @@
 use mathlib.Core.Bool.{Bool, true, cond, _&&_}
 use lib.Ieee.{Float, le}
 use Rattle.numbers.specs.Reals.{_⊕_, _⊖_, _⊗_, _⊘_, f0, minOf, maxOf}
-use Rattle.numbers.specs.Root.{rootOf}
+use Rattle.roots.specs.Root.{rootOf}
 use Rattle.touch.specs.declared.Edge.{Edge}
 use Rattle.spans.specs.Mesh.{isCoordinate, isRadius}
 use Rattle.caps.specs.Inside.{highOn, leastOn, tameOn}
 use Rattle.bull.specs.declared.Bull.{Bull}
 use Rattle.bull.specs.Bull.{bullProfile}
-use Rattle.numbers.specs.Hypot.{hypotOf}
+use Rattle.roots.specs.Hypot.{hypotOf}
 use Rattle.bull.specs.declared.Way.{Way}
 use mathlib.Core.Path.{_≡_}
 

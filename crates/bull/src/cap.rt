@@ -16,7 +16,7 @@ pub fn base_of(k: Bull) -> f64
     if !spans::is_radius(rc) {
         return 0.0 / 0.0;
     }
-    numbers::min(rc - numbers::root(rc * rc), 0.0)
+    numbers::min(rc - roots::root(rc * rc), 0.0)
 }
 
 // Whether the tip over a vertex at the height z is at most b.

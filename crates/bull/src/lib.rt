@@ -9,8 +9,7 @@ ghost use Rattle.touch.specs.Touch.{facingOf};
 ghost use Rattle.golden.specs.Search.{rises, goldenStart, goldenStep, goldenMax};
 ghost use Rattle.caps.specs.Inside.{InnerOf, Alike};
 ghost use Rattle.bull.specs.Inside.{wayOf, wayAt, baseOf, capOf, FlatTo, Begun};
-ghost use Rattle.bull.specs.Bull.{bullProfile, bullOver, bullVertex, bullVertices, bullAt, bullStretch, bestSoFar, tooLow, bullEdge, bullEdges};
-ghost use Rattle.bull.specs.Bull.{bullSloped, bullRest, bullFacet, bullContactAbove, bullContact};
+ghost use Rattle.bull.specs.Bull.{bullProfile, bullOver, bullVertex, bullVertices, bullAt, bullStretch, bestSoFar, tooLow, bullEdge, bullEdges, bullSloped, bullRest, bullFacet, bullContactAbove, bullContact};
 use golden::Golden;
 use plane::Contact;
 use plane::Touch;
@@ -76,7 +75,7 @@ pub fn bull_profile(d: f64, r: f64, rc: f64) -> f64
     if s <= 0.0 {
         0.0
     } else {
-        rc - numbers::root(numbers::max(rc * rc - s * s, 0.0))
+        rc - roots::root(numbers::max(rc * rc - s * s, 0.0))
     }
 }
 
@@ -103,7 +102,7 @@ fn vertex(k: Bull, base: f64, far: f64, n: u32, x: f64, y: f64, z: f64, c: Conta
     if dx * dx + dy * dy >= far {
         return c;
     }
-    above::offer(c, over(k, n, z, numbers::hypot(dx, dy)))
+    above::offer(c, over(k, n, z, roots::hypot(dx, dy)))
 }
 
 // The candidate of corner n at the distance d from the axis.
@@ -331,7 +330,7 @@ fn at(k: Bull, w: Way, flat: f64, t: f64) -> f64
     if dx * dx + dy * dy <= flat {
         return z - 0.0;
     }
-    let d = numbers::min(numbers::hypot(dx, dy), r);
+    let d = numbers::min(roots::hypot(dx, dy), r);
     z - bull_profile(d, r, rc)
 }
 
@@ -357,7 +356,7 @@ pub fn rest(k: Bull, g: Gradient) -> Rest
             drop: 0.0,
         }
     } else {
-        sloped(k, g, numbers::root(1.0 + steep * steep))
+        sloped(k, g, roots::root(1.0 + steep * steep))
     }
 }
 

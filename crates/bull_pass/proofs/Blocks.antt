@@ -12,10 +12,10 @@ use lib.Ieee.Fits.{sub-fits, mul-fits}
 use lib.Ieee.Scale.{finite}
 use lib.Ieee.Positive.{den, den-pos}
 use Rattle.numbers.specs.Reals.{_⊕_, _⊖_, _⊗_, f0, minOf, maxOf}
-use Rattle.numbers.specs.Root.{rootOf}
-use Rattle.numbers.specs.Hypot.{countOf, hypotOf}
+use Rattle.roots.specs.Root.{rootOf}
+use Rattle.roots.specs.Hypot.{countOf, hypotOf}
 use Rattle.numbers.proofs.Branches.{either, left, taken, no, both-true}
-use Rattle.numbers.proofs.Distances.{hypot-counts}
+use Rattle.roots.proofs.Distances.{hypot-counts}
 use Rattle.spans.specs.Mesh.{isCoordinate}
 use Rattle.spans.proofs.Signed.{upper, lower, is-le, is-sub}
 use Rattle.spans.proofs.Ranges.{finite-between, sub-mono, zero-is, two, minus-two}

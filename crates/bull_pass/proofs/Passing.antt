@@ -9,8 +9,8 @@ use lib.Ieee.{Float, nan, inf, fin, binary64, add, sub, mul, div, neg, lt, le, e
 use lib.Ieee.Fits.{div-fits}
 use lib.Ieee.Scale.{finite}
 use Rattle.numbers.specs.Reals.{_⊕_, _⊖_, _⊗_, _⊘_, f0, f1, f2, f4, minOf, maxOf}
-use Rattle.numbers.specs.Root.{rootOf}
-use Rattle.numbers.specs.Hypot.{hypotOf}
+use Rattle.roots.specs.Root.{rootOf}
+use Rattle.roots.specs.Hypot.{hypotOf}
 use Rattle.numbers.proofs.Branches.{either, left, taken, no, both-true}
 use Rattle.plane.specs.declared.Triangle.{Triangle}
 use Rattle.plane.specs.declared.Touch.{Touch}

@@ -4,8 +4,8 @@ use mathlib.Core.Bool.{Bool, true, false, cond, _&&_, _||_}
 use Prim.Native.Nat.{ℕ, zero, suc}
 use lib.Ieee.{Float, lt, le}
 use Rattle.numbers.specs.Reals.{_⊕_, _⊖_, _⊗_, _⊘_, f0, f1, f2, minusSlack, maxOf, minOf}
-use Rattle.numbers.specs.Root.{rootOf}
-use Rattle.numbers.specs.Hypot.{hypotOf}
+use Rattle.roots.specs.Root.{rootOf}
+use Rattle.roots.specs.Hypot.{hypotOf}
 use Rattle.plane.specs.declared.Triangle.{Triangle}
 use Rattle.touch.specs.declared.Edge.{Edge}
 use Rattle.touch.specs.declared.Gradient.{Gradient}

@@ -5,10 +5,7 @@ ghost use lib.Ieee.{le};
 ghost use Rattle.numbers.specs.Reals.{_⊕_, _⊖_, f0};
 ghost use Rattle.spans.specs.Mesh.{isCoordinate};
 ghost use Rattle.touch.specs.Touch.{facingOf};
-ghost use Rattle.bull_pass.specs.Inside.{stripOf, axisFair, tipKept, tipFair, cutterFair, fairOf, sideTame, tameOf, leastOf, loweredOf};
-ghost use Rattle.bull_pass.specs.Inside.{underOf, pointBlock, edgeBlock, cornersPass, edgeFair, pieceUnder};
-ghost use Rattle.bull_pass.specs.Inside.{marchStep, edgePasses, edgesPass, rangeOf, weightOf, plainProducts, plainRange, outsideOf, rangesMiss};
-ghost use Rattle.bull_pass.specs.Inside.{productsMiss, missesOf, restsMiss, facetPasses, passesOf};
+ghost use Rattle.bull_pass.specs.Inside.{stripOf, axisFair, tipKept, tipFair, cutterFair, fairOf, sideTame, tameOf, leastOf, loweredOf, underOf, pointBlock, edgeBlock, cornersPass, edgeFair, pieceUnder, marchStep, edgePasses, edgesPass, rangeOf, weightOf, plainProducts, plainRange, outsideOf, rangesMiss, productsMiss, missesOf, restsMiss, facetPasses, passesOf};
 use bull::Bull;
 use plane::Triangle;
 use reach::Chord;
@@ -117,7 +114,7 @@ fn height_fair(m: Chord, lo: f64, hi: f64) -> bool
 fn cutter_fair(r: f64, rc: f64) -> bool
     ensures { λ b. ⌜ b ≡ cutterFair r rc ⌝ }
 {
-    spans::is_radius(r) && (spans::is_radius(rc) && numbers::root(rc * rc) <= rc)
+    spans::is_radius(r) && (spans::is_radius(rc) && roots::root(rc * rc) <= rc)
 }
 
 // Two coordinates.
@@ -177,7 +174,7 @@ fn least(k: Strip, b: Block) -> f64
     let high = b.high_y - k.low_y;
     let u = bound::nearer(b.low_x - k.high_x, b.high_x - k.low_x);
     let v = bound::nearer(low, high);
-    numbers::hypot(u, v)
+    roots::hypot(u, v)
 }
 
 // Whether nothing in the block gives a tip above the strip's height.

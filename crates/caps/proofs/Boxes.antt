@@ -7,9 +7,9 @@ use lib.IntN.{pos}
 use lib.Ieee.{Float, fin, binary64, lt, le, fits, ofBits}
 use lib.Ieee.Scale.{finite}
 use Rattle.numbers.specs.Reals.{_⊖_, f0, f1, minOf, maxOf}
-use Rattle.numbers.specs.Hypot.{countOf, hypotOf}
+use Rattle.roots.specs.Hypot.{countOf, hypotOf}
 use Rattle.numbers.proofs.Branches.{both-true}
-use Rattle.numbers.proofs.Distances.{hypot-counts}
+use Rattle.roots.proofs.Distances.{hypot-counts}
 use Rattle.touch.specs.declared.Edge.{Edge}
 use Rattle.touch.specs.Touch.{along, distanceAt}
 use Rattle.spans.specs.Mesh.{isCoordinate}

@@ -16,9 +16,9 @@ use lib.Ieee.Fits.{add-fits, sub-fits, mul-fits}
 use lib.Ieee.Scale.{finite, grid, round-same, round-val, round-under}
 use lib.Ieee.Positive.{den, den-pos}
 use Rattle.numbers.specs.Reals.{_⊕_, _⊖_, _⊗_}
-use Rattle.numbers.specs.Hypot.{countOf}
-use Rattle.numbers.specs.Golden.{phi}
-use Rattle.numbers.proofs.Distances.{count-is}
+use Rattle.roots.specs.Hypot.{countOf}
+use Rattle.golden.specs.Phi.{phi}
+use Rattle.roots.proofs.Distances.{count-is}
 use Rattle.golden.specs.Search as golden
 use Rattle.spans.proofs.Signed.{upper, lower, le→parts, Is, rounded, is-le, is-sub, round-neg}
 use Rattle.spans.proofs.Ranges.{finite-between, sub-mono, zero-is}

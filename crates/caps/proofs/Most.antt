@@ -6,7 +6,7 @@ use lib.IntN.{pos}
 use lib.Ieee.{Float, fin, binary64, le, fits, ofBits}
 use lib.Ieee.Scale.{finite}
 use Rattle.numbers.specs.Reals.{f1}
-use Rattle.numbers.specs.Root.{rootOf, rootOfUnits, nearestRoot, wholeRoot}
+use Rattle.roots.specs.Root.{rootOf, rootOfUnits, nearestRoot, wholeRoot}
 use Rattle.numbers.proofs.Branches.{either}
 use Rattle.bound.proofs.Order.{O, le-trans}
 use Rattle.bound.proofs.Roots.{root-le}

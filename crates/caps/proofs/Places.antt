@@ -6,7 +6,7 @@ use lib.Ieee.{Float, nan, inf, fin, binary64, neg, lt, le, eq, fits, isNan, ofBi
 use lib.Ieee.Fits.{div-fits}
 use lib.Ieee.Scale.{finite}
 use Rattle.numbers.specs.Reals.{_⊕_, _⊖_, _⊗_, _⊘_, f0, f1, f2, f4, maxOf, minOf}
-use Rattle.numbers.specs.Root.{rootOf}
+use Rattle.roots.specs.Root.{rootOf}
 use Rattle.numbers.proofs.Branches.{either, by-test, no}
 use Rattle.touch.specs.declared.Edge.{Edge}
 use Rattle.touch.specs.declared.Stretch.{Stretch}

@@ -48,7 +48,7 @@ pub fn least_on(e: Edge, x: f64, y: f64, lo: f64, hi: f64) -> f64
     let by = e.by;
     let u = side(e.ax, e.bx, x, lo, hi);
     let v = side(ay, by, y, lo, hi);
-    numbers::hypot(u, v)
+    roots::hypot(u, v)
 }
 
 // How near to x the coordinates between a and b come from lo to hi, with its sign.

@@ -8,15 +8,14 @@ use lib.Ieee.{Float, lt, le, neg}
 use lib.ListN.{length, getD, drop, drop-of-length-le}
 use lib.Seq.{drop-cons}
 use Rattle.numbers.specs.Reals.{_⊕_, _⊖_, _⊗_, _⊘_, f0, f2, clampUnit}
-use Rattle.numbers.specs.Root.{rootOf}
+use Rattle.roots.specs.Root.{rootOf}
 use Rattle.plane.specs.declared.Triangle.{Triangle}
 use Rattle.plane.specs.declared.Contact.{Contact}
 use Rattle.capsule.specs.declared.Capsule.{Capsule}
 use Rattle.capsule.specs.declared.Edge.{Edge}
 use Rattle.capsule.specs.declared.Point.{Point}
 use Rattle.capsule.specs.Region.{offerOf, offeredAll}
-use Rattle.capsule.specs.Candidates.{each, onEdge, pointOn, reached, squared, solved, circled, ends, sided, sides, crossed}
-use Rattle.capsule.specs.Candidates.{corners, edges, inner, candidates}
+use Rattle.capsule.specs.Candidates.{each, onEdge, pointOn, reached, squared, solved, circled, ends, sided, sides, crossed, corners, edges, inner, candidates}
 
 pub offeredAll-append : (k : Capsule) (c : Contact) (xs ys : List Point) → offeredAll k c (xs ++ ys) ≡ offeredAll k (offeredAll k c xs) ys
 unfolding offeredAll

@@ -11,8 +11,8 @@ use lib.Ieee.{Float, nan, inf, fin, binary64, ofBits, up, down, size, units, lt,
 use lib.Ieee.Bits.{is-true}
 use lib.Ieee.Scale.{finite}
 use Rattle.numbers.specs.Reals.{_⊕_, _⊖_, _⊗_, _⊘_, f0, f1, f2, f4, minusSlack, pastOne, threeMillion, maxOf, absOf, clampUnit}
-use Rattle.numbers.specs.Root.{wholeRoot, rootOf}
-use Rattle.numbers.specs.Hypot.{infinite, countOf, evenRoot, hypotOfCount, hypotOf}
+use Rattle.roots.specs.Root.{wholeRoot, rootOf}
+use Rattle.roots.specs.Hypot.{infinite, countOf, evenRoot, hypotOfCount, hypotOf}
 use Rattle.numbers.proofs.Branches.{by-test, both-true, no}
 use Rattle.spans.proofs.Ranges.{finite-between}
 use Rattle.spans.proofs.Sizes.{not-below, max-least}
@@ -36,8 +36,7 @@ use Rattle.capsule.specs.declared.Point.{Point}
 use Rattle.capsule.specs.declared.Edge.{Edge}
 use Rattle.capsule.specs.declared.Rise.{Rise}
 use Rattle.capsule.specs.Region.{inCapsule, offerOf, offeredAll}
-use Rattle.capsule.specs.Candidates.{each, cornerA, cornerB, cornerC, corners, edgeOf, edges, onEdge, pointOn, reached, squared, solved, circled, ends, sided, sides, crossed}
-use Rattle.capsule.specs.Candidates.{tangents, flank, flanks, places, candidates, highestIn}
+use Rattle.capsule.specs.Candidates.{each, cornerA, cornerB, cornerC, corners, edgeOf, edges, onEdge, pointOn, reached, squared, solved, circled, ends, sided, sides, crossed, tangents, flank, flanks, places, candidates, highestIn}
 use Rattle.capsule.specs.Inside.{onTop, Higher, NotAbove, Outside, Away, Ordinary, centre, Single, firsts}
 use Rattle.capsule.proofs.Gathering.{offeredAll-append, both}
 use Rattle.capsule.proofs.Equal.{place}

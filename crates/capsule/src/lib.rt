@@ -7,11 +7,10 @@ ghost use lib.Ieee.{lt};
 ghost use lib.ListN.{getD};
 ghost use Rattle.numbers.specs.Reals.{f0};
 ghost use Rattle.plane.specs.Contacts.{corner};
-ghost use Rattle.numbers.specs.Hypot.{hypotOf};
+ghost use Rattle.roots.specs.Hypot.{hypotOf};
 ghost use Rattle.capsule.specs.Region.{normalOf, capsuleOf, offerOf, offeredAll, Among, contactOf};
 ghost use Rattle.capsule.specs.Inside.{onTop, Higher, NotAbove, Away, Ordinary, Single, firsts};
-ghost use Rattle.capsule.specs.Candidates.{each, corners, edgeOf, edges, ends, onEdge, reached, circled, sided, sides, crossed};
-ghost use Rattle.capsule.specs.Candidates.{determinantOf, riseOf, tangents, flank, flanks, places, planeOver, inner, candidates, highestIn, maxInCapsule};
+ghost use Rattle.capsule.specs.Candidates.{each, corners, edgeOf, edges, ends, onEdge, reached, circled, sided, sides, crossed, determinantOf, riseOf, tangents, flank, flanks, places, planeOver, inner, candidates, highestIn, maxInCapsule};
 use plane::Contact;
 use plane::Spot;
 use plane::Touch;
@@ -108,10 +107,10 @@ fn length_of(dx: f64, dy: f64) -> f64
     ensures { λ l. ⌜ l ≡ hypotOf dx dy ⌝ }
 {
     if dx != 0.0 {
-        return numbers::hypot(dx, dy);
+        return roots::hypot(dx, dy);
     }
     if dy != 0.0 {
-        return numbers::hypot(dx, dy);
+        return roots::hypot(dx, dy);
     }
     0.0
 }
@@ -438,7 +437,7 @@ fn offer_circle(k: Capsule, best: Best, e: Edge, c: Place) -> Best
     let cq = fx * fx + fy * fy - k.r * k.r;
     let disc = bq * bq - 4.0 * ee * cq;
     if disc >= 0.0 {
-        let s = numbers::root(disc);
+        let s = roots::root(disc);
         let b = offer_at(k, best, e, (-bq - s) / (2.0 * ee));
         return offer_at(k, b, e, (-bq + s) / (2.0 * ee));
     }

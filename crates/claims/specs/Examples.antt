@@ -6,7 +6,7 @@ use Prim.Native.Nat.{ℕ, zero, suc, _/_, _%_, _*_}
 use lib.Ieee.{Float, binary64, ofBits, toBits}
 use lib.ListN.{length, take, replicate}
 use Rattle.numbers.specs.Reals.{f0, f1, f2, f4, million, minus1}
-use Rattle.numbers.specs.Root.{rootOf}
+use Rattle.roots.specs.Root.{rootOf}
 use Rattle.numbers.specs.Rounding.{roundDownOf}
 use Rattle.grid.specs.Grid.{trianglesIn}
 use Rattle.grid.specs.Build.{buildOf}

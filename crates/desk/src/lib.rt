@@ -2,8 +2,7 @@
 // library and lays the answer into fixed arrays; the contract is the library's own, and asks nothing of the caller.
 ghost use mathlib.Core.Path.{_≡_};
 ghost use Rattle.handed.specs.Handed.{indexFrom};
-ghost use Rattle.desk.specs.Doors.{builtLeft, builtLeftBy, heightLeft, heightLeftBy, answerFrom};
-ghost use Rattle.desk.specs.Doors.{verdictLeft, verdictLeftBy, rulingFrom};
+ghost use Rattle.desk.specs.Doors.{builtLeft, builtLeftBy, heightLeft, heightLeftBy, answerFrom, verdictLeft, verdictLeftBy, rulingFrom};
 ghost use Rattle.grid.specs.Build.{buildOf};
 ghost use Rattle.grid.specs.Boxes.{isBoxed};
 ghost use Rattle.grid.specs.Index.{indexOf, BuildPromise};

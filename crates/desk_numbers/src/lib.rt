@@ -2,9 +2,9 @@
 // the library, whose contract is its own, and asks nothing of the caller.
 ghost use mathlib.Core.Path.{_≡_};
 ghost use Rattle.numbers.specs.Reals.{maxOf, minOf, clampUnit};
-ghost use Rattle.numbers.specs.Root.{rootOf};
+ghost use Rattle.roots.specs.Root.{rootOf};
 ghost use Rattle.numbers.specs.Rounding.{roundDownOf, roundUpOf};
-ghost use Rattle.numbers.specs.Hypot.{hypotOf};
+ghost use Rattle.roots.specs.Hypot.{hypotOf};
 ghost use Rattle.numbers.specs.Order.{totalLess};
 ghost use Rattle.plane.specs.Mesh.{triangleOf};
 ghost use Rattle.plane.specs.Distance.{dist2ToSegment, distanceXy};
@@ -23,7 +23,7 @@ mod version;
 pub extern "C" fn mandrikelo_root(x: f64) -> f64
     ensures { λ y. ⌜ y ≡ rootOf x ⌝ }
 {
-    numbers::root(x)
+    roots::root(x)
 }
 
 // The largest whole number not above x.
@@ -71,7 +71,7 @@ pub extern "C" fn mandrikelo_round_up(x: f64) -> f64
 pub extern "C" fn mandrikelo_hypot(x: f64, y: f64) -> f64
     ensures { λ r. ⌜ r ≡ hypotOf x y ⌝ }
 {
-    numbers::hypot(x, y)
+    roots::hypot(x, y)
 }
 
 // Whether x stands before y in the total order.

@@ -9,8 +9,7 @@ ghost use Rattle.um.specs.Build.{buildOf};
 ghost use Rattle.um.specs.Index.{BuildPromise};
 ghost use Rattle.setup.specs.Answer.{setupHeightOf};
 ghost use Rattle.setup.specs.Demand.{SetupPromise};
-ghost use Rattle.desk_um.specs.Doors.{jobLeft, jobLeftBy, builtLeft, builtLeftBy, headerFrom, indexFrom, questionFrom, heightLeft};
-ghost use Rattle.desk_um.specs.Doors.{heightLeftBy, answerFrom};
+ghost use Rattle.desk_um.specs.Doors.{jobLeft, jobLeftBy, builtLeft, builtLeftBy, headerFrom, indexFrom, questionFrom, heightLeft, heightLeftBy, answerFrom};
 use setup::Question;
 use um::Header;
 

@@ -1,2 +1,3 @@
+pub mod Phi
 pub mod Search
 pub mod Upper

@@ -3,7 +3,7 @@ use mathlib.Core.Bool.{Bool, cond}
 use Prim.Native.Nat.{ℕ, zero, suc}
 use lib.Ieee.{Float, lt}
 use Rattle.numbers.specs.Reals.{_⊕_, _⊖_, _⊗_, _⊘_, f2, maxOf}
-use Rattle.numbers.specs.Golden.{phi, phi60}
+use Rattle.golden.specs.Phi.{phi, phi60}
 use Rattle.golden.specs.declared.Golden.{Golden}
 
 -- The two inner points of a bracket a..b.

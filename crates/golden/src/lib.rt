@@ -1,8 +1,15 @@
 // The golden-section search, cut at its objective: whoever searches evaluates the objective at the point that `probe` names and hands the value to `narrowed`.
 ghost use mathlib.Core.Path.{_≡_};
 ghost use mathlib.Core.Bool.{_&&_};
+ghost use Rattle.golden.specs.Phi.{phiOf, phi60Of};
 ghost use Rattle.golden.specs.Search.{lower, upper, rises, falls, probeOf, narrowedOf, startOf, bestOf, boundOf};
 ghost use Rattle.golden.specs.Upper.{finiteOf, heldOf, allLow, outerOf, fromA, fromB, secantsOf, upperFrom, upperOf};
+
+// phi, (root 5 - 1) / 2
+pub const PHI: f64 = 0.6180339887498949;
+
+// phi to the 60th, by 59 multiplications
+pub const PHI_60: f64 = 2.8889603743499235e-13;
 
 const MINUS_ONE: f64 = -1.0;
 
@@ -27,14 +34,14 @@ pub struct Bracket {
 pub fn lower_point(a: f64, b: f64) -> f64
     ensures { λ r. ⌜ r ≡ lower a b ⌝ }
 {
-    b - numbers::PHI * (b - a)
+    b - PHI * (b - a)
 }
 
 // The upper inner point of a bracket.
 pub fn upper_point(a: f64, b: f64) -> f64
     ensures { λ r. ⌜ r ≡ upper a b ⌝ }
 {
-    a + numbers::PHI * (b - a)
+    a + PHI * (b - a)
 }
 
 // The bracket lo..hi, with the values at its inner points.
@@ -114,7 +121,7 @@ pub fn best(va: f64, vb: f64, v1: f64, v2: f64) -> f64
 pub fn bound(best: f64, lo: f64, hi: f64, lipschitz: f64) -> f64
     ensures { λ r. ⌜ r ≡ boundOf best lo hi lipschitz ⌝ }
 {
-    best + lipschitz * ((hi - lo) * numbers::PHI_60)
+    best + lipschitz * ((hi - lo) * PHI_60)
 }
 
 // The bracket with its ends' values, once the search has gone on to g.
@@ -238,4 +245,18 @@ fn from_b(fb: f64, g: Golden) -> f64
         return f2 + numbers::max(-s, 0.0) * width;
     }
     1.0 / 0.0
+}
+
+// phi. The contract says that PHI is what document 01 has computed.
+pub fn phi() -> f64
+    ensures { λ r. ⌜ r ≡ phiOf ⌝ }
+{
+    PHI
+}
+
+// phi to the 60th. The contract says the same of PHI_60.
+pub fn phi_60() -> f64
+    ensures { λ r. ⌜ r ≡ phi60Of ⌝ }
+{
+    PHI_60
 }

@@ -12,8 +12,7 @@ use Rattle.fields.specs.Rows.{finite, row, firstBad, somewhere}
 use Rattle.fields.specs.Ladder.{refuse}
 use Rattle.fields.specs.Copies.{ToldApart}
 use Rattle.fields.specs.declared.Shape.{Shape}
-use Rattle.job.specs.Layout.{mark, version, zeroByte, triangles, questions, number, letters, wide}
-use Rattle.job.specs.Layout.{numbers, meshFrom, questionsFrom, bytesOf}
+use Rattle.job.specs.Layout.{mark, version, zeroByte, triangles, questions, number, letters, wide, numbers, meshFrom, questionsFrom, bytesOf}
 use Rattle.job.specs.Head.{refusalOfHead, shapeIn, toldIn}
 use Rattle.job.specs.declared.Read.{Read}
 

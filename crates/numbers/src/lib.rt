@@ -1,36 +1,20 @@
 // Document 01, "Numbers": what the planner does with one or two f64s beside +, -, *, / and comparing. Each function is equal to its definition in
 // specs/, on every f64. `laws` holds theorems on them.
 ghost use mathlib.Core.Path.{_≡_};
-ghost use mathlib.Core.Bool.{true, false, cond, _||_};
+ghost use mathlib.Core.Bool.{true, false};
 ghost use Prim.Native.Nat.{_+_, _*_, _/_, _^_, _<_};
-ghost use lib.Ieee.{nan, inf, binary64, ofBits, le};
+ghost use lib.Ieee.{binary64, ofBits};
 ghost use lib.Bits.{bitAnd};
 ghost use Rattle.numbers.specs.Reals.{maxOf, minOf, absOf, clampUnit};
 ghost use Rattle.numbers.specs.Rounding.{roundDownOf, roundUpOf};
 ghost use Rattle.numbers.specs.Order.{totalLess};
-ghost use Rattle.numbers.specs.Golden.{phiOf, phi60Of};
-ghost use Rattle.numbers.specs.Hypot.{hypotOf, infinite};
-ghost use Rattle.numbers.specs.Root.{rootOf};
-ghost use Rattle.numbers.specs.Inside.{leastNormal};
 
-pub mod hypots;
 pub mod laws;
-pub mod roots;
-pub mod wide;
 
 // all of an f64's bits but the sign
-const MAGNITUDE: u64 = 0x7fff_ffff_ffff_ffff;
-
-// 2^-1022
-const LEAST_NORMAL: f64 = 2.2250738585072014e-308;
+pub const MAGNITUDE: u64 = 0x7fff_ffff_ffff_ffff;
 
 const MINUS_ONE: f64 = -1.0;
-
-// phi, (root 5 - 1) / 2
-pub const PHI: f64 = 0.6180339887498949;
-
-// phi to the 60th, by 59 multiplications
-pub const PHI_60: f64 = 2.8889603743499235e-13;
 
 // The larger; x if they compare equal, and where one is a NaN the other.
 pub fn max(x: f64, y: f64) -> f64
@@ -65,25 +49,6 @@ pub fn clamp_unit(t: f64) -> f64
     }
 }
 
-// The root of x, correctly rounded. The bits are taken apart into sign, exponent and fraction; one test at the start settles all normal numbers above
-// zero, whose sign is clear and whose fraction has a leading digit.
-pub fn root(x: f64) -> f64
-    ensures { λ r. ⌜ r ≡ rootOf x ⌝ }
-{
-    if x >= LEAST_NORMAL {
-        let bits = f64::to_bits(x);
-        let exponent = bits >> 52;
-        if exponent == 0x7ff {
-            return x;
-        }
-        return roots::root_of(
-            (bits & roots::FRACTION) | roots::LEADING,
-            roots::difference(exponent as u32, 1075),
-        );
-    }
-    root_below_normal(x)
-}
-
 // The largest whole number not above x. Where the magnitude is 1 or more, `behind` masks the digits that stand behind the point. A negative number
 // grows by all of them before they are masked off, so that it moves away from zero unless it is whole; a carry out of the fraction goes to the
 // exponent, as it should.
@@ -112,47 +77,6 @@ pub fn round_up(x: f64) -> f64
     ensures { λ r. ⌜ r ≡ roundUpOf x ⌝ }
 {
     -round_down(-x)
-}
-
-// How far (x, y) lies from (0, 0), correctly rounded, by the bits of the two magnitudes. The sum of the squares, which starts the search for the root, is a NaN
-// exactly where x or y is.
-pub fn hypot(x: f64, y: f64) -> f64
-    ensures { λ r. ⌜ r ≡ hypotOf x y ⌝ }
-{
-    let z = x * x + y * y;
-    if z != z {
-        return hypot_of_nan(x, y);
-    }
-    let a = f64::to_bits(x) & MAGNITUDE;
-    let b = f64::to_bits(y) & MAGNITUDE;
-    hypots::of_sizes(hypots::larger(a, b), hypots::smaller(a, b), z)
-}
-
-// The same where one of the two is a NaN: the other may still be infinite.
-fn hypot_of_nan(x: f64, y: f64) -> f64
-    ensures { λ r. ⌜ r ≡ cond (infinite x || infinite y) (inf false) nan ⌝ }
-{
-    if abs(x) == 1.0 / 0.0 {
-        return 1.0 / 0.0;
-    }
-    if abs(y) == 1.0 / 0.0 {
-        return 1.0 / 0.0;
-    }
-    0.0 / 0.0
-}
-
-// phi. The contract says that PHI is what document 01 has computed.
-pub fn phi() -> f64
-    ensures { λ r. ⌜ r ≡ phiOf ⌝ }
-{
-    PHI
-}
-
-// phi to the 60th. The contract says the same of PHI_60.
-pub fn phi_60() -> f64
-    ensures { λ r. ⌜ r ≡ phi60Of ⌝ }
-{
-    PHI_60
 }
 
 // Whether x comes before y in the total order: -0.0 before +0.0, a NaN last.
@@ -186,22 +110,4 @@ fn round_down_small(x: f64, bits: u64) -> f64
         return MINUS_ONE;
     }
     0.0
-}
-
-// The root of what lies below the least normal number, or is a NaN. What has no sign there is zero or subnormal.
-fn root_below_normal(x: f64) -> f64
-    requires { ⌜ le leastNormal x ≡ false ⌝ }
-    ensures { λ r. ⌜ r ≡ rootOf x ⌝ }
-{
-    if x != x {
-        return x;
-    }
-    let bits = f64::to_bits(x);
-    if bits & MAGNITUDE == 0 {
-        return x;
-    }
-    if bits >> 63 != 0 {
-        return 0.0 / 0.0;
-    }
-    roots::root_of_subnormal(bits & roots::FRACTION)
 }

@@ -23,9 +23,8 @@ use Rattle.query.specs.declared.Patch.{Patch}
 use Rattle.grid.specs.Boxes.{isBoxed}
 use Rattle.query.specs.Asked.{isMarked}
 use Rattle.query.specs.Usable.{every, each, triangleUsable, memberUsable, cellUsable, rowUsable, cellsUsable, usable, usableWhole}
-use Rattle.query.proofs.Testing.{in-rows}
+use Rattle.query.proofs.Testing.{in-rows, every-at, every-all}
 use Rattle.query.proofs.Patches.{patch-inside}
-use Rattle.query.proofs.Testing.{every-at, every-all}
 use Rattle.ask.specs.Ask.{refusalOf, answerOf, askedHeight}
 use Rattle.height.specs.Sweep.{Sweep, sweep, patchFor, capsuleWalk, sweepWalk}
 use Rattle.height.specs.Height.{isSweep, maxHeightOf}

@@ -207,7 +207,7 @@ fn edge_distance(t: Triangle, x: f64, y: f64) -> f64
     let ab = numbers::min(none, dist2_to_segment(x, y, t.ax, t.ay, t.bx, t.by));
     let bc = numbers::min(ab, dist2_to_segment(x, y, t.bx, t.by, t.cx, t.cy));
     let ca = numbers::min(bc, dist2_to_segment(x, y, t.cx, t.cy, t.ax, t.ay));
-    numbers::root(ca)
+    roots::root(ca)
 }
 
 // The distance of (x, y) from a triangle, 0 inside.

@@ -24,14 +24,14 @@ fn letter(k: usize) -> u8 {
 
 fn answer(what: u8, x: f64, y: f64) -> u64 {
     match what {
-        b'r' => vectors::bits_of(numbers::root(x)),
+        b'r' => vectors::bits_of(roots::root(x)),
         b'd' => vectors::bits_of(numbers::round_down(x)),
         b'u' => vectors::bits_of(numbers::round_up(x)),
         b'a' => vectors::bits_of(numbers::abs(x)),
         b'c' => vectors::bits_of(numbers::clamp_unit(x)),
         b'm' => vectors::bits_of(numbers::max(x, y)),
         b'n' => vectors::bits_of(numbers::min(x, y)),
-        b'h' => vectors::bits_of(numbers::hypot(x, y)),
+        b'h' => vectors::bits_of(roots::hypot(x, y)),
         _ => if numbers::total_less(x, y) { 1 } else { 0 },
     }
 }

@@ -17,8 +17,7 @@ use Rattle.numbers.proofs.Branches.{either, by-test, no}
 use Rattle.spans.specs.Mesh.{isRadius}
 use Rattle.spans.proofs.Ranges.{cut-up}
 use Rattle.spans.proofs.Sizes.{f1-is, not-below}
-use Rattle.bound.proofs.Whole.{Within, Bounded, within-more, bounded-add, bounded-sub, within-mul, within-times, within-div}
-use Rattle.bound.proofs.Whole.{ahead, back, ahead-few, back-few, width-within, further, coordinate-bounded, radius-bounded}
+use Rattle.bound.proofs.Whole.{Within, Bounded, within-more, bounded-add, bounded-sub, within-mul, within-times, within-div, ahead, back, ahead-few, back-few, width-within, further, coordinate-bounded, radius-bounded}
 use Rattle.fives.specs.Groups.{Each}
 use Rattle.fives.proofs.Grouping.{each-append}
 use Rattle.levels.specs.declared.Level.{Level}

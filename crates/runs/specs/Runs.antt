@@ -3,7 +3,7 @@ use mathlib.Core.Bool.{Bool, _&&_}
 use mathlib.Core.List.{List, [], _∷_}
 use lib.Ieee.{Float, eq}
 use Rattle.numbers.specs.Reals.{_⊕_, _⊖_, f0}
-use Rattle.numbers.specs.Hypot.{hypotOf}
+use Rattle.roots.specs.Hypot.{hypotOf}
 use Rattle.fives.specs.Groups.{grouped}
 use Rattle.runs.specs.declared.Run.{Run}
 

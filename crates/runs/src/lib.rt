@@ -154,7 +154,7 @@ fn on_to(room: usize, count: usize) -> usize
 pub fn length(r: Run) -> f64
     ensures { λ l. ⌜ l ≡ lengthOf r ⌝ }
 {
-    numbers::hypot(r.bx - r.ax, r.by - r.ay)
+    roots::hypot(r.bx - r.ax, r.by - r.ay)
 }
 
 // The first half of a run.

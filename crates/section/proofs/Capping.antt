@@ -12,8 +12,8 @@ use lib.Ieee.Fits.{add-fits}
 use lib.Ieee.Positive.{den, den-pos}
 use lib.Ieee.Scale.{finite}
 use Rattle.numbers.specs.Reals.{_⊕_, _⊖_, _⊗_, f0, f1, million, billion, minOf, maxOf, absOf}
-use Rattle.numbers.specs.Golden.{phi60}
-use Rattle.numbers.specs.Root.{rootOf}
+use Rattle.golden.specs.Phi.{phi60}
+use Rattle.roots.specs.Root.{rootOf}
 use Rattle.numbers.proofs.Branches.{either, by-test, both-true, no}
 use Rattle.plane.specs.declared.Contact.{Contact}
 use Rattle.plane.specs.declared.Contact.the-variants.{Nothing, Height}
@@ -33,8 +33,7 @@ use Rattle.spans.proofs.Sizes.{either-of, le-self, not-below, f0-is, max-least}
 use Rattle.bound.proofs.Order.{O, le-trans, sub-turns, add-left, add-right, mul-up, mul-down, mul-swap, no-lower, no-upper, is-mul, own}
 use Rattle.bound.proofs.Roots.{lt-le, root-finite}
 use Rattle.bound.proofs.Unit.{I, Unit, unit-finite}
-use Rattle.bound.proofs.Along.{at, along-between}
-use Rattle.bound.proofs.Along.{Between as Lies}
+use Rattle.bound.proofs.Along.{at, along-between, Between as Lies}
 use Rattle.bound.proofs.Small.{M, M′, Small, sum-nonneg, small, small-finite, small-up, small-sub, small-range, small-between}
 use Rattle.bound.proofs.Near.{Fine, sum-fine}
 use Rattle.caps.specs.Inside.{rootMost, highOn, tameRise, square22}

@@ -4,7 +4,7 @@ use mathlib.Core.Path.{_≡_, refl}
 use lib.Dec.{T}
 use lib.Ieee.{Float, le}
 use Rattle.numbers.specs.Reals.{_⊕_, _⊖_, _⊗_, minOf}
-use Rattle.numbers.specs.Hypot.{hypotOf}
+use Rattle.roots.specs.Hypot.{hypotOf}
 use Rattle.touch.specs.declared.Edge.{Edge}
 use Rattle.touch.specs.Touch.{along, distanceAt}
 use Rattle.bound.proofs.Near.{min-under}

@@ -6,7 +6,7 @@ use Prim.Native.Nat.{ℕ, _≤_}
 use lib.Dec.{T}
 use lib.Ieee.{Float, nan, inf, fin, binary64, add, lt, le, eq, fits, isNan}
 use Rattle.numbers.specs.Reals.{_⊕_, _⊖_, _⊗_, maxOf}
-use Rattle.numbers.specs.Golden.{phi60}
+use Rattle.golden.specs.Phi.{phi60}
 use Rattle.numbers.proofs.Branches.{no}
 use Rattle.plane.specs.declared.Contact.{Contact}
 use Rattle.plane.specs.declared.Contact.the-variants.{Nothing, Height}

@@ -2,7 +2,7 @@
 use mathlib.Core.Path.{_≡_, refl, ap, sym, _∙_}
 use Prim.Native.Nat.{ℕ}
 use lib.Ieee.{Float}
-use Rattle.numbers.specs.Hypot.{hypotOf}
+use Rattle.roots.specs.Hypot.{hypotOf}
 use Rattle.numbers.specs.Reals.{_⊖_}
 use Rattle.plane.specs.declared.Triangle.{Triangle}
 use Rattle.plane.specs.declared.Contact.{Contact}

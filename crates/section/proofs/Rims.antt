@@ -6,7 +6,7 @@ use lib.Dec.{T}
 use lib.Ieee.{Float, binary64, div, lt, le, eq, ofBits}
 use lib.Ieee.Fits.{sub-fits}
 use Rattle.numbers.specs.Reals.{_⊕_, _⊖_, _⊗_, _⊘_, f0}
-use Rattle.numbers.specs.Hypot.{hypotOf}
+use Rattle.roots.specs.Hypot.{hypotOf}
 use Rattle.numbers.proofs.Branches.{by-test, no}
 use Rattle.plane.specs.declared.Contact.{Contact}
 use Rattle.above.specs.Above.{offerOf}

@@ -5,8 +5,8 @@ use mathlib.Core.Path.{_≡_}
 use lib.Dec.{T}
 use lib.Ieee.{Float, binary64, le, fits, isNan}
 use Rattle.numbers.specs.Reals.{_⊕_, _⊖_, _⊗_, _⊘_, f0, f1, minOf, maxOf, absOf}
-use Rattle.numbers.specs.Golden.{phi60}
-use Rattle.numbers.specs.Hypot.{hypotOf}
+use Rattle.golden.specs.Phi.{phi60}
+use Rattle.roots.specs.Hypot.{hypotOf}
 use Rattle.plane.specs.declared.Contact.{Contact}
 use Rattle.above.specs.Above.{offerOf}
 use Rattle.above.specs.Inside.{limitOf}

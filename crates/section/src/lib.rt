@@ -6,9 +6,7 @@ ghost use Rattle.above.specs.Above.{offerOf};
 ghost use Rattle.golden.specs.Search.{rises, goldenStart, goldenStep, goldenMax, goldenMaxBound};
 ghost use Rattle.caps.specs.Inside.{InnerOf, Alike};
 ghost use Rattle.section.specs.Inside.{FlatTo, Firm, Clear, capOf, AsGood, Under, Begun};
-ghost use Rattle.section.specs.Section.{within, positiveReach, validSection, profileOf, heightOver, sectionUnder, sectionVertex};
-ghost use Rattle.section.specs.Section.{sectionVertices, sectionAt, lipschitzOf, sectionStretch, sectionEdge, sectionEdges, reachOf};
-ghost use Rattle.section.specs.Section.{sectionSloped, sectionRest, sectionFacet, sectionContact};
+ghost use Rattle.section.specs.Section.{within, positiveReach, validSection, profileOf, heightOver, sectionUnder, sectionVertex, sectionVertices, sectionAt, lipschitzOf, sectionStretch, sectionEdge, sectionEdges, reachOf, sectionSloped, sectionRest, sectionFacet, sectionContact};
 use golden::Golden;
 use plane::Contact;
 use plane::Touch;
@@ -157,7 +155,7 @@ fn vertex(
     if dx * dx + dy * dy >= far {
         return c;
     }
-    above::offer(c, under(n, vz, profile(s, numbers::hypot(dx, dy))))
+    above::offer(c, under(n, vz, profile(s, roots::hypot(dx, dy))))
 }
 
 // The contact c with the vertices' candidates.
@@ -218,7 +216,7 @@ fn bounded(s: Section, low: f64, x: f64, y: f64, e: Edge, lo: f64, hi: f64, limi
 {
     let cap = low::cap_on(s, low, x, y, e, lo, hi);
     let slope = lipschitz(s, e);
-    let more = slope * ((hi - lo) * numbers::PHI_60);
+    let more = slope * ((hi - lo) * golden::PHI_60);
     if cap + more <= limit {
         return cap + more;
     }
@@ -234,7 +232,7 @@ fn lipschitz(s: Section, e: Edge) -> f64
     let ey = e.by - e.ay;
     let rise = s.rise;
     let steep = numbers::abs(e.bz - e.az);
-    steep + rise * numbers::root(ex * ex + ey * ey)
+    steep + rise * roots::root(ex * ex + ey * ey)
 }
 
 // The largest tip's height between two places of an edge, or one that is as good beside the limit with `more` added to both: the larger end's, where no place
@@ -358,7 +356,7 @@ fn at(s: Section, x: f64, y: f64, e: Edge, flat: f64, t: f64) -> f64
     if dx * dx + dy * dy <= flat {
         return z - z0;
     }
-    let d = numbers::min(numbers::hypot(dx, dy), r1);
+    let d = numbers::min(roots::hypot(dx, dy), r1);
     z - height_over(profile(s, d))
 }
 

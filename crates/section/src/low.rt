@@ -29,7 +29,7 @@ pub fn skips(s: Section, low: f64, e: Edge, b: f64) -> bool
     let steep = numbers::abs(e.bz - e.az);
     if caps::tame_rise(e) {
         let most = steep + rise * caps::root_most(ex * ex + ey * ey);
-        return caps::high_on(e, 0.0, 1.0) - low + most * numbers::PHI_60 <= b;
+        return caps::high_on(e, 0.0, 1.0) - low + most * golden::PHI_60 <= b;
     }
     false
 }

@@ -3,7 +3,7 @@
 use mathlib.Core.Bool.{Bool, false, cond}
 use lib.Ieee.{Float, lt, le}
 use Rattle.numbers.specs.Reals.{_⊕_, _⊖_, f0, minOf, maxOf}
-use Rattle.numbers.specs.Hypot.{hypotOf}
+use Rattle.roots.specs.Hypot.{hypotOf}
 use Rattle.plane.specs.declared.Triangle.{Triangle}
 use Rattle.plane.specs.declared.Bounds.{Bounds}
 use Rattle.plane.specs.Mesh.{boundsOf}

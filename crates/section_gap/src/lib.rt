@@ -32,7 +32,7 @@ fn box_far(b: Bounds, m: Chord, r: f64) -> bool
 {
     let dx = side_gap(b.low_x, b.high_x, m.ax, m.bx);
     let dy = side_gap(b.low_y, b.high_y, m.ay, m.by);
-    numbers::hypot(dx, dy) > r
+    roots::hypot(dx, dy) > r
 }
 
 // How far low..high lies from the values between a and b.

@@ -17,10 +17,10 @@ use lib.Ieee.Order.{le-of-values}
 use lib.Ieee.Positive.{num, den, positive, den-pos, value→cross, positive-of-value, values-of-le, mul-at, between}
 use lib.Ieee.Scale.{finite, grid, round-same, round-val, round-under, grid-scale, normal-of-fraction}
 use Rattle.numbers.specs.Reals.{_⊗_}
-use Rattle.numbers.specs.Root.{nearestRoot, rootOfUnits, rootOf}
-use Rattle.numbers.proofs.Squares.{is-nearest-root}
-use Rattle.numbers.proofs.Units.{root-is, four}
-use Rattle.numbers.proofs.Between.{Normal, normalised}
+use Rattle.roots.specs.Root.{nearestRoot, rootOfUnits, rootOf}
+use Rattle.roots.proofs.Squares.{is-nearest-root}
+use Rattle.roots.proofs.Units.{root-is, four}
+use Rattle.roots.proofs.Between.{Normal, normalised}
 use Rattle.bound.proofs.Small.{M}
 
 -- ---- the nearest whole number is off by half the divisor at most

@@ -10,7 +10,7 @@ use lib.Ieee.Fits.{sub-fits, mul-fits}
 use lib.Ieee.Positive.{den, den-pos}
 use lib.Ieee.Scale.{finite}
 use Rattle.numbers.specs.Reals.{_⊖_, _⊗_, f0, million, maxOf}
-use Rattle.numbers.specs.Root.{rootOf}
+use Rattle.roots.specs.Root.{rootOf}
 use Rattle.numbers.proofs.Branches.{no}
 use Rattle.spans.proofs.Signed.{upper, lower, is-le, is-sub}
 use Rattle.spans.proofs.Ranges.{finite-between, sub-mono, Coordinate, million-is, extent-positive, two}

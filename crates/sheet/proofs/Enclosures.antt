@@ -8,7 +8,7 @@ use lib.Ieee.Fits.{mul-fits, div-fits}
 use lib.Ieee.Scale.{finite}
 use lib.ListN.{length}
 use Rattle.numbers.specs.Reals.{_⊗_, f0, f2, million}
-use Rattle.numbers.specs.Root.{rootOf}
+use Rattle.roots.specs.Root.{rootOf}
 use Rattle.numbers.proofs.Branches.{no, both-true, by-test}
 use Rattle.section.specs.declared.Section.{Section}
 use Rattle.section.specs.Section.{within, positiveReach, validSection, profileOf, heightOver}

@@ -13,8 +13,8 @@ use lib.Ieee.Order.{round-mono}
 use lib.Ieee.Scale.{finite}
 use lib.Ieee.Positive.{num, den, den-pos, positive, above, above-of-le, between, le→cross}
 use Rattle.numbers.specs.Reals.{_⊖_, _⊘_, million, millionth, f0, f1, f4, maxOf}
-use Rattle.numbers.specs.Root.{rootOf, rootOfUnits, nearestRoot, wholeRoot}
-use Rattle.numbers.proofs.Monotone.{root-mono}
+use Rattle.roots.specs.Root.{rootOf, rootOfUnits, nearestRoot, wholeRoot}
+use Rattle.roots.proofs.Monotone.{root-mono}
 use Rattle.spans.specs.Mesh.{isRadius}
 use Rattle.spans.specs.Axis.{spanOf, sizeOf, truncated, cellAt}
 use Rattle.spans.specs.declared.Extent.{Extent}

@@ -3,7 +3,7 @@ use Prim.Native.Nat.{ℕ, _+_, _-_, min}
 use lib.IntN.{pos}
 use lib.Ieee.{Float, binary64, ofInt, toUnsigned}
 use Rattle.numbers.specs.Reals.{_⊖_, _⊘_, f1, f4, millionth, maxOf}
-use Rattle.numbers.specs.Root.{rootOf}
+use Rattle.roots.specs.Root.{rootOf}
 use Rattle.numbers.specs.Rounding.{roundDownOf}
 use Rattle.spans.specs.declared.Extent.{Extent}
 use Rattle.spans.specs.declared.Stretch.{Stretch}

@@ -211,7 +211,7 @@ pub fn span(e: Extent, r: f64) -> f64
 pub fn size(n: usize, span: f64, r: f64) -> f64
     ensures { λ s. ⌜ s ≡ sizeOf n span r ⌝ }
 {
-    let root = numbers::root(std::num::nearest_u64_to_f64(n as u64));
+    let root = roots::root(std::num::nearest_u64_to_f64(n as u64));
     let share = span / numbers::max(root, 1.0);
     numbers::max(numbers::max(share, r / 4.0), 1e-6)
 }

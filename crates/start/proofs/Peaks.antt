@@ -6,7 +6,7 @@ use lib.Dec.{T}
 use lib.IntN.{pos}
 use lib.Ieee.{Float, fin, lt, le, eq, ne, ofBits}
 use Rattle.numbers.specs.Reals.{_⊕_, _⊖_, _⊗_, _⊘_, f0, f1, f2, f4, tiny, minusSlack, minusSlack-is, pastOne, clampUnit, absOf}
-use Rattle.numbers.specs.Root.{rootOf}
+use Rattle.roots.specs.Root.{rootOf}
 use Rattle.numbers.proofs.Branches.{either, both-true, by-test}
 use Rattle.spans.proofs.Ranges.{finite-between}
 use Rattle.spans.proofs.Sizes.{not-below}
@@ -22,8 +22,7 @@ use Rattle.capsule.specs.declared.Place.{Place}
 use Rattle.capsule.specs.declared.Point.{Point}
 use Rattle.capsule.specs.declared.Edge.{Edge}
 use Rattle.capsule.specs.Region.{inCapsule, offerOf, offeredAll}
-use Rattle.capsule.specs.Candidates.{each, cornerA, cornerB, cornerC, corners, edgeOf, edges, onEdge, pointOn, reached, squared, solved, circled, ends, sided, sides, crossed}
-use Rattle.capsule.specs.Candidates.{places, determinantOf, riseOf, pointOver, raised, planeOver, inner, candidates, highestIn}
+use Rattle.capsule.specs.Candidates.{each, cornerA, cornerB, cornerC, corners, edgeOf, edges, onEdge, pointOn, reached, squared, solved, circled, ends, sided, sides, crossed, places, determinantOf, riseOf, pointOver, raised, planeOver, inner, candidates, highestIn}
 use Rattle.tops.specs.Inside.{deepest, isLow, liesLow}
 use Rattle.tops.proofs.Weights.{S, I}
 use Rattle.tops.proofs.Tops.{deep, first, last, step, corner-under, edge-under, facet-under}

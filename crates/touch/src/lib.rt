@@ -1,7 +1,6 @@
 // What the contacts of round cutters share: a triangle's edges, the stretch of an edge under a cutter, the place on a facet where a cutter rests.
 ghost use mathlib.Core.Path.{_≡_};
-ghost use Rattle.touch.specs.Touch.{edgeAb, edgeBc, edgeCa, crossedOf, reachedOf, gradientOf, facingOf, restOf};
-ghost use Rattle.touch.specs.Touch.{weighedOf, spotHeight, facetHeight};
+ghost use Rattle.touch.specs.Touch.{edgeAb, edgeBc, edgeCa, crossedOf, reachedOf, gradientOf, facingOf, restOf, weighedOf, spotHeight, facetHeight};
 use plane::Contact;
 use plane::Spot;
 use plane::Touch;
@@ -108,7 +107,7 @@ pub fn reached(e: Edge, x: f64, y: f64, r: f64) -> Stretch
     if disc < 0.0 {
         return Stretch::Nowhere;
     }
-    crossed(qa, qb, numbers::root(disc))
+    crossed(qa, qb, roots::root(disc))
 }
 
 // The stretch between 0 and 1 of the roots of a quadratic, whose discriminant has the root given.
@@ -155,7 +154,7 @@ fn gradient_of(t: Triangle, det: f64) -> Gradient
     Gradient {
         x: gx,
         y: gy,
-        steep: numbers::hypot(gx, gy),
+        steep: roots::hypot(gx, gy),
     }
 }
 

@@ -17,8 +17,7 @@ use Rattle.header.proofs.Ranges.{Headed, headed-is}
 use Rattle.walk.specs.Walk.{cell}
 use Rattle.walk.specs.Inside.{Walkable}
 use Rattle.query.specs.Usable.{every, each, cornersUsable, boxUsable, triangleUsable, cellUsable, usableWhole}
-use Rattle.query.proofs.Testing.{in-rows}
-use Rattle.query.proofs.Testing.{every-at, each-at, every-all}
+use Rattle.query.proofs.Testing.{in-rows, every-at, each-at, every-all}
 use Rattle.query.proofs.Passing.{sound-head, sound-triangle, sound-cell}
 
 module _ (ix : Index) (e : usableWhole ix ≡ true) where

@@ -1,7 +1,7 @@
 -- Both sides compute to the same lists.
 use mathlib.Core.Path.{refl}
 use lib.Ieee.{ofBits, toBits, round, sub, div, lt, le, isNan, toUnsigned, ofInt}
-use Rattle.numbers.specs.Root.{rootOf, rootOfUnits, nearestRoot, wholeRoot}
+use Rattle.roots.specs.Root.{rootOf, rootOfUnits, nearestRoot, wholeRoot}
 use Rattle.numbers.specs.Rounding.{roundDownOf}
 use Rattle.numbers.specs.Reals.{maxOf, minOf, absOf}
 use Rattle.plane.specs.Mesh.{triangleOf, lowest, highest, boundsOf}

@@ -1,8 +1,7 @@
 use native.Mathlib.Omega.{arith}
 use borrow.Author.Needs.{needs}
 use denote.Ref.{now}
-use Rattle.job_um.proofs.Reading.{head-stands, refused-answer, accepted-is, counts-within, ready}
-use Rattle.job_um.proofs.Reading.{whole-contract}
+use Rattle.job_um.proofs.Reading.{head-stands, refused-answer, accepted-is, counts-within, ready, whole-contract}
 use Rattle.job_um.proofs.read_job_um.Statement.{statement}
 use Rattle.job_um.proofs.read_job_um.Tie as tie
 

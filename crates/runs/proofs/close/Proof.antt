@@ -1,5 +1,4 @@
-use Rattle.runs.proofs.Tallying.{closed-none}
-use Rattle.runs.proofs.Tallying.{closed-is}
+use Rattle.runs.proofs.Tallying.{closed-none, closed-is}
 use borrow.Author.Tests.{not-true, not-false}
 use mathlib.Core.Path.{_≡_, refl, ap}
 use Rattle.runs.specs.Inside.{closedOf}

@@ -1,9 +1,7 @@
-use Rattle.runs.specs.Inside.{Work, work}
-use Rattle.numbers.proofs.Branches.{bool-called}
+use Rattle.runs.specs.Inside.{Work, work, keptBy}
+use Rattle.numbers.proofs.Branches.{bool-called, taken, left}
 use mathlib.Core.Bool.{true}
 use mathlib.Core.Path.{_≡_, refl, ap}
-use Rattle.runs.specs.Inside.{keptBy}
-use Rattle.numbers.proofs.Branches.{taken, left}
 use borrow.Author.Needs.{needs}
 use Rattle.runs.proofs.keep.Statement.{statement}
 use Rattle.runs.proofs.keep.Tie as tie

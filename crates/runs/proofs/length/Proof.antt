@@ -4,7 +4,7 @@ use Rattle.runs.proofs.length.Statement.{statement}
 use Rattle.runs.proofs.length.Tie as tie
 use Rattle.runs.proofs.length.Reads as reads
 use Rattle.runs.proofs.length.Lts as lts
-use Rattle.numbers.proofs.hypot.Reads as hypot-reads
+use Rattle.roots.proofs.hypot.Reads as hypot-reads
 
 hypot-requires : tie.Need-hypot-requires
 hypot-requires c κs = search needs

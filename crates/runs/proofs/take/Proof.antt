@@ -1,6 +1,5 @@
-use Rattle.runs.specs.Inside.{work}
+use Rattle.runs.specs.Inside.{work, takenBy}
 use mathlib.Core.Path.{_≡_, refl, ap}
-use Rattle.runs.specs.Inside.{takenBy}
 use Rattle.numbers.proofs.Branches.{taken, left}
 use borrow.Author.Needs.{needs}
 use Rattle.runs.proofs.take.Statement.{statement}

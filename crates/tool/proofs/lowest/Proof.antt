@@ -4,9 +4,8 @@ use borrow.Author.Needs.{needs}
 use native.Mathlib.Omega.{arith}
 use lib.ListN.{length}
 use denote.Ref.{now}
-use Rattle.tool.specs.Tool.{lowestOf}
+use Rattle.tool.specs.Tool.{lowestOf, sectionsIn}
 use Rattle.tool.proofs.Sections.{lower}
-use Rattle.tool.specs.Tool.{sectionsIn}
 use Rattle.tool.proofs.lowest.Statement.{statement}
 use Rattle.tool.proofs.lowest.Tie as tie
 

@@ -4,11 +4,10 @@ use borrow.Author.Needs.{needs}
 use native.Mathlib.Omega.{arith}
 use mathlib.Core.Bool.{not}
 use Rattle.section_gap.specs.Blocks.{sectionBlocks}
-use Rattle.tool.specs.Tool.{sectionOf, passesAll}
+use Rattle.tool.specs.Tool.{sectionOf, passesAll, sectionsIn}
 use Rattle.query.specs.Usable.{every}
 use Rattle.query.proofs.Testing.{every-stops, every-goes, every-ends}
 use Rattle.tool.proofs.Sections.{blocks-here, all-left}
-use Rattle.tool.specs.Tool.{sectionsIn}
 use Rattle.tool.proofs.passes_all.Statement.{statement}
 use Rattle.tool.proofs.passes_all.Tie as tie
 

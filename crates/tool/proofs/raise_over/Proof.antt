@@ -4,9 +4,8 @@ use borrow.Author.Needs.{needs}
 use native.Mathlib.Omega.{arith}
 use lib.ListN.{length}
 use denote.Ref.{now}
-use Rattle.tool.specs.Tool.{raisedOver}
+use Rattle.tool.specs.Tool.{raisedOver, sectionsIn}
 use Rattle.tool.proofs.Sections.{higher}
-use Rattle.tool.specs.Tool.{sectionsIn}
 use Rattle.tool.proofs.raise_over.Statement.{statement}
 use Rattle.tool.proofs.raise_over.Tie as tie
 

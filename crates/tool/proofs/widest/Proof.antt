@@ -4,9 +4,8 @@ use borrow.Author.Needs.{needs}
 use native.Mathlib.Omega.{arith}
 use lib.ListN.{length}
 use denote.Ref.{now}
-use Rattle.tool.specs.Tool.{widestOf}
+use Rattle.tool.specs.Tool.{widestOf, sectionsIn}
 use Rattle.tool.proofs.Sections.{wider}
-use Rattle.tool.specs.Tool.{sectionsIn}
 use Rattle.tool.proofs.widest.Statement.{statement}
 use Rattle.tool.proofs.widest.Tie as tie
 

@@ -1,6 +1,0 @@
-use Rattle.numbers.proofs.Computed.{phi-is}
-use Rattle.numbers.proofs.phi.Statement.{statement}
-use Rattle.numbers.proofs.phi.Tie as tie
-
-pub phi-spec : {M : Type 1} → statement M
-phi-spec = tie.close (tie.spec (λ c. phi-is))

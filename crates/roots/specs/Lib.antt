@@ -1,0 +1,4 @@
+pub mod Root
+pub mod Inside
+pub mod Hypot
+pub mod Worked
