@@ -7,7 +7,7 @@ use lib.Ieee.{Float, nan, inf, fin, binary64, add, sub, neg, lt, le, eq, fits, i
 use lib.Ieee.Scale.{finite}
 use Rattle.numbers.specs.Reals.{_⊖_, f0, minOf}
 use Rattle.roots.specs.Hypot.{infinite, hypotOf}
-use Rattle.numbers.proofs.Branches.{either, by-test, no}
+use Rattle.rules.proofs.Branches.{either, by-test, no, holds}
 use Rattle.numbers.proofs.Strict.{lt-never-same}
 use Rattle.spans.proofs.Ranges.{sub-mono}
 use Rattle.spans.proofs.Sizes.{f0-is}
@@ -21,9 +21,6 @@ use Rattle.bull.specs.declared.Bull.{Bull}
 use Rattle.bull.specs.Bull.{bullProfile}
 use Rattle.bull.specs.Inside.{baseOf}
 use Rattle.bull.proofs.Bases.{Based, based, base-low}
-
-pub holds : (b : Bool) → b ≡ true → T b
-holds b e = rw e tt
 
 -- ---- a height less a number that is not below 0
 pub nothing-under : (f : Float) → lt f (inf true) ≡ false

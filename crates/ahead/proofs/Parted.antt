@@ -3,8 +3,9 @@ use mathlib.Core.Bool.{Bool, true, false}
 use mathlib.Core.Path.{_≡_, refl}
 use lib.Dec.{T}
 use lib.Ieee.{Float, binary64, lt, le, fits, isNan}
+use lib.Ieee.Bits.{is-true}
 use Rattle.numbers.specs.Reals.{_⊖_, f0, maxOf}
-use Rattle.numbers.proofs.Branches.{by-test, both-true}
+use Rattle.rules.proofs.Branches.{by-test, both-true, holds}
 use Rattle.numbers.proofs.Strict.{lt-goes-on, lt-number, le-not-lt}
 use Rattle.plane.specs.declared.Triangle.{Triangle}
 use Rattle.plane.specs.Contacts.{exceedsOf}
@@ -17,13 +18,8 @@ use Rattle.tops.specs.Inside.{margin, isLow, liesLow, isApart, liesApart, isPar
 use Rattle.bull.specs.declared.Bull.{Bull}
 use Rattle.bull.specs.Bull.{bullContactAbove}
 use Rattle.bull.specs.Inside.{baseOf}
-use Rattle.ahead.proofs.Lowered.{holds}
 use Rattle.ahead.proofs.Under.{Under, edgeOf, Begun, number, Low, low-is, vertices-under, edge-low, facet-low}
 use Rattle.ahead.proofs.Same.{contact-same, contact-under}
-
-is-true : (b : Bool) → T b → b ≡ true
-is-true true t = refl
-is-true false t = absurd t
 
 -- neither end is above f where the larger is not
 module _ (a b f : Float) (h : le (maxOf a b) f ≡ true) where

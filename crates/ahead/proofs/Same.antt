@@ -3,8 +3,9 @@ use mathlib.Core.Bool.{Bool, true, false}
 use mathlib.Core.Path.{_≡_, refl, ap, sym, _∙_, subst}
 use lib.Dec.{T}
 use lib.Ieee.{Float, inf, lt, le, div, isNan, ofBits}
+use lib.Ieee.Bits.{is-true}
 use Rattle.numbers.specs.Reals.{maxOf}
-use Rattle.numbers.proofs.Branches.{left, either, by-test, no}
+use Rattle.rules.proofs.Branches.{left, either, by-test, no, holds}
 use Rattle.golden.specs.Upper.{minusInfinity}
 use Rattle.plane.specs.declared.Touch.{Touch}
 use Rattle.plane.specs.declared.Triangle.{Triangle}
@@ -22,12 +23,8 @@ use Rattle.bound.proofs.Order.{le-trans}
 use Rattle.caps.proofs.Places.{not-less, number-of}
 use Rattle.bull.specs.declared.Bull.{Bull}
 use Rattle.bull.specs.Bull.{bestSoFar, tooLow, bullEdge, bullEdges, bullVertices, bullFacet, bullContactAbove}
-use Rattle.ahead.proofs.Lowered.{holds, nothing-under}
+use Rattle.ahead.proofs.Lowered.{nothing-under}
 use Rattle.ahead.proofs.Under.{Under, under-none, under-offer, edgeOf}
-
-is-true : (b : Bool) → T b → b ≡ true
-is-true true t = refl
-is-true false t = absurd t
 
 least-is : minusInfinity ≡ inf true
 unfolding ofBits div

@@ -8,7 +8,7 @@ use lib.Ieee.Fits.{add-fits, sub-fits}
 use lib.Ieee.Scale.{finite}
 use Rattle.numbers.specs.Reals.{_⊕_, _⊖_, _⊗_, _⊘_, f0, f1, tiny, minusSlack, minusSlack-is, absOf, minOf}
 use Rattle.roots.specs.Hypot.{hypotOf}
-use Rattle.numbers.proofs.Branches.{either, both-true}
+use Rattle.rules.proofs.Branches.{either, both-true, holds}
 use Rattle.plane.specs.declared.Touch.{Touch}
 use Rattle.plane.specs.declared.Triangle.{Triangle}
 use Rattle.plane.specs.declared.Spot.{Spot}
@@ -36,7 +36,7 @@ use Rattle.tops.proofs.Tops.{deep, first, last, step, corner-under, edge-under,
 use Rattle.bull.specs.declared.Bull.{Bull}
 use Rattle.bull.specs.Bull.{bullProfile, bullOver, bullVertex, bullVertices, bullAt, bullStretch, bullRest, bullFacet}
 use Rattle.bull.specs.Inside.{baseOf}
-use Rattle.ahead.proofs.Lowered.{holds, lowered, Dropped, dropped, distance-up, profile-up, rim}
+use Rattle.ahead.proofs.Lowered.{lowered, Dropped, dropped, distance-up, profile-up, rim}
 use Rattle.ahead.proofs.Resting.{rest-drop}
 
 -- ---- what changes nothing on top of f

@@ -11,7 +11,7 @@ use lib.Ieee.Bits.{is-true}
 use lib.Ieee.Scale.{finite}
 use lib.Ieee.Positive.{den, den-pos}
 use Rattle.numbers.specs.Reals.{_⊕_, _⊖_, _⊗_, f0, f1, minOf, maxOf, absOf, clampUnit}
-use Rattle.numbers.proofs.Branches.{either, by-test, no}
+use Rattle.rules.proofs.Branches.{either, by-test, no}
 use Rattle.plane.specs.Distance.{nearestT, dist2ToSegment}
 use Rattle.spans.proofs.Signed.{upper, lower, is-le, is-sub}
 use Rattle.spans.proofs.Ranges.{finite-between, sub-mono, zero-is}

@@ -8,7 +8,7 @@ use borrow.Author.Tests.{leb-true, eqb-true, eq-eqb, ne-eqb}
 use lib.Dec.{eqb, leb, lit<}
 use lib.Ieee.{Float}
 use lib.ListN.{length, replicate, length-replicate}
-use Rattle.numbers.proofs.Branches.{either, taken, left, both-true}
+use Rattle.rules.proofs.Branches.{either, taken, left, both-true}
 use Rattle.walk.specs.declared.Best.{Best}
 use Rattle.walk.specs.Walk.{Walk, nextStamp, readyMarks, fold, walked, chased}
 use Rattle.walk.specs.Inside.{Below, Room, Walkable, seen, judged, look, strike}
@@ -19,7 +19,7 @@ use Rattle.walk.proofs.Lists.{walk-is, chase-is}
 use Rattle.grid.specs.declared.Header.{Header}
 use Rattle.grid.specs.Boxes.{isBoxed}
 use Rattle.grid.specs.Index.{Index, SoundIndex}
-use Rattle.grid.proofs.Ladder.{demanded, demand-next}
+use Rattle.rules.proofs.Ladder.{demanded, demand-next}
 use Rattle.query.specs.declared.Patch.{Patch}
 use Rattle.query.specs.Asked.{isMarked}
 use Rattle.query.specs.Patch.{patchOf}

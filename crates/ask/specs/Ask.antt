@@ -13,7 +13,7 @@ use Rattle.walk.specs.declared.Best.{Best}
 use Rattle.walk.specs.Walk.{Walk, nextStamp, readyMarks, walked, chased}
 use Rattle.grid.specs.Boxes.{isBoxed}
 use Rattle.grid.specs.Index.{Index}
-use Rattle.grid.specs.Ladder.{demand}
+use Rattle.rules.specs.Ladder.{demand}
 use Rattle.query.specs.declared.Patch.{Patch}
 use Rattle.query.specs.Asked.{isMarked}
 use Rattle.query.specs.Usable.{usable}

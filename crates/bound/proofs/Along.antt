@@ -9,9 +9,9 @@ use lib.Ieee.{Float, nan, inf, fin, binary64, unlike, sum, round, add, sub, mul,
 use lib.Ieee.Scale.{finite}
 use Rattle.numbers.specs.Reals.{_⊕_, _⊖_, _⊗_, f0, f1, million, minOf, maxOf}
 use Rattle.roots.specs.Hypot.{countOf}
-use Rattle.numbers.proofs.Branches.{either}
+use Rattle.rules.proofs.Branches.{either, by-test}
 use Rattle.spans.proofs.Ranges.{finite-between, sub-mono}
-use Rattle.spans.proofs.Sizes.{by-test, either-of, le-self, not-below, max-least}
+use Rattle.spans.proofs.Sizes.{either-of, le-self, not-below, max-least}
 use Rattle.spans.proofs.Extremes.{min-either, max-first}
 use Rattle.bound.specs.Inside.{nearerOf}
 use Rattle.bound.proofs.Order.{O, le-trans, sub-turns, add-left, add-right, mul-up, mul-down, no-lower, no-upper, square-up, square-down}

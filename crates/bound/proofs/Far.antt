@@ -14,7 +14,7 @@ use lib.Ieee.Exact.{HasValue}
 use lib.Ieee.Scale.{finite, grid, round-val, round-under}
 use Rattle.numbers.specs.Reals.{_⊕_, _⊗_, _⊘_, f0, absOf}
 use Rattle.roots.specs.Hypot.{infinite, countOf, hypotOf}
-use Rattle.numbers.proofs.Branches.{no}
+use Rattle.rules.proofs.Branches.{no, holds}
 use Rattle.roots.proofs.Distances.{hypot-least, hypot-between}
 use Rattle.roots.proofs.Packing.{count-of-value}
 use Rattle.roots.proofs.Scales.{square-power}
@@ -27,7 +27,7 @@ use Rattle.bound.specs.Inside.{Beyond}
 use Rattle.bound.proofs.Order.{O, le-trans as le-on, mul-up, neg-turns}
 use Rattle.bound.proofs.Small.{M, Small, small-finite, small-up, small-radius, square-small, square-limit, square-finite, square-nonneg, sum-finite}
 use Rattle.bound.proofs.Rounded.{not-less, not-more}
-use Rattle.bound.proofs.Near.{least, leastBits, least-is, holds, plus, square-value, square-more, squared, sum-is, product-is}
+use Rattle.bound.proofs.Near.{least, leastBits, least-is, plus, square-value, square-more, squared, sum-is, product-is}
 
 -- ---- a distance of at most w is that of numbers of at most w
 both-fine : (x y w : Float) → T (finite w) → T (le (hypotOf x y) w) → T (finite x) × T (finite y)

@@ -14,7 +14,7 @@ use lib.Ieee.Fits.{down-pos}
 use lib.Ieee.Scale.{finite, grid, round-same, round-val, round-under}
 use Rattle.numbers.specs.Reals.{_⊕_, _⊗_, minus1, absOf, minOf}
 use Rattle.roots.specs.Hypot.{countOf, hypotOf}
-use Rattle.numbers.proofs.Branches.{either, no}
+use Rattle.rules.proofs.Branches.{either, no, holds}
 use Rattle.roots.proofs.Distances.{count-is, hypot-under}
 use Rattle.numbers.proofs.Signs.{under-of-le}
 use Rattle.spans.specs.Mesh.{isRadius}
@@ -317,9 +317,6 @@ near x y w t p q r l h =
     (within-squares (countOf x * countOf x) (countOf y * countOf y) (countOf w * countOf w) (a .g) (b .g) (c .s) (m .f) (m .g) (2 ^ 1074) (a .less) (b .less) (c .less) under (m .product) (m .square) large))
 
 -- ---- as the code has it
-pub holds : (b : Bool) → b ≡ true → T b
-holds b e = rw e tt
-
 square-small-enough : (w : Float) → Small w → T (le O w) → T (finite (w ⊗ w ⊗ nearlyOne))
 square-small-enough w s z =
     let a = square-finite w s in

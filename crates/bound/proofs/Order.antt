@@ -15,7 +15,7 @@ use lib.Ieee.Positive.{den, den-pos}
 use Rattle.numbers.proofs.Counts.{round-self}
 use Rattle.spans.proofs.Signed.{upper, lower, le→parts, parts→le, Is, rounded, is-le, is-sub, round-neg}
 use Rattle.spans.proofs.Ranges.{le-trans-finite, sub-mono, zero-is}
-use Rattle.spans.proofs.Sizes.{by-test}
+use Rattle.rules.proofs.Branches.{by-test}
 
 -- ---- `le` goes on, on all f64s
 pub le-trans : (x y z : Float) → T (le x y) → T (le y z) → T (le x z)

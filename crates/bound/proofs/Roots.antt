@@ -19,7 +19,8 @@ use Rattle.roots.proofs.Monotone.{root-mono}
 use Rattle.roots.proofs.Distances.{count-le, counts-mono, hypot-finite}
 use Rattle.numbers.proofs.Signs.{le→under}
 use Rattle.spans.proofs.Signed.{le→parts, parts→le}
-use Rattle.spans.proofs.Sizes.{by-test, either-of, le-self, not-below, max-least, f0-is}
+use Rattle.rules.proofs.Branches.{by-test}
+use Rattle.spans.proofs.Sizes.{either-of, le-self, not-below, max-least, f0-is}
 use Rattle.spans.proofs.Extremes.{min-either, max-first}
 use Rattle.bound.specs.Inside.{nearerOf}
 use Rattle.bound.proofs.Order.{O, le-trans, no-lower, no-upper}

@@ -12,7 +12,8 @@ use Rattle.roots.specs.Hypot.{infinite, countOf, evenRoot, hypotOfCount, hypotO
 use Rattle.roots.proofs.Distances.{hypot-counts}
 use Rattle.spans.specs.Mesh.{isCoordinate, isRadius}
 use Rattle.spans.proofs.Ranges.{finite-between, Coordinate, coordinate, million-is, two, minus-two, extent-finite, extent-high, extent-low}
-use Rattle.spans.proofs.Sizes.{by-test, either-of, le-self, not-below, Radius, radius, f0-is}
+use Rattle.rules.proofs.Branches.{by-test}
+use Rattle.spans.proofs.Sizes.{either-of, le-self, not-below, Radius, radius, f0-is}
 use Rattle.spans.proofs.Extremes.{min-either}
 use Rattle.bound.proofs.Order.{O, le-trans, add-left, add-right, square-up, square-down}
 use Rattle.bound.proofs.Roots.{lt-le, count-rises, count-falls, distance-low}
@@ -67,7 +68,7 @@ zero-square = refl
 pub square-nonneg : (s : Float) → T (finite s) → T (le O (s ⊗ s))
 square-nonneg s p =
     rw zero-square at
-    (by-test {P = T (le (O ⊗ O) (s ⊗ s))} (lt s O)
+    (by-test {A = T (le (O ⊗ O) (s ⊗ s))} (lt s O)
     (λ l. square-down O s tt p (le-self O tt) (lt-le s O l))
     (λ l. square-up O s tt p (le-self O tt) (not-below s O p tt l)))
 

@@ -20,7 +20,7 @@ use Rattle.golden.specs.Search.{lower, upper}
 use Rattle.spans.proofs.Signed as signed
 use Rattle.spans.proofs.Signed.{le→parts, parts→le, Is, rounded, is-le, is-sub, round-neg}
 use Rattle.spans.proofs.Ranges.{finite-between, sub-mono, zero-is}
-use Rattle.spans.proofs.Sizes.{by-test}
+use Rattle.rules.proofs.Branches.{by-test}
 use Rattle.bound.proofs.Order.{O, le-trans, neg-finite, neg-neg, neg-upper, neg-turns, sub-turns, add-is, add-left, add-right, is-mul, mul-up, mul-swap, no-lower, no-upper, own, up-is, down-is}
 
 -- 1, and phi

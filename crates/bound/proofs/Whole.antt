@@ -13,12 +13,12 @@ use lib.Ieee.Back.{round-whole}
 use lib.Ieee.Exact.{HasValue}
 use lib.Ieee.Positive.{num, den, den-pos, positive, positive-of-value, value→cross}
 use lib.Ieee.Scale.{finite}
+use lib.Ieee.Bits.{is-true}
 use Rattle.numbers.specs.Reals.{f0, million, absOf}
-use Rattle.numbers.proofs.Branches.{no, both-true}
+use Rattle.rules.proofs.Branches.{no, both-true}
 use Rattle.spans.specs.Mesh.{isCoordinate, isRadius}
 use Rattle.spans.proofs.Signed.{upper, lower, le→parts, parts→le, Is, is-le, is-sub, is-div}
 use Rattle.spans.proofs.Ranges.{finite-between, num-pos}
-use Rattle.spans.proofs.Scales.{true-of}
 use Rattle.bound.proofs.Small.{M, small-radius}
 use Rattle.bound.proofs.Order.{O, neg-finite, neg-upper, add-is, up-is, down-is, is-mul, no-lower}
 
@@ -287,7 +287,7 @@ within : (x b : Float) (k : ℕ) → T (finite x) → lower x ≡ 0 → HasValue
 within x b k f z v h =
     let p = plus-is b k v in
     let m : upper x ≤ k * den x = omega arith in
-    true-of (le x b)
+    is-true (le x b)
     (parts→le x b f (p .0)
     (rw (p .1, p .2, z)
     (omega (

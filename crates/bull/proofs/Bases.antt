@@ -7,10 +7,11 @@ use lib.IntN.{pos}
 use lib.Ieee.{Float, nan, inf, fin, binary64, sub, neg, add, div, lt, le, eq, fits, isNan, ofBits}
 use lib.Ieee.Fits.{mul-fits}
 use lib.Ieee.Scale.{finite}
+use lib.Ieee.Bits.{is-true}
 use Rattle.numbers.specs.Reals.{_⊖_, _⊗_, _⊘_, f0, minOf}
 use Rattle.roots.specs.Root.{rootOf}
 use Rattle.roots.specs.Hypot.{hypotOf}
-use Rattle.numbers.proofs.Branches.{taken, left, either, by-test, both-true, no}
+use Rattle.rules.proofs.Branches.{taken, left, either, by-test, both-true, no, holds}
 use Rattle.plane.specs.declared.Contact.{Contact}
 use Rattle.plane.specs.declared.Contact.the-variants.{Nothing, Height}
 use Rattle.plane.specs.Contacts.{corner, takeOf}
@@ -29,13 +30,6 @@ use Rattle.bull.specs.declared.Bull.{Bull}
 use Rattle.bull.specs.Bull.{bullProfile, bullOver, bullVertex}
 use Rattle.bull.specs.Inside.{baseOf, lowVertex}
 use Rattle.bull.proofs.Profile.{profile-finite, profile-low}
-
-holds : (b : Bool) → b ≡ true → T b
-holds b e = rw e tt
-
-is-true : (b : Bool) → T b → b ≡ true
-is-true true t = refl
-is-true false t = absurd t
 
 -- ---- as the code makes it
 pub base-none : (k : Bull) → isRadius (k .r) ≡ false → f0 ⊘ f0 ≡ baseOf k

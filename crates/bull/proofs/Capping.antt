@@ -6,8 +6,9 @@ use Prim.Native.Nat.{ℕ}
 use lib.Dec.{T}
 use lib.Ieee.{Float, nan, inf, fin, binary64, div, lt, le, eq, fits, isNan, ofBits}
 use lib.Ieee.Scale.{finite}
+use lib.Ieee.Bits.{is-true}
 use Rattle.numbers.specs.Reals.{_⊖_, _⊘_, f0, minOf, maxOf}
-use Rattle.numbers.proofs.Branches.{by-test, no}
+use Rattle.rules.proofs.Branches.{by-test, no, holds}
 use Rattle.plane.specs.declared.Touch.{Touch}
 use Rattle.plane.specs.declared.Contact.{Contact}
 use Rattle.plane.specs.Contacts.{takeOf}
@@ -32,13 +33,6 @@ use Rattle.bull.specs.Bull.{bullProfile, bullAt}
 use Rattle.bull.specs.Inside.{baseOf, overOf, capOf}
 use Rattle.bull.proofs.Profile.{profile-finite, profile-finite′, profile-up}
 use Rattle.bull.proofs.Bases.{Based, based, base-fine, base-low}
-
-holds : (b : Bool) → b ≡ true → T b
-holds b e = rw e tt
-
-is-true : (b : Bool) → T b → b ≡ true
-is-true true t = refl
-is-true false t = absurd t
 
 none-le : (b : Float) → le (f0 ⊘ f0) b ≡ true → ⊥
 unfolding ofBits div le lt eq

@@ -8,6 +8,8 @@ use lib.Dec.{T}
 use lib.Ieee.{Float, binary64, lt, le, eq, ofBits}
 use lib.Ieee.Scale.{finite}
 use lib.Ieee.Positive.{den, den-pos}
+use lib.Ieee.Bits.{is-true}
+use Rattle.rules.proofs.Branches.{holds}
 use Rattle.numbers.specs.Reals.{_⊕_, _⊖_, _⊗_, f0, minus1, minOf}
 use Rattle.roots.specs.Hypot.{hypotOf}
 use Rattle.spans.specs.Mesh.{isRadius}
@@ -23,13 +25,6 @@ use Rattle.bull.specs.declared.Bull.{Bull}
 use Rattle.bull.specs.declared.Way.{Way}
 use Rattle.bull.specs.Bull.{bullProfile}
 use Rattle.bull.specs.Inside.{wayAt, FlatTo}
-
-holds : (b : Bool) → b ≡ true → T b
-holds b e = rw e tt
-
-is-true : (b : Bool) → T b → b ≡ true
-is-true true t = refl
-is-true false t = absurd t
 
 self-high : (a : Float) → T (finite a) → T (le (a ⊖ a) O)
 self-high a p =

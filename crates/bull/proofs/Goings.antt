@@ -3,7 +3,7 @@ use mathlib.Core.Bool.{Bool, true, false, cond}
 use mathlib.Core.Path.{_≡_, refl, ap, sym, _∙_}
 use lib.Ieee.{Float, nan, inf, fin, lt, le, isNan, div, ofBits}
 use Rattle.numbers.specs.Reals.{maxOf}
-use Rattle.numbers.proofs.Branches.{by-test, no}
+use Rattle.rules.proofs.Branches.{by-test, no}
 use Rattle.plane.specs.declared.Touch.{Touch}
 use Rattle.plane.specs.declared.Triangle.{Triangle}
 use Rattle.plane.specs.declared.Contact.{Contact}

@@ -8,11 +8,12 @@ use lib.IntN.{pos}
 use lib.Ieee.{Float, fin, binary64, sum, round, add, sub, mul, neg, lt, le, eq, fits, ofBits}
 use lib.Ieee.Fits.{sub-fits, mul-fits}
 use lib.Ieee.Scale.{finite}
+use lib.Ieee.Bits.{is-true}
 use Rattle.numbers.specs.Reals.{_⊕_, _⊖_, _⊗_, f0, maxOf}
 use Rattle.roots.specs.Root.{rootOf}
-use Rattle.numbers.proofs.Branches.{left, no}
+use Rattle.rules.proofs.Branches.{left, no, by-test}
 use Rattle.spans.proofs.Ranges.{finite-between, sub-mono, two, minus-two}
-use Rattle.spans.proofs.Sizes.{by-test, either-of, le-self, not-below, max-least}
+use Rattle.spans.proofs.Sizes.{either-of, le-self, not-below, max-least}
 use Rattle.bound.proofs.Order.{O, le-trans, sub-turns, square-up}
 use Rattle.bound.proofs.Roots.{root-finite, root-le, max-up}
 use Rattle.bound.proofs.Small.{M, small-up, small-finite, small-sub, small-range, square-nonneg, square-small, square-limit, square-finite, root-limit}
@@ -26,10 +27,6 @@ first-false false b e = refl
 le-lt : (x y : Float) → le x y ≡ false → lt x y ≡ false
 unfolding le
 le-lt x y e = first-false (lt x y) (eq x y) e
-
-is-true : (b : Bool) → T b → b ≡ true
-is-true true t = refl
-is-true false t = absurd t
 
 -- 3e6, and its square
 abbrev L : Float

@@ -2,7 +2,7 @@
 use mathlib.Core.Bool.{false}
 use mathlib.Core.Path.{_≡_, refl, sym, _∙_}
 use lib.Ieee.{Float}
-use Rattle.numbers.proofs.Branches.{left}
+use Rattle.rules.proofs.Branches.{left}
 use Rattle.plane.specs.declared.Touch.{Touch}
 use Rattle.plane.specs.declared.Contact.{Contact}
 use Rattle.plane.specs.Contacts.{edge, takeOf}

@@ -6,7 +6,7 @@ use native.Mathlib.Omega.{arith}
 use lib.Dec.{T}
 use lib.Ieee.{Float, binary64, lt, le, fits}
 use Rattle.numbers.specs.Reals.{f0, maxOf}
-use Rattle.numbers.proofs.Branches.{both-true}
+use Rattle.rules.proofs.Branches.{both-true}
 use Rattle.plane.specs.declared.Triangle.{Triangle}
 use Rattle.golden.specs.declared.Golden.{Golden}
 use Rattle.golden.specs.Search.{rises, goldenAt, bestOf, goldenMax}

@@ -7,7 +7,7 @@ use native.Mathlib.Omega.{arith}
 use borrow.Author.Tests.{ltb-true, lt-ltb}
 use lib.Ieee.{Float, nan, inf, fin, up, down, lt, isNan, ofBits}
 use Rattle.numbers.specs.Reals.{f0, maxOf}
-use Rattle.numbers.proofs.Branches.{either, no}
+use Rattle.rules.proofs.Branches.{either, no}
 use Rattle.golden.specs.Search.{rises, goldenAt, bestOf, goldenMax}
 
 factor : (a b B : ℕ) → b < a * B → 0 < a

@@ -14,12 +14,12 @@ use lib.Ieee.Positive.{den, den-pos}
 use Rattle.numbers.specs.Reals.{_⊕_, _⊖_, _⊗_, f0, minOf, maxOf}
 use Rattle.roots.specs.Root.{rootOf}
 use Rattle.roots.specs.Hypot.{countOf, hypotOf}
-use Rattle.numbers.proofs.Branches.{either, left, taken, no, both-true}
+use Rattle.rules.proofs.Branches.{either, left, taken, no, both-true, by-test, holds}
 use Rattle.roots.proofs.Distances.{hypot-counts}
 use Rattle.spans.specs.Mesh.{isCoordinate}
 use Rattle.spans.proofs.Signed.{upper, lower, is-le, is-sub}
 use Rattle.spans.proofs.Ranges.{finite-between, sub-mono, zero-is, two, minus-two}
-use Rattle.spans.proofs.Sizes.{by-test, either-of, le-self, not-below, max-least, f0-is}
+use Rattle.spans.proofs.Sizes.{either-of, le-self, not-below, max-least, f0-is}
 use Rattle.spans.proofs.Extremes.{min-either}
 use Rattle.bound.specs.Inside.{nearerOf}
 use Rattle.bound.proofs.Order.{O, le-trans, sub-turns, square-up, own}
@@ -32,9 +32,6 @@ use Rattle.bull_pass.specs.declared.Strip.{Strip}
 use Rattle.bull_pass.specs.declared.Block.{Block}
 use Rattle.bull_pass.specs.Inside.{cutterFair, sideTame, tameOf, leastOf, loweredOf, underOf}
 use Rattle.bull_pass.proofs.Spread.{minus-between}
-
-pub holds : (b : Bool) → b ≡ true → T b
-holds b e = rw e tt
 
 pub chosen : (a b : Bool) → cond a b false ≡ true → (a ≡ true) × (b ≡ true)
 chosen true b e = (refl, e)

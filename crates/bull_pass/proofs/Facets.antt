@@ -9,7 +9,7 @@ use lib.Ieee.Scale.{finite}
 use lib.Ieee.Positive.{positive}
 use Rattle.numbers.specs.Reals.{_⊕_, _⊖_, _⊗_, _⊘_, f0, f1, tiny, minusSlack, noSlope, absOf, minOf, maxOf}
 use Rattle.roots.specs.Root.{rootOf}
-use Rattle.numbers.proofs.Branches.{either, both-true, no}
+use Rattle.rules.proofs.Branches.{either, both-true, no, by-test, holds}
 use Rattle.plane.specs.declared.Triangle.{Triangle}
 use Rattle.plane.specs.declared.Weights.{Weights}
 use Rattle.plane.specs.declared.Contact.{Contact}
@@ -22,7 +22,7 @@ use Rattle.touch.specs.declared.Rest.{Rest}
 use Rattle.touch.specs.Touch.{weighedOf, spotHeight, facetHeight, restOf}
 use Rattle.spans.specs.Mesh.{isCoordinate}
 use Rattle.spans.proofs.Ranges.{finite-between, sub-mono}
-use Rattle.spans.proofs.Sizes.{by-test, either-of, not-below, above-finite}
+use Rattle.spans.proofs.Sizes.{either-of, not-below, above-finite}
 use Rattle.spans.proofs.Extremes.{min-either}
 use Rattle.bound.proofs.Order.{O, le-trans, sub-turns, add-left}
 use Rattle.bound.proofs.Along.{Between, add-parts, sub-parts}
@@ -33,7 +33,7 @@ use Rattle.bull_pass.specs.declared.Range.{Range}
 use Rattle.bull_pass.specs.declared.Products.{Products}
 use Rattle.bull_pass.specs.Inside.{rangeOf, weightOf, plainProducts, plainRange, outsideOf, rangesMiss, productsMiss, missesOf}
 use Rattle.bull_pass.proofs.Spread.{mul-parts, product-left, product-right, minus-between, quotient, below-all, div-parts}
-use Rattle.bull_pass.proofs.Blocks.{holds, chosen}
+use Rattle.bull_pass.proofs.Blocks.{chosen}
 
 -- ---- a determinant that counts is not 0
 whole-positive : T (positive tiny)

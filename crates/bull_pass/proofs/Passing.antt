@@ -11,7 +11,7 @@ use lib.Ieee.Scale.{finite}
 use Rattle.numbers.specs.Reals.{_⊕_, _⊖_, _⊗_, _⊘_, f0, f1, f2, f4, minOf, maxOf}
 use Rattle.roots.specs.Root.{rootOf}
 use Rattle.roots.specs.Hypot.{hypotOf}
-use Rattle.numbers.proofs.Branches.{either, left, taken, no, both-true}
+use Rattle.rules.proofs.Branches.{either, left, taken, no, both-true, by-test, holds}
 use Rattle.plane.specs.declared.Triangle.{Triangle}
 use Rattle.plane.specs.declared.Touch.{Touch}
 use Rattle.plane.specs.declared.Contact.{Contact}
@@ -29,7 +29,7 @@ use Rattle.above.specs.Above.{offerOf}
 use Rattle.touch.specs.Touch.{edgeAb, edgeBc, edgeCa, along, distanceAt, length2, crossedOf, reachedOf, facingOf, facetHeight}
 use Rattle.spans.specs.Mesh.{isCoordinate}
 use Rattle.spans.proofs.Ranges.{finite-between, sub-mono}
-use Rattle.spans.proofs.Sizes.{by-test, either-of, le-self, not-below, f0-is, f1-is}
+use Rattle.spans.proofs.Sizes.{either-of, le-self, not-below, f0-is, f1-is}
 use Rattle.spans.proofs.Extremes.{min-either}
 use Rattle.bound.proofs.Order.{O, le-trans, sub-turns, add-left}
 use Rattle.bound.proofs.Roots.{lt-le}
@@ -46,7 +46,7 @@ use Rattle.bull_pass.specs.declared.March.{March}
 use Rattle.bull_pass.specs.Inside.{stripOf, axisFair, tipKept, tipFair, cutterFair, fairOf, sideTame, tameOf, underOf, pointBlock, edgeBlock, cornersPass, edgeFair, pieceUnder, marchStep, marchRun, edgePasses, edgesPass, restsMiss, facetPasses, passesOf}
 use Rattle.bull_pass.proofs.Spread.{along-part, mul-parts}
 use Rattle.bull_pass.proofs.Marching.{step-under, step-over}
-use Rattle.bull_pass.proofs.Blocks.{holds, chosen, OnStrip, InBlock, block-under}
+use Rattle.bull_pass.proofs.Blocks.{chosen, OnStrip, InBlock, block-under}
 use Rattle.bull_pass.proofs.Facets.{facet-none, missed-fine, rest-x, rest-y}
 
 next : (a b : Bool) → cond a true b ≡ true → a ≡ false → b ≡ true

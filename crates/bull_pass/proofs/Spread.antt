@@ -8,9 +8,9 @@ use lib.Ieee.{Float, nan, inf, fin, binary64, unlike, add, sub, mul, div, neg, l
 use lib.Ieee.Scale.{finite}
 use lib.Ieee.Positive.{positive}
 use Rattle.numbers.specs.Reals.{_⊕_, _⊖_, _⊗_, _⊘_, minOf, maxOf}
-use Rattle.numbers.proofs.Branches.{no}
+use Rattle.rules.proofs.Branches.{no, by-test}
 use Rattle.spans.proofs.Ranges.{finite-between, sub-mono, div-up}
-use Rattle.spans.proofs.Sizes.{by-test, not-below}
+use Rattle.spans.proofs.Sizes.{not-below}
 use Rattle.bound.proofs.Order.{O, le-trans, sub-turns, add-right, mul-up, mul-down, mul-swap, neg-finite, neg-turns, no-lower, no-upper}
 use Rattle.bound.proofs.Roots.{lt-le}
 use Rattle.bound.proofs.Held.{not-above}

@@ -5,7 +5,7 @@ use Prim.Native.Nat.{ℕ, _≤_}
 use lib.Dec.{T}
 use lib.Ieee.{Float, nan, inf, fin, binary64, add, div, lt, le, eq, isNan, ofBits}
 use Rattle.numbers.specs.Reals.{_⊕_, _⊘_, f0, maxOf}
-use Rattle.numbers.proofs.Branches.{by-test, no}
+use Rattle.rules.proofs.Branches.{by-test, no, holds}
 use Rattle.plane.specs.declared.Touch.{Touch}
 use Rattle.plane.specs.declared.Contact.{Contact}
 use Rattle.plane.specs.declared.Contact.the-variants.{Nothing, Height}
@@ -22,9 +22,6 @@ use Rattle.caps.proofs.Bracket.{In}
 use Rattle.caps.proofs.Inside.{largest-in}
 use Rattle.caps.proofs.Boxes.{Ordered}
 use Rattle.caps.proofs.Narrow.{narrow-ends, given-up}
-
-holds : (b : Bool) → b ≡ true → T b
-holds b e = rw e tt
 
 -- ---- what is not above b
 nan-under : (b x : Float) → isNan x ≡ true → lt b x ≡ false

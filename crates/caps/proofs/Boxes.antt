@@ -8,7 +8,7 @@ use lib.Ieee.{Float, fin, binary64, lt, le, fits, ofBits}
 use lib.Ieee.Scale.{finite}
 use Rattle.numbers.specs.Reals.{_⊖_, f0, f1, minOf, maxOf}
 use Rattle.roots.specs.Hypot.{countOf, hypotOf}
-use Rattle.numbers.proofs.Branches.{both-true}
+use Rattle.rules.proofs.Branches.{both-true, holds}
 use Rattle.roots.proofs.Distances.{hypot-counts}
 use Rattle.touch.specs.declared.Edge.{Edge}
 use Rattle.touch.specs.Touch.{along, distanceAt}
@@ -23,9 +23,6 @@ use Rattle.bound.proofs.Along.{Between, at, sub-parts, along-on, side-on, neare
 use Rattle.bound.proofs.Small.{M, M′, Small, small, small-finite, small-between, small-distance}
 use Rattle.caps.specs.Inside.{highOn, sideOn, leastOn, sideTame, inOrder, tameOn}
 use Rattle.caps.proofs.Bracket.{In}
-
-holds : (b : Bool) → b ≡ true → T b
-holds b e = rw e tt
 
 -- ---- the places
 pub record Ordered (lo hi : Float) : Type 0 where

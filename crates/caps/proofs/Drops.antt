@@ -4,16 +4,10 @@ use mathlib.Core.Path.{_≡_, refl, sym, _∙_, subst}
 use lib.Dec.{T}
 use lib.Ieee.{Float, nan, inf, fin, binary64, sub, neg, add, lt, le, eq, isNan}
 use lib.Ieee.Scale.{finite}
+use lib.Ieee.Bits.{is-true}
 use Rattle.numbers.specs.Reals.{_⊕_, _⊖_}
-use Rattle.numbers.proofs.Branches.{no}
+use Rattle.rules.proofs.Branches.{no, holds}
 use Rattle.bound.proofs.Order.{le-trans, sub-turns}
-
-holds : (b : Bool) → b ≡ true → T b
-holds b e = rw e tt
-
-is-true : (b : Bool) → T b → b ≡ true
-is-true true t = refl
-is-true false t = absurd t
 
 -- ---- a NaN leaves nothing out
 pub drop-nan : (z n b : Float) → isNan n ≡ true → le (z ⊖ n) b ≡ true → ⊥

@@ -7,13 +7,10 @@ use lib.Ieee.{Float, fin, binary64, le, fits, ofBits}
 use lib.Ieee.Scale.{finite}
 use Rattle.numbers.specs.Reals.{f1}
 use Rattle.roots.specs.Root.{rootOf, rootOfUnits, nearestRoot, wholeRoot}
-use Rattle.numbers.proofs.Branches.{either}
+use Rattle.rules.proofs.Branches.{either, holds}
 use Rattle.bound.proofs.Order.{O, le-trans}
 use Rattle.bound.proofs.Roots.{root-le}
 use Rattle.caps.specs.Inside.{rootMost, root6, root12, root22, square12, square22}
-
-holds : (b : Bool) → b ≡ true → T b
-holds b e = rw e tt
 
 -- 2 ^ 22
 abbrev pub R : Float

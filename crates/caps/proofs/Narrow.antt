@@ -7,7 +7,7 @@ use borrow.Author.Tests.{ltb-true, ltb-false}
 use lib.Dec.{T, ltb}
 use lib.Ieee.{Float, binary64, lt, le, fits, isNan}
 use Rattle.numbers.specs.Reals.{maxOf}
-use Rattle.numbers.proofs.Branches.{by-test}
+use Rattle.rules.proofs.Branches.{by-test, holds}
 use Rattle.golden.specs.declared.Golden.{Golden}
 use Rattle.golden.specs.Search.{rises, probeOf, narrowedOf, startOf, goldenStart, goldenStep, goldenAt, bestOf, goldenMax}
 use Rattle.bound.proofs.Order.{O, le-trans}
@@ -18,9 +18,6 @@ use Rattle.caps.proofs.Bracket.{In}
 use Rattle.caps.proofs.Inside.{Stays, narrows, found-in, found-ends, low-in, high-in}
 use Rattle.caps.proofs.Places.{not-less, number-of}
 use Rattle.caps.proofs.Boxes.{Ordered}
-
-holds : (b : Bool) → b ≡ true → T b
-holds b e = rw e tt
 
 module _ (f : Float → Float) (lo hi : Float) where
   -- the values are those at the inner points

@@ -7,7 +7,7 @@ use lib.Ieee.Fits.{div-fits}
 use lib.Ieee.Scale.{finite}
 use Rattle.numbers.specs.Reals.{_⊕_, _⊖_, _⊗_, _⊘_, f0, f1, f2, f4, maxOf, minOf}
 use Rattle.roots.specs.Root.{rootOf}
-use Rattle.numbers.proofs.Branches.{either, by-test, no}
+use Rattle.rules.proofs.Branches.{either, by-test, no}
 use Rattle.touch.specs.declared.Edge.{Edge}
 use Rattle.touch.specs.declared.Stretch.{Stretch}
 use Rattle.touch.specs.declared.Stretch.the-variants.{Nowhere, Between}

@@ -5,7 +5,7 @@ use mathlib.Core.Logic.{_⊎_, inl, inr}
 use mathlib.Core.Path.{_≡_, refl, sym, ap, _∙_, subst}
 use Prim.Native.Nat.{ℕ}
 use lib.ListN.{length, take}
-use Rattle.numbers.proofs.Branches.{either}
+use Rattle.rules.proofs.Branches.{either}
 use Rattle.plane.specs.declared.Contact.{Contact}
 use Rattle.plane.specs.Contacts.{takeOf}
 use Rattle.capsule.specs.declared.Capsule.{Capsule}

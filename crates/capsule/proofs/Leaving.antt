@@ -13,7 +13,7 @@ use lib.Ieee.Scale.{finite}
 use Rattle.numbers.specs.Reals.{_⊕_, _⊖_, _⊗_, _⊘_, f0, f1, f2, f4, minusSlack, pastOne, threeMillion, maxOf, absOf, clampUnit}
 use Rattle.roots.specs.Root.{wholeRoot, rootOf}
 use Rattle.roots.specs.Hypot.{infinite, countOf, evenRoot, hypotOfCount, hypotOf}
-use Rattle.numbers.proofs.Branches.{by-test, both-true, no}
+use Rattle.rules.proofs.Branches.{by-test, both-true, no}
 use Rattle.spans.proofs.Ranges.{finite-between}
 use Rattle.spans.proofs.Sizes.{not-below, max-least}
 use Rattle.spans.proofs.Extremes.{max-first}

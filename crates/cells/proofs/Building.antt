@@ -7,9 +7,11 @@ use native.Mathlib.Numerals.{add-one}
 use native.Mathlib.Omega.{arith}
 use lib.ListN.{length, getD, drop, length-append, length-drop, List·getD-append}
 use lib.Seq.{ext-getD, getD-append-add, getD-append-seam, getD-drop}
-use Rattle.cells.specs.Cover.{Cover, membersOf, listed, startOf, entries, startsOf, membersTable, weight}
+use Rattle.cells.specs.Cover.{Cover, membersOf, listed, startOf, entries, startsOf, membersTable}
+use Rattle.rules.specs.Every.{weight}
 use Rattle.cells.specs.Inside.{entry, sums, Cleared, Room, CountedAll, Summed, Ready, Filled, Fits}
-use Rattle.cells.proofs.Sets.{by-lt, by-test, weight-off}
+use Rattle.cells.proofs.Sets.{by-lt, weight-off}
+use Rattle.rules.proofs.Branches.{by-test}
 use Rattle.cells.proofs.Members.{members-suc, start-more, all-members}
 
 -- ---- a table that is xs in front and the old one behind
@@ -61,7 +63,7 @@ members-none on (suc n) c h =
       arith,
       members-none on n c (λ i l. h i (omega arith)),
       members-suc on n c,
-      by-test {P = weight (on n c) ≡ 0} (on n c) (λ e. absurd (h n (omega arith) e)) (weight-off (on n c)),
+      by-test {A = weight (on n c) ≡ 0} (on n c) (λ e. absurd (h n (omega arith) e)) (weight-off (on n c)),
     )
 
 module _ (on : Cover) (n cells : ℕ) (s₀ m₀ : List ℕ) (fits : Fits on n cells s₀ m₀) where

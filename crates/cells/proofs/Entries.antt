@@ -11,9 +11,11 @@ use native.Mathlib.Nat.{zero-add}
 use lib.Dec.{eqb}
 use lib.ListN.{length, getD, set, length-set}
 use lib.Seq.{getD-set-same, getD-set-other}
-use Rattle.cells.specs.Cover.{Cover, membersOf, weight}
+use Rattle.cells.specs.Cover.{Cover, membersOf}
+use Rattle.rules.specs.Every.{weight}
 use Rattle.cells.specs.Inside.{Set, Counted, CountedAll, Cleared, entry, sums, Summed, Open, Placed}
-use Rattle.cells.proofs.Sets.{Split, by-test, by-lt, weight-on, weight-off, weight-le, weight-up, on-of-weight}
+use Rattle.cells.proofs.Sets.{Split, by-lt, weight-on, weight-off, weight-le, weight-up, on-of-weight}
+use Rattle.rules.proofs.Branches.{by-test}
 use Rattle.cells.proofs.Members.{members-more}
 
 -- ---- a store

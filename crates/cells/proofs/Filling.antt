@@ -7,7 +7,8 @@ use native.Mathlib.Omega.{arith}
 use lib.ListN.{length, getD}
 use Rattle.cells.specs.Cover.{Cover, membersOf, startOf}
 use Rattle.cells.specs.Inside.{Open, Placed, Ready, Filled}
-use Rattle.cells.proofs.Sets.{by-lt, by-test, weight-on, weight-off}
+use Rattle.cells.proofs.Sets.{by-lt, weight-on, weight-off}
+use Rattle.rules.proofs.Branches.{by-test}
 use Rattle.cells.proofs.Members.{members-more, members-mono, member-at, start-more, cell-before}
 
 module _ (on : Cover) (n cells : ℕ) (s₀ m₀ : List ℕ) (ready : Ready on n cells s₀ m₀) where

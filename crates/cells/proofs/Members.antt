@@ -7,8 +7,10 @@ use native.Mathlib.Numerals.{add-one}
 use native.Mathlib.Omega.{arith}
 use lib.ListN.{length, getD, length-append, List·getD-append}
 use lib.Seq.{getD-append-seam, getD-append-add}
-use Rattle.cells.specs.Cover.{Cover, membersOf, listed, startOf, weight}
-use Rattle.cells.proofs.Sets.{by-lt, by-test, weight-le, weight-on}
+use Rattle.cells.specs.Cover.{Cover, membersOf, listed, startOf}
+use Rattle.rules.specs.Every.{weight}
+use Rattle.cells.proofs.Sets.{by-lt, weight-le, weight-on}
+use Rattle.rules.proofs.Branches.{by-test}
 
 module _ (on : Cover) where
   -- one more triangle

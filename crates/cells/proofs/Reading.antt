@@ -7,8 +7,11 @@ use native.Mathlib.Omega.{arith}
 use borrow.Author.Tests.{eq-eqb, ne-eqb}
 use lib.ListN.{length, getD, drop, length-append, List·getD-append}
 use lib.Seq.{take-at, drop-at, getD-append-seam}
-use Rattle.cells.specs.Cover.{Cover, membersOf, listed, startOf, entries, startsOf, membersTable, stretch, weight, times}
-use Rattle.cells.proofs.Sets.{by-lt, by-test}
+use Rattle.rules.proofs.Times.{times-append}
+use Rattle.cells.specs.Cover.{Cover, membersOf, listed, startOf, entries, startsOf, membersTable, stretch}
+use Rattle.rules.specs.Every.{weight, times}
+use Rattle.cells.proofs.Sets.{by-lt}
+use Rattle.rules.proofs.Branches.{by-test}
 use Rattle.cells.proofs.Members.{start-more, start-mono}
 use Rattle.cells.proofs.Building.{entries-length, entries-at}
 
@@ -59,11 +62,6 @@ module _ (on : Cover) (n : ℕ) where
     pub starts-within : (c : ℕ) → c ≤ cells → getD (startsOf on n cells s) c 0 ≤ length (membersTable on n cells m)
     unfolding membersTable startOf
     starts-within c h = omega (arith, start-at c h, start-mono on n c cells h, length-append (listed on n cells) (drop (length (listed on n cells)) m))
-
-times-append : (i : ℕ) (xs ys : List ℕ) → times i (xs ++ ys) ≡ times i xs + times i ys
-unfolding times
-times-append i [] ys = omega arith
-times-append i (x ∷ xs) ys = omega (arith, times-append i xs ys)
 
 -- how often triangle i stands in a cell's list
 module _ (on : Cover) (c : ℕ) where

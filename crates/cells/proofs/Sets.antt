@@ -6,8 +6,10 @@ use native.Mathlib.Nat.{div-add-mod', mod-lt, mul-le-mul-right, add-mul}
 use native.Mathlib.Omega.{arith}
 use borrow.Author.Tests.{lt-ltb, le-ltb, le-leb, lt-leb, eq-eqb, ne-eqb, ltb-true, ltb-false}
 use lib.Dec.{leb, ltb, eqb}
+use Rattle.rules.proofs.Branches.{by-test}
 use Rattle.cells.specs.declared.Cells.{Cells}
-use Rattle.cells.specs.Cover.{isFrom, covers, weight}
+use Rattle.rules.specs.Every.{isFrom, weight}
+use Rattle.cells.specs.Cover.{covers}
 use Rattle.cells.specs.Inside.{Set, between}
 
 -- ---- by cases
@@ -17,10 +19,6 @@ by-lt {P} a b f g = go (ltb a b) (λ e. f (ltb-true a b e)) (λ e. g (ltb-false 
     go : (t : Bool) → (t ≡ true → P) → (t ≡ false → P) → P
     go true x y = x refl
     go false x y = y refl
-
-pub by-test : {P : Type 0} (t : Bool) → (t ≡ true → P) → (t ≡ false → P) → P
-by-test true x y = x refl
-by-test false x y = y refl
 
 pub weight-on : (b : Bool) → b ≡ true → weight b ≡ 1
 weight-on b e = rw e

@@ -2,13 +2,9 @@
 use mathlib.Core.Bool.{Bool, cond, _&&_}
 use mathlib.Core.List.{List, [], _∷_, _++_}
 use Prim.Native.Nat.{ℕ, zero, suc, _+_, _-_, _*_, _/_, _%_}
-use lib.Dec.{leb, eqb}
 use lib.ListN.{length, getD, take, drop}
+use Rattle.rules.specs.Every.{isFrom}
 use Rattle.cells.specs.declared.Cells.{Cells}
-
--- k is one of the numbers from a to e, both included.
-unfoldable pub isFrom : ℕ → ℕ → ℕ → Bool
-isFrom a e k = leb a k && leb k e
 
 -- Cell c lies in columns left to right of rows bottom to top, both ends included. Its number is y * columns + x.
 unfoldable pub covers : ℕ → Cells → ℕ → Bool
@@ -52,12 +48,3 @@ membersTable on n cells old = listed on n cells ++ drop (startOf on n cells) old
 -- What is read of cell c: the stretch of the member table between two starts.
 abbrev pub stretch : List ℕ → List ℕ → ℕ → List ℕ
 stretch starts members c = take (getD starts (c + 1) 0 - getD starts c 0) (drop (getD starts c 0) members)
-
--- 1 for what holds, 0 for what does not.
-abbrev pub weight : Bool → ℕ
-weight b = cond b 1 0
-
--- How often i stands in a list.
-unfoldable pub times : ℕ → List ℕ → ℕ
-times i [] = 0
-times i (x ∷ xs) = weight (eqb i x) + times i xs

@@ -7,7 +7,8 @@ use Prim.Native.Nat.{ℕ, zero, suc, _+_, _^_, _≤_, _<_}
 use lib.Dec.{leb, ltb}
 use lib.ListN.{length, getD}
 use Rattle.cells.specs.declared.Cells.{Cells}
-use Rattle.cells.specs.Cover.{Cover, membersOf, startOf, weight}
+use Rattle.cells.specs.Cover.{Cover, membersOf, startOf}
+use Rattle.rules.specs.Every.{weight}
 
 -- A triangle's cells end inside the columns, and row times columns fits the machine.
 pub record Fitting (columns : ℕ) (b : Cells) : Type 0 where

@@ -11,12 +11,12 @@ use lib.Ieee.Compare.{differs-from-itself}
 use lib.ListN.{length}
 use lib.Seq.{ext-getD}
 use Rattle.numbers.specs.Reals.{num}
-use Rattle.numbers.proofs.Branches.{no}
+use Rattle.rules.proofs.Branches.{no}
 use Rattle.plane.specs.declared.Bounds.{Bounds}
 use Rattle.spans.specs.Mesh.{boxOf, epsOf}
 use Rattle.spans.specs.Axis.{stretchOf}
 use Rattle.spans.specs.declared.Stretch.{Stretch}
-use Rattle.cells.specs.Cover.{isFrom}
+use Rattle.rules.specs.Every.{isFrom}
 use Rattle.cells.proofs.Sets.{by-lt}
 use Rattle.grid.specs.declared.Grid.{Grid}
 use Rattle.grid.specs.declared.Header.{Header}

@@ -10,7 +10,7 @@ use borrow.Author.Tests.{leb-true, ltb-true, le-leb, lt-leb, le-ltb, lt-ltb}
 use lib.Dec.{leb, ltb}
 use lib.ListN.{length, getD, drop, length-drop, drop-of-length-le}
 use lib.Seq.{drop-cons, append-snoc, length-take-le, getD-take, getD-drop}
-use Rattle.numbers.proofs.Branches.{and-off, both-true, by-test}
+use Rattle.rules.proofs.Branches.{and-off, both-true, by-test}
 use Rattle.cells.specs.Cover.{Cover, membersOf, listed, startOf, startsOf, membersTable, stretch}
 use Rattle.cells.proofs.Sets.{off-right, weight-on}
 use Rattle.cells.proofs.Members.{members-suc, members-more, members-mono, start-more, all-members}

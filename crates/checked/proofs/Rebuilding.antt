@@ -9,13 +9,13 @@ use lib.Dec.{eqb, ltb}
 use lib.Ieee.{Float}
 use lib.ListN.{length, drop, length-append, length-drop}
 use lib.Seq.{drop-at}
-use Rattle.numbers.proofs.Branches.{no, by-test}
+use Rattle.rules.proofs.Branches.{no, by-test}
 use Rattle.spans.specs.Mesh.{isCoordinate, isRadius, firstBad}
 use Rattle.cells.specs.Cover.{Cover, listed, startOf, entries, startsOf, membersTable}
 use Rattle.cells.proofs.Building.{entries-length}
 use Rattle.grid.specs.declared.Grid.{Grid}
 use Rattle.grid.specs.declared.Header.{Header}
-use Rattle.grid.specs.Ladder.{demand, refuse}
+use Rattle.rules.specs.Ladder.{demand, refuse}
 use Rattle.grid.specs.Grid.{trianglesIn, gridOf, cellsIn, coverOf}
 use Rattle.grid.specs.Boxes.{isBoxed, boxesOf}
 use Rattle.grid.specs.Header.{headerOf}

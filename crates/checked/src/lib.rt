@@ -5,7 +5,7 @@ ghost use mathlib.Core.Path.{_≡_};
 ghost use Prim.Native.Nat.{ℕ, _+_, _*_, _<_, _≤_};
 ghost use lib.ListN.{length};
 ghost use Rattle.spans.specs.Inside.{AllGood};
-ghost use Rattle.cells.specs.Cover.{isFrom};
+ghost use Rattle.rules.specs.Every.{isFrom};
 ghost use Rattle.grid.specs.Grid.{cellsIn, coverOf};
 ghost use Rattle.grid.specs.Boxes.{boxAt, boxesOf};
 ghost use Rattle.grid.specs.Header.{headerOf};

@@ -6,7 +6,7 @@ use Prim.Native.Nat.{ℕ, _*_, _≤_, _<_}
 use native.Mathlib.Omega.{arith}
 use lib.Ieee.{Float}
 use lib.ListN.{length}
-use Rattle.numbers.proofs.Branches.{taken, left}
+use Rattle.rules.proofs.Branches.{taken, left}
 use Rattle.walk.specs.declared.Verdict.{Verdict}
 use Rattle.walk.specs.Walk.{Walk, fold, chased, nextStamp, readyMarks}
 use Rattle.walk.specs.Inside.{judged, strike, Room, Walkable}

@@ -9,8 +9,8 @@ use borrow.Author.Tests.{eqb-true, eqb-false, eq-eqb, ne-eqb}
 use lib.Dec.{eqb}
 use lib.ListN.{length, getD, set, length-set}
 use lib.Seq.{getD-set-same, getD-set-other}
-use Rattle.numbers.proofs.Branches.{either, by-test}
-use Rattle.cells.specs.Cover.{times, weight}
+use Rattle.rules.proofs.Branches.{either, by-test}
+use Rattle.rules.specs.Every.{times, weight}
 use Rattle.walk.specs.Walk.{Walk, fold}
 use Rattle.walk.specs.declared.Best.{Best}
 use Rattle.walk.specs.declared.Seen.{Seen}

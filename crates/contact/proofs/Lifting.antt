@@ -7,8 +7,9 @@ use Prim.Native.Nat.{ℕ, _+_}
 use lib.Dec.{T}
 use lib.Ieee.{Float, nan, inf, fin, binary64, div, lt, le, fits, isNan, ofBits}
 use lib.ListN.{length}
+use lib.Ieee.Bits.{is-true}
 use Rattle.numbers.specs.Reals.{_⊘_, f0, f1}
-use Rattle.numbers.proofs.Branches.{either, by-test, no}
+use Rattle.rules.proofs.Branches.{either, by-test, no}
 use Rattle.numbers.proofs.Strict.{le-not-lt}
 use Rattle.plane.specs.declared.Triangle.{Triangle}
 use Rattle.plane.specs.declared.Contact.{Contact}
@@ -35,10 +36,6 @@ use Rattle.ask.proofs.Beside.{raised-beside}
 use Rattle.contact.specs.declared.Sight.{Sight}
 use Rattle.contact.specs.Contact.{bullRaised, bullStep}
 use Rattle.contact.specs.Inside.{lost, firstRaised, fromRaised, fromStep}
-
-is-true : (b : Bool) → T b → b ≡ true
-is-true true t = refl
-is-true false t = absurd t
 
 -- ---- a walk that is lost stays so
 never-over : (z : Float) → exceedsOf z (f1 ⊘ f0) ≡ false

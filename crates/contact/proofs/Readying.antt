@@ -7,7 +7,7 @@ use native.Mathlib.Omega.{arith}
 use lib.Dec.{eqb}
 use lib.ListN.{length, getD, getD-replicate}
 use Rattle.numbers.specs.Reals.{f0}
-use Rattle.numbers.proofs.Branches.{by-test}
+use Rattle.rules.proofs.Branches.{by-test}
 use Rattle.walk.specs.declared.Best.{Best}
 use Rattle.walk.specs.Walk.{cell, row, nextStamp, readyMarks}
 use Rattle.grid.specs.Index.{Index}

@@ -8,13 +8,12 @@ use lib.Dec.{T}
 use lib.Ieee.{Float, binary64, le, fits}
 use lib.ListN.{length}
 use Rattle.numbers.specs.Reals.{f0}
-use Rattle.numbers.proofs.Branches.{both-true}
+use Rattle.rules.proofs.Branches.{both-true, holds}
 use Rattle.bound.proofs.Held.{not-above}
 use Rattle.tops.specs.Inside.{isStart}
 use Rattle.bull.specs.declared.Bull.{Bull}
 use Rattle.bull.specs.Inside.{baseOf}
 use Rattle.ahead.proofs.Under.{begun, number, not-exceeds}
-use Rattle.ahead.proofs.Lowered.{holds}
 use Rattle.walk.specs.declared.Best.{Best}
 use Rattle.walk.specs.declared.Seen.{Seen}
 use Rattle.walk.specs.Walk.{fold}

@@ -8,7 +8,7 @@ use lib.ListN.{length, getD}
 use Rattle.numbers.specs.Reals.{_⊘_, f0, f1}
 use Rattle.plane.specs.declared.Triangle.{Triangle}
 use Rattle.plane.specs.Mesh.{triangleOf}
-use Rattle.cells.specs.Cover.{times}
+use Rattle.rules.specs.Every.{times}
 use Rattle.tops.specs.Inside.{isStart, isParted}
 use Rattle.bull.specs.declared.Bull.{Bull}
 use Rattle.bull.specs.Inside.{baseOf}

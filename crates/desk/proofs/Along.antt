@@ -7,11 +7,11 @@ use native.Mathlib.Omega.{arith}
 use lib.Dec.{eqb, lit<}
 use lib.Ieee.{Float}
 use borrow.Author.Tests.{eq-eqb, ne-eqb}
-use Rattle.numbers.proofs.Branches.{taken, left}
+use Rattle.rules.proofs.Branches.{taken, left}
 use Rattle.grid.specs.Index.{Index, BuiltFrom}
 use Rattle.grid.specs.Boxes.{isBoxed}
-use Rattle.grid.specs.Ladder.{demand}
-use Rattle.grid.proofs.Ladder.{demanded}
+use Rattle.rules.specs.Ladder.{demand}
+use Rattle.rules.proofs.Ladder.{demanded}
 use Rattle.query.specs.Asked.{isMarked}
 use Rattle.rows.specs.declared.Axis.{Axis}
 use Rattle.rows.specs.declared.Axis.the-variants.{X, Y}

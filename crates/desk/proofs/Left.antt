@@ -8,8 +8,8 @@ use borrow.Author.Tests.{eq-eqb, ne-eqb}
 use lib.Dec.{eqb}
 use lib.Ieee.{Float, lt, le}
 use Rattle.numbers.specs.Reals.{f0, millionth, twoMillion, twoMillionths}
-use Rattle.numbers.proofs.Branches.{taken, left, both-true}
-use Rattle.cells.specs.Cover.{isFrom}
+use Rattle.rules.proofs.Branches.{taken, left, both-true}
+use Rattle.rules.specs.Every.{isFrom}
 use Rattle.spans.specs.Mesh.{isCoordinate, isRadius}
 use Rattle.grid.specs.declared.Header.{Header}
 use Rattle.grid.specs.Header.{inRanges}

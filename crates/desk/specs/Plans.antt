@@ -8,7 +8,7 @@ use lib.ListN.{getD}
 use Rattle.numbers.specs.Reals.{num}
 use Rattle.grid.specs.Boxes.{isBoxed}
 use Rattle.grid.specs.Index.{Index}
-use Rattle.grid.specs.Ladder.{demand}
+use Rattle.rules.specs.Ladder.{demand}
 use Rattle.query.specs.Asked.{isMarked}
 use Rattle.rows.specs.declared.Axis.{Axis}
 use Rattle.rows.specs.declared.Axis.the-variants.{X, Y}

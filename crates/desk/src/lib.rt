@@ -6,7 +6,7 @@ ghost use Rattle.desk.specs.Doors.{builtLeft, builtLeftBy, heightLeft, h
 ghost use Rattle.grid.specs.Build.{buildOf};
 ghost use Rattle.grid.specs.Boxes.{isBoxed};
 ghost use Rattle.grid.specs.Index.{indexOf, BuildPromise};
-ghost use Rattle.grid.specs.Ladder.{demand};
+ghost use Rattle.rules.specs.Ladder.{demand};
 ghost use Rattle.query.specs.Asked.{isMarked};
 ghost use Rattle.height.specs.Height.{maxHeightOf};
 ghost use Rattle.height.specs.Sweep.{sweep};

@@ -6,7 +6,7 @@ use borrow.Author.Tests.{eq-eqb, ne-eqb, lt-ltb, le-ltb}
 use lib.Dec.{eqb}
 use lib.Ieee.{Float}
 use lib.ListN.{length, getD}
-use Rattle.grid.specs.Ladder.{demand}
+use Rattle.rules.specs.Ladder.{demand}
 use Rattle.moves.specs.declared.Point.{Point}
 use Rattle.moves.specs.declared.Heights.{Heights}
 use Rattle.moves.specs.declared.State.{State}

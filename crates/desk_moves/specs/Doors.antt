@@ -6,7 +6,7 @@ use lib.Dec.{eqb, ltb}
 use lib.Ieee.{Float}
 use lib.ListN.{length, getD}
 use Rattle.numbers.specs.Reals.{f0, num}
-use Rattle.grid.specs.Ladder.{demand}
+use Rattle.rules.specs.Ladder.{demand}
 use Rattle.moves.specs.declared.Point.{Point}
 use Rattle.moves.specs.declared.Heights.{Heights}
 use Rattle.moves.specs.declared.State.{State}

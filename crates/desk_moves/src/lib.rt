@@ -4,7 +4,7 @@ ghost use mathlib.Core.Path.{_≡_};
 ghost use Prim.Native.Nat.{_%_};
 ghost use lib.Dec.{eqb};
 ghost use lib.ListN.{length};
-ghost use Rattle.grid.specs.Ladder.{demand};
+ghost use Rattle.rules.specs.Ladder.{demand};
 ghost use Rattle.moves.specs.Begin.{beginOf};
 ghost use Rattle.moves.specs.Laws.{Followed};
 ghost use Rattle.desk_moves.specs.Doors.{pointFrom, heightsFrom, earlyPhase, latePhase, phaseFrom, stateFrom, begunLeft, begunLeftBy, nextFrom, endLeft, kindLeft, idLeft, nextLeft, nextLeftBy};

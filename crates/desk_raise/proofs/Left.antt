@@ -7,7 +7,7 @@ use borrow.Author.Tests.{eq-eqb, ne-eqb, eqb-true, eqb-false}
 use lib.Dec.{eqb}
 use lib.Ieee.{Float}
 use Rattle.numbers.specs.Reals.{f0}
-use Rattle.numbers.proofs.Branches.{taken, left as passed-by, by-test}
+use Rattle.rules.proofs.Branches.{taken, left as passed-by, by-test}
 use Rattle.grid.specs.declared.Header.{Header}
 use Rattle.grid.specs.declared.Built.{Built}
 use Rattle.grid.specs.Build.{toldWith, refusedBy, acceptedWith}

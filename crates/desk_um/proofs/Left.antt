@@ -8,11 +8,11 @@ use borrow.Author.Tests.{eq-eqb, ne-eqb, eqb-true, leb-true, leb-false}
 use lib.Dec.{eqb, leb}
 use lib.IntN.{ℤ, pos, negsuc}
 use lib.Pow.{pow-mono}
-use Rattle.numbers.proofs.Branches.{taken, left, by-test, both-true, no}
+use Rattle.rules.proofs.Branches.{taken, left, by-test, both-true, no}
 use Rattle.fields.specs.Rows.{somewhere}
 use Rattle.fields.specs.declared.Place.{Place}
 use Rattle.fields.specs.declared.Place.the-variants.{Nowhere, At}
-use Rattle.cells.specs.Cover.{isFrom}
+use Rattle.rules.specs.Every.{isFrom}
 use Rattle.ask.specs.Ask.{ended}
 use Rattle.micro.specs.Micro.{counted, numberOf, isCoordinate, isRadius, firstWhere}
 use Rattle.job_um.specs.Reader as reader

@@ -9,11 +9,11 @@ use lib.ListN.{length, take, length-append}
 use lib.Seq.{take-take, take-append-le, length-take-le}
 use Rattle.fields.specs.declared.Shape.{Shape}
 use Rattle.fields.specs.Little.{Field, value}
-use Rattle.fields.specs.Ladder.{refuse}
+use Rattle.rules.specs.Ladder.{refuse}
 use Rattle.fields.specs.Length.{bytesOf, wholeIn, lengthRule, refuseLength, Whole}
 use Rattle.fields.specs.Copies.{ToldApart}
 use Rattle.fields.proofs.Bytes.{value-cut}
-use Rattle.fields.proofs.Ladder.{refuse-here, refuse-next}
+use Rattle.rules.proofs.Ladder.{refuse-here, refuse-next}
 use Rattle.fields.proofs.Lengths.{rung-short, rung-surplus, whole-is}
 
 -- a field of the head is the same in two files whose heads are

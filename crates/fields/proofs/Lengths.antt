@@ -5,7 +5,7 @@ use native.Mathlib.Nat.{mul-le-mul-left, mul-le-mul-right, div-zero, zero-div, d
 use native.Mathlib.Omega.{arith}
 use borrow.Author.Tests.{lt-ltb, le-ltb, ltb-true, ltb-false}
 use lib.Dec.{ltb}
-use Rattle.numbers.proofs.Branches.{taken, left, either}
+use Rattle.rules.proofs.Branches.{taken, left, either}
 use Rattle.fields.specs.declared.Shape.{Shape}
 use Rattle.fields.specs.declared.Length.{Length}
 use Rattle.fields.specs.declared.Length.the-variants.{Short, Exact, Surplus}

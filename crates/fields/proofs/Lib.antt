@@ -2,6 +2,6 @@ pub mod Bytes
 pub mod Finite
 pub mod Tables
 pub mod Rows
-pub mod Ladder
+pub mod Room
 pub mod Lengths
 pub mod Copies

@@ -1,5 +1,5 @@
 pub mod Little
 pub mod Rows
-pub mod Ladder
+pub mod Room
 pub mod Length
 pub mod Copies

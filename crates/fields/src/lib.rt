@@ -5,7 +5,7 @@ ghost use lib.Ieee.{binary64, ofBits};
 ghost use lib.ListN.{length};
 ghost use Rattle.fields.specs.Little.{field, value};
 ghost use Rattle.fields.specs.Rows.{finite, allFinite};
-ghost use Rattle.fields.specs.Ladder.{tooMany};
+ghost use Rattle.fields.specs.Room.{tooMany};
 ghost use Rattle.fields.specs.Length.{bytesOf, wholeIn, lengthRule, Whole};
 
 // Where a search found something.

@@ -11,7 +11,7 @@ use lib.Dec.{leb}
 use lib.Ieee.{Float}
 use lib.ListN.{length, getD, List·getD-append, set, take, drop, replicate, length-append, length-drop, length-take}
 use lib.Seq.{getD-append-add, sets-eq, take-append-add, drop-append-add, drop-cons, set-at}
-use Rattle.numbers.proofs.Branches.{taken, left}
+use Rattle.rules.proofs.Branches.{taken, left}
 use Rattle.fives.specs.Tables.{roomOf, putAt, written}
 
 on-or-off : (b : Bool) → (b ≡ true) ⊎ (b ≡ false)

@@ -11,7 +11,7 @@ use lib.Ieee.{Float}
 use lib.ListN.{length, set, take, drop, length-take, length-append}
 use lib.Seq.{sets-eq, take-at}
 use Rattle.section.specs.declared.Section.{Section}
-use Rattle.numbers.proofs.Branches.{either}
+use Rattle.rules.proofs.Branches.{either}
 use Rattle.flatten.specs.declared.Table.{Table}
 use Rattle.flatten.specs.Flat.{four, flatOf, sectionIn, copiedOf, heldIn}
 

@@ -5,7 +5,7 @@ use Prim.Native.Nat.{ℕ, zero, suc, _+_, _-_, _≤_, _<_}
 use native.Mathlib.Omega.{arith}
 use lib.Ieee.{Float, lt}
 use Rattle.numbers.specs.Reals.{maxOf}
-use Rattle.numbers.proofs.Branches.{taken, left}
+use Rattle.rules.proofs.Branches.{taken, left}
 use Rattle.golden.specs.declared.Golden.{Golden}
 use Rattle.golden.specs.declared.Bracket.{Bracket}
 use Rattle.golden.specs.Search.{rises, goldenStart, goldenStep}

@@ -9,7 +9,7 @@ use borrow.Author.Tests.{eq-eqb, ne-eqb, eqb-true, eqb-false, ltb-false}
 use lib.Dec.{lit<}
 use lib.Ieee.{Float}
 use lib.ListN.{length}
-use Rattle.numbers.proofs.Branches.{taken, left, by-test}
+use Rattle.rules.proofs.Branches.{taken, left, by-test}
 use Rattle.spans.specs.Mesh.{isCoordinate, isRadius, badFrom, firstBad}
 use Rattle.spans.specs.Inside.{AllGood}
 use Rattle.spans.specs.declared.Place.{Place}
@@ -24,7 +24,7 @@ use Rattle.grid.specs.Header.{headerOf}
 use Rattle.grid.specs.Boxes.{isBoxed, boxesOf}
 use Rattle.grid.specs.Build.{isNowhere, placeOf, toldWith, refusalOfNumbers, refusalOfMesh, refusalOfGrid, refusalOfMembers, Outcome, outcome, refusedBy, acceptedWith, unless, filledOf, gridded, buildOf}
 use Rattle.grid.specs.Inside.{Gridded}
-use Rattle.grid.proofs.Ladder.{refused-not, demanded}
+use Rattle.rules.proofs.Ladder.{refused-not, demanded}
 use Rattle.grid.proofs.Gridding.{counted}
 
 -- ---- refusals 1, 23, 3, 2 and 4

@@ -11,7 +11,7 @@ use lib.Ieee.{Float, nan}
 use lib.ListN.{length, getD, List·getD-append, take, drop, length-append, length-drop, drop-of-length-le}
 use lib.Seq.{getD-append-add, take-append-add, drop-append-add, drop-drop}
 use Rattle.numbers.specs.Reals.{num}
-use Rattle.numbers.proofs.Branches.{taken}
+use Rattle.rules.proofs.Branches.{taken}
 use Rattle.plane.specs.declared.Bounds.{Bounds}
 use Rattle.spans.specs.Mesh.{boxOf}
 use Rattle.fives.specs.Tables.{putAt}

@@ -8,15 +8,18 @@ use native.Mathlib.Omega.{arith}
 use borrow.Author.Tests.{eqb-true, eqb-false, le-leb}
 use lib.Dec.{eqb}
 use lib.Ieee.{Float, ofBits, le}
+use lib.Ieee.Bits.{is-true}
 use lib.ListN.{length}
 use Rattle.numbers.specs.Reals.{millionth, twoMillion}
 use Rattle.spans.specs.Mesh.{isCoordinate, extentOf, boxOf}
 use Rattle.spans.specs.Axis.{cellsAlong}
 use Rattle.spans.proofs.Ranges.{coordinate, two}
-use Rattle.spans.proofs.Sizes.{Size, by-test, radius, size-range}
+use Rattle.spans.proofs.Sizes.{Size, radius, size-range}
+use Rattle.rules.proofs.Branches.{by-test}
 use Rattle.spans.proofs.Extremes.{Ordered, ordered-x, ordered-y, along-few, in-order, near-ends}
-use Rattle.spans.proofs.Scales.{true-of, eps-above, eps-under}
-use Rattle.cells.specs.Cover.{isFrom, startsOf, membersTable}
+use Rattle.spans.proofs.Scales.{eps-above, eps-under}
+use Rattle.rules.specs.Every.{isFrom}
+use Rattle.cells.specs.Cover.{startsOf, membersTable}
 use Rattle.cells.proofs.Reading.{cell-is, starts-room, starts-rise, starts-within, once, member-of}
 use Rattle.grid.specs.declared.Built.{Built}
 use Rattle.grid.specs.Grid.{trianglesIn, gridOf, cellsIn, cellsOf, coverOf}
@@ -98,8 +101,8 @@ module _ (mesh : List Float) (floor r : Float) (x : List Float) (a : Accepted me
       let e₁ : isFrom 1 65536 n ≡ true = from 1 65536 n (omega (arith, a .some)) (a .few) in
       let e₂ : isCoordinate (g .x) ≡ true = unfold gridOf in across 0 (a .some) .lo-good in
       let e₃ : isCoordinate (g .y) ≡ true = unfold gridOf in upward 0 (a .some) .lo-good in
-      let e₄ : le millionth (g .size) ≡ true = true-of _ (size-good .least) in
-      let e₅ : le (g .size) twoMillion ≡ true = rw two-million-is (true-of _ (size-good .most)) in
+      let e₄ : le millionth (g .size) ≡ true = is-true _ (size-good .least) in
+      let e₅ : le (g .size) twoMillion ≡ true = rw two-million-is (is-true _ (size-good .most)) in
       let e₆ : isFrom 1 65536 (g .columns) ≡ true = from 1 65536 (g .columns) (omega (arith, grid-some)) (p .wide) in
       let e₇ : isFrom 1 65536 (g .rows) ≡ true = from 1 65536 (g .rows) (omega (arith, grid-some)) (p .tall) in
       let e₈ : isFrom 1 1048576 (g .rows * g .columns) ≡ true = from 1 1048576 (g .rows * g .columns) (mul-pos (grid-some .1) (grid-some .0)) (p .few) in

@@ -1,4 +1,3 @@
-pub mod Ladder
 pub mod Gridding
 pub mod Boxing
 pub mod Accepting

@@ -16,7 +16,7 @@ use Rattle.grid.specs.declared.Built.{Built}
 use Rattle.grid.specs.Grid.{trianglesIn, gridOf, cellsIn, coverOf}
 use Rattle.grid.specs.Boxes.{isBoxed, boxesOf}
 use Rattle.grid.specs.Header.{headerOf}
-use Rattle.grid.specs.Ladder.{refuse, demand}
+use Rattle.rules.specs.Ladder.{refuse, demand}
 
 -- No place was found.
 unfoldable pub isNowhere : Place → Bool

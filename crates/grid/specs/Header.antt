@@ -5,7 +5,7 @@ use Prim.Native.Nat.{ℕ, _*_}
 use lib.Ieee.{Float, lt, le}
 use Rattle.numbers.specs.Reals.{f0, millionth, twoMillion, twoMillionths}
 use Rattle.spans.specs.Mesh.{isCoordinate, isRadius, epsOf}
-use Rattle.cells.specs.Cover.{isFrom}
+use Rattle.rules.specs.Every.{isFrom}
 use Rattle.grid.specs.declared.Grid.{Grid}
 use Rattle.grid.specs.declared.Header.{Header}
 

@@ -8,7 +8,8 @@ use lib.ListN.{length, getD}
 use lib.Ieee.{Float}
 use Rattle.spans.specs.Mesh.{boxOf}
 use Rattle.spans.specs.Inside.{AllGood}
-use Rattle.cells.specs.Cover.{Cover, membersOf, stretch, weight, times}
+use Rattle.cells.specs.Cover.{Cover, membersOf, stretch}
+use Rattle.rules.specs.Every.{weight, times}
 use Rattle.cells.specs.declared.Cells.{Cells}
 use Rattle.grid.specs.declared.Grid.{Grid}
 use Rattle.grid.specs.declared.Header.{Header}

@@ -1,4 +1,3 @@
-pub mod Ladder
 pub mod Grid
 pub mod Boxes
 pub mod Header

@@ -5,8 +5,8 @@ use Prim.Native.Nat.{ℕ, _≤_}
 use native.Mathlib.Omega.{arith}
 use borrow.Author.Tests.{leb-true}
 use lib.Dec.{leb}
-use Rattle.numbers.proofs.Branches.{both-true}
-use Rattle.cells.specs.Cover.{isFrom}
+use Rattle.rules.proofs.Branches.{both-true}
+use Rattle.rules.specs.Every.{isFrom}
 
 pub three : (a b c d : Bool) → ((a && (b && c)) && d) ≡ (a && (b && (c && d)))
 three true true c d = refl

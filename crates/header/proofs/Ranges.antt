@@ -9,8 +9,8 @@ use lib.Dec.{eqb, leb}
 use lib.Ieee.{Float, lt, le}
 use lib.ListN.{length}
 use Rattle.numbers.specs.Reals.{f0, millionth, twoMillion, twoMillionths}
-use Rattle.numbers.proofs.Branches.{both-true}
-use Rattle.cells.specs.Cover.{isFrom}
+use Rattle.rules.proofs.Branches.{both-true}
+use Rattle.rules.specs.Every.{isFrom}
 use Rattle.spans.specs.Mesh.{isCoordinate, isRadius}
 use Rattle.grid.specs.declared.Header.{Header}
 use Rattle.grid.specs.Header.{inRanges}

@@ -4,7 +4,7 @@ ghost use mathlib.Core.Bool.{_&&_};
 ghost use Prim.Native.Nat.{_*_};
 ghost use lib.Ieee.{lt, le};
 ghost use Rattle.numbers.specs.Reals.{f0, millionth, twoMillion, twoMillionths};
-ghost use Rattle.cells.specs.Cover.{isFrom};
+ghost use Rattle.rules.specs.Every.{isFrom};
 ghost use Rattle.spans.specs.Mesh.{isCoordinate, isRadius};
 ghost use Rattle.grid.specs.Header.{inRanges};
 ghost use Rattle.header.specs.Head.{headUsable, sizesInRanges};

@@ -6,7 +6,7 @@ use Prim.Native.Nat.{ℕ, _*_, _≤_}
 use native.Mathlib.Omega.{arith}
 use borrow.Author.Tests.{eq-eqb}
 use lib.ListN.{length}
-use Rattle.numbers.proofs.Branches.{taken}
+use Rattle.rules.proofs.Branches.{taken}
 use Rattle.walk.specs.declared.Best.{Best}
 use Rattle.walk.specs.Walk.{Walk, nextStamp}
 use Rattle.grid.specs.Index.{Index}

@@ -5,7 +5,7 @@ use mathlib.Core.Logic.{inl, inr, ⊎-elim}
 use mathlib.Core.Path.{_≡_, ap}
 use Prim.Native.Nat.{ℕ, _<_}
 use native.Mathlib.Omega.{arith}
-use Rattle.cells.specs.Cover.{times}
+use Rattle.rules.specs.Every.{times}
 use Rattle.walk.specs.Walk.{walked}
 use Rattle.plane.specs.declared.Bounds.{Bounds}
 use Rattle.plane.specs.Mesh.{triangleOf, topOf, boundsOf}

@@ -9,10 +9,10 @@ use borrow.Author.Tests.{eq-eqb, eqb-true}
 use lib.Dec.{eqb}
 use lib.Ieee.{Float, nan, inf, fin, lt, le, eq, isNan}
 use Rattle.numbers.specs.Reals.{absOf}
-use Rattle.numbers.proofs.Branches.{by-test, no}
+use Rattle.rules.proofs.Branches.{by-test, no}
 use Rattle.numbers.proofs.Strict.{lt-goes-on, lt-never-same, lt-number, le-not-lt}
 use Rattle.spans.specs.Mesh.{isCoordinate}
-use Rattle.cells.specs.Cover.{times}
+use Rattle.rules.specs.Every.{times}
 use Rattle.plane.specs.declared.Touch.{Touch}
 use Rattle.plane.specs.declared.Contact.{Contact}
 use Rattle.plane.specs.declared.Contact.the-variants.{Nothing, Height}

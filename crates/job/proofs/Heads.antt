@@ -9,15 +9,17 @@ use native.Mathlib.Omega.{arith}
 use borrow.Author.Tests.{eq-eqb, eqb-true, eqb-false, le-ltb, ltb-false, ne-eqb, not-false}
 use lib.Dec.{eqb, lit<}
 use lib.ListN.{length, take}
-use Rattle.numbers.proofs.Branches.{taken, left}
+use Rattle.rules.proofs.Branches.{taken, left}
 use Rattle.fields.specs.Little.{Field, value}
-use Rattle.fields.specs.Ladder.{refuse, tooMany}
+use Rattle.rules.specs.Ladder.{refuse}
+use Rattle.fields.specs.Room.{tooMany}
 use Rattle.fields.specs.Length.{wholeIn, lengthRule, refuseLength}
 use Rattle.fields.specs.Copies.{ToldApart}
 use Rattle.fields.specs.declared.Shape.{Shape}
 use Rattle.fields.specs.declared.Length.{Length}
 use Rattle.fields.specs.declared.Length.the-variants.{Short, Exact, Surplus}
-use Rattle.fields.proofs.Ladder.{refuse-next, refused-not, refused-later, agrees, room-for, room-enough}
+use Rattle.rules.proofs.Ladder.{refuse-next, refused-not, refused-later, agrees}
+use Rattle.fields.proofs.Room.{room-for, room-enough}
 use Rattle.fields.proofs.Lengths.{exact-only, short-only, rung-exact, rung-told}
 use Rattle.fields.proofs.Copies.{Ladder, said, value-head, told-apart}
 use Rattle.job.specs.Layout.{mark, version, zeroByte, triangles, questions, letters, headBytes, shape, bytesOf}

@@ -7,8 +7,8 @@ use native.Mathlib.Nat.{zero-add}
 use native.Mathlib.Omega.{arith}
 use lib.Dec.{lit<}
 use lib.ListN.{length}
-use Rattle.fields.specs.Ladder.{refuse}
-use Rattle.fields.proofs.Ladder.{refuse-next, refused-not}
+use Rattle.rules.specs.Ladder.{refuse}
+use Rattle.rules.proofs.Ladder.{refuse-next, refused-not}
 use Rattle.fields.proofs.Rows.{passed, passes}
 use Rattle.job.specs.Layout.{bytesOf, wide}
 use Rattle.job.specs.Head.{Headed}

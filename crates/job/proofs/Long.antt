@@ -8,10 +8,12 @@ use lib.Dec.{eqb, ltb}
 use lib.Ieee.{Float}
 use lib.ListN.{length, take}
 use lib.Seq.{take-all, length-take-le}
-use Rattle.numbers.proofs.Branches.{by-test}
-use Rattle.fields.specs.Ladder.{refuse, tooMany}
+use Rattle.rules.proofs.Branches.{by-test}
+use Rattle.rules.specs.Ladder.{refuse}
+use Rattle.fields.specs.Room.{tooMany}
 use Rattle.fields.proofs.Bytes.{value-cut}
-use Rattle.fields.proofs.Ladder.{room-for, refuse-same}
+use Rattle.fields.proofs.Room.{room-for}
+use Rattle.rules.proofs.Ladder.{refuse-same}
 use Rattle.fields.proofs.Lengths.{rung-surplus}
 use Rattle.job.specs.Layout.{mark, version, zeroByte, triangles, questions, bytesOf, shape, wide}
 use Rattle.job.specs.Head.{refusalOfLength, refusalOfCounts, refusalOfHead}

@@ -7,7 +7,8 @@ use Prim.Native.Nat.{ℕ, _≤_}
 use lib.Dec.{eqb, ltb}
 use lib.ListN.{length}
 use Rattle.fields.specs.Little.{value}
-use Rattle.fields.specs.Ladder.{refuse, tooMany}
+use Rattle.rules.specs.Ladder.{refuse}
+use Rattle.fields.specs.Room.{tooMany}
 use Rattle.fields.specs.Length.{wholeIn, lengthRule, refuseLength}
 use Rattle.fields.specs.declared.Shape.{Shape}
 use Rattle.job.specs.Layout.{mark, version, zeroByte, triangles, questions, letters, headBytes, shape, bytesOf}

@@ -9,7 +9,7 @@ use lib.ListN.{length, drop}
 use Rattle.numbers.specs.Reals.{f0}
 use Rattle.fields.specs.Little.{value}
 use Rattle.fields.specs.Rows.{finite, row, firstBad, somewhere}
-use Rattle.fields.specs.Ladder.{refuse}
+use Rattle.rules.specs.Ladder.{refuse}
 use Rattle.fields.specs.Copies.{ToldApart}
 use Rattle.fields.specs.declared.Shape.{Shape}
 use Rattle.job.specs.Layout.{mark, version, zeroByte, triangles, questions, number, letters, wide, numbers, meshFrom, questionsFrom, bytesOf}

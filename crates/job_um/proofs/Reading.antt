@@ -7,10 +7,10 @@ use borrow.Author.Tests.{eq-eqb, ne-eqb, eqb-true, le-ltb}
 use lib.Dec.{eqb}
 use lib.IntN.{ℤ}
 use lib.ListN.{length, drop}
-use Rattle.numbers.proofs.Branches.{taken, left, either}
+use Rattle.rules.proofs.Branches.{taken, left, either}
 use Rattle.fields.specs.Little.{value}
 use Rattle.fields.specs.Rows.{row}
-use Rattle.fields.proofs.Ladder.{refuse-here, refuse-next, agrees, differs}
+use Rattle.rules.proofs.Ladder.{refuse-here, refuse-next, agrees, differs}
 use Rattle.job.specs.Layout.{triangles, questions, meshFrom, questionsFrom, bytesOf, narrow}
 use Rattle.job.specs.Head.{refusalOfHead, toldIn, Headed}
 use Rattle.job.specs.Reader as version1

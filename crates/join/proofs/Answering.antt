@@ -9,7 +9,7 @@ use lib.Dec.{eqb}
 use lib.Ieee.{Float}
 use lib.ListN.{length, take, drop, length-replicate}
 use Rattle.numbers.specs.Reals.{f0}
-use Rattle.numbers.proofs.Branches.{taken, left, by-test}
+use Rattle.rules.proofs.Branches.{taken, left, by-test}
 use Rattle.fives.specs.Tables.{roomOf, written, zeroed}
 use Rattle.runs.specs.Runs.{joinedOf, fiveOf}
 use Rattle.runs.specs.declared.Run.{Run}

@@ -11,7 +11,7 @@ use lib.ListN.{length, getD, take, drop, replicate, length-append, length-drop, 
 use lib.Seq.{getD-append-add, getD-drop, take-append-add, drop-append-add, take-all, drop-length}
 use borrow.Rule.Slice.PartMut.{midOf, putMid, post-is}
 use Rattle.numbers.specs.Reals.{f0, num}
-use Rattle.numbers.proofs.Branches.{by-test}
+use Rattle.rules.proofs.Branches.{by-test}
 use Rattle.fives.specs.Tables.{written, zeroed}
 use Rattle.fives.proofs.Writing.{written-at}
 use Rattle.runs.specs.Runs.{fiveOf}

@@ -5,7 +5,7 @@ use mathlib.Core.Path.{_≡_, refl, sym, ap, _∙_}
 use Prim.Native.Nat.{ℕ, zero, suc, _≤_}
 use native.Mathlib.Omega.{arith}
 use lib.ListN.{length, take, drop, take-append-drop}
-use Rattle.numbers.proofs.Branches.{by-test}
+use Rattle.rules.proofs.Branches.{by-test}
 use Rattle.fives.specs.Groups.{grouping, grouped}
 use Rattle.runs.specs.Runs.{touchesOf, lengthened, joinedOf}
 use Rattle.runs.specs.declared.Run.{Run}

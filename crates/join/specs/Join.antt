@@ -7,7 +7,7 @@ use lib.Ieee.{Float}
 use lib.ListN.{length}
 use Rattle.numbers.specs.Reals.{num}
 use Rattle.fields.specs.Rows.{allFinite}
-use Rattle.grid.specs.Ladder.{demand}
+use Rattle.rules.specs.Ladder.{demand}
 use Rattle.fives.specs.Tables.{roomOf, written, zeroed}
 use Rattle.runs.specs.Runs.{joinedOf, fiveOf}
 use Rattle.runs.specs.declared.Run.{Run}

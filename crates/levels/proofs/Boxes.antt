@@ -6,7 +6,7 @@ use Prim.Native.Nat.{ℕ, zero, suc, _<_}
 use native.Mathlib.Omega.{arith}
 use lib.Ieee.{Float}
 use Rattle.numbers.specs.Reals.{_⊕_, minOf, maxOf}
-use Rattle.numbers.proofs.Branches.{either}
+use Rattle.rules.proofs.Branches.{either}
 use Rattle.plane.specs.Mesh.{triangleOf}
 use Rattle.plane.specs.declared.Bounds.{Bounds}
 use Rattle.plane.specs.declared.Triangle.{Triangle}

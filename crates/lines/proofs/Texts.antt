@@ -9,7 +9,7 @@ use native.Mathlib.Omega.{arith}
 use lib.Dec.{eqb}
 use lib.ListN.{length, getD, take, drop, set, length-append}
 use lib.Seq.{take-suc-set, take-suc, take-all, drop-drop, drop-set-lt}
-use Rattle.numbers.proofs.Branches.{either}
+use Rattle.rules.proofs.Branches.{either}
 use Rattle.lines.specs.Lines.{glyphOf, spelled}
 use Rattle.lines.specs.Inside.{Wrote}
 

@@ -8,7 +8,7 @@ use lib.Dec.{lit<}
 use lib.Ieee.{Float}
 use lib.ListN.{take, replicate}
 use Rattle.numbers.specs.Reals.{f0}
-use Rattle.numbers.proofs.Branches.{taken, left}
+use Rattle.rules.proofs.Branches.{taken, left}
 use Rattle.job.specs.declared.Read.{Read}
 use Rattle.job.specs.Reader as job
 use Rattle.job.proofs.Long.{read-cut}

@@ -11,7 +11,7 @@ use Rattle.walk.specs.Walk.{chased, clearOf, upTo, marked, nextStamp, readyMark
 use Rattle.walk.specs.Inside.{Walkable}
 use Rattle.grid.specs.Boxes.{isBoxed}
 use Rattle.grid.specs.Index.{Index}
-use Rattle.grid.proofs.Ladder.{demand-next}
+use Rattle.rules.proofs.Ladder.{demand-next}
 use Rattle.query.specs.declared.Patch.{Patch}
 use Rattle.query.specs.Usable.{usableWhole}
 use Rattle.query.specs.Looked.{within}

@@ -7,7 +7,7 @@ use native.Mathlib.Nat.{add-zero, zero-add}
 use native.Mathlib.Omega.{arith}
 use borrow.Author.Tests.{ltb-true, ltb-false}
 use lib.Dec.{ltb}
-use Rattle.numbers.proofs.Branches.{by-test, no}
+use Rattle.rules.proofs.Branches.{by-test, no}
 use Rattle.paths.specs.declared.Move.{Move}
 use Rattle.paths.specs.Reader.{moveOf, movesFrom}
 use Rattle.look_over.specs.declared.Fault.{Fault}

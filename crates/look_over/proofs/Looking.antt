@@ -10,14 +10,15 @@ use lib.Dec.{eqb, leb, lit<}
 use lib.Ieee.{Float, toBits, le}
 use lib.ListN.{length, getD, replicate, length-replicate}
 use Rattle.numbers.specs.Reals.{_⊕_}
-use Rattle.numbers.proofs.Branches.{taken, left, both-true, by-test}
+use Rattle.rules.proofs.Branches.{taken, left, both-true, by-test}
 use Rattle.fields.specs.Little.{value}
 use Rattle.grid.specs.Boxes.{isBoxed}
 use Rattle.grid.specs.Index.{Index}
-use Rattle.grid.proofs.Ladder.{demanded}
+use Rattle.rules.proofs.Ladder.{demanded}
 use Rattle.query.specs.Asked.{isMarked}
-use Rattle.query.specs.Usable.{every, usableWhole}
-use Rattle.query.proofs.Testing.{every-at}
+use Rattle.rules.specs.Every.{every}
+use Rattle.query.specs.Usable.{usableWhole}
+use Rattle.rules.proofs.Testing.{every-at}
 use Rattle.whole.proofs.Wholly.{whole-head}
 use Rattle.tool.specs.Tool.{isTool}
 use Rattle.runs.specs.declared.Run.{Run}

@@ -7,7 +7,7 @@ use lib.Dec.{T, eqb}
 use lib.Ieee.{Float, nan, inf, fin, binary64, ofBits, toBits, le, isNan}
 use lib.ListN.{length, replicate}
 use Rattle.numbers.specs.Reals.{_⊕_, f0, absOf, million}
-use Rattle.numbers.proofs.Branches.{both-true, taken, left, no}
+use Rattle.rules.proofs.Branches.{both-true, taken, left, no}
 use Rattle.spans.specs.Mesh.{isCoordinate}
 use Rattle.walk.specs.declared.Best.{Best}
 use Rattle.walk.specs.Walk.{Walk, nextStamp}

@@ -10,9 +10,10 @@ use Rattle.numbers.specs.Reals.{finest, coarsest}
 use Rattle.fields.specs.Little.{value}
 use Rattle.grid.specs.Boxes.{isBoxed}
 use Rattle.grid.specs.Index.{Index}
-use Rattle.grid.specs.Ladder.{demand}
+use Rattle.rules.specs.Ladder.{demand}
 use Rattle.query.specs.Asked.{isMarked}
-use Rattle.query.specs.Usable.{every, usableWhole}
+use Rattle.rules.specs.Every.{every}
+use Rattle.query.specs.Usable.{usableWhole}
 use Rattle.chords.specs.Chords.{isEnd}
 use Rattle.tool.specs.Tool.{isTool}
 use Rattle.runs.specs.declared.Run.{Run}

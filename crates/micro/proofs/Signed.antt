@@ -11,7 +11,7 @@ use lib.Signed.{mag, nonNeg}
 use mir.Syntax.{w32, w64}
 use mir.Val.{Fits, SFits, toZ, ofZ}
 use mir.ValLaws.{toZ-pos, toZ-ofZ}
-use Rattle.numbers.proofs.Branches.{left}
+use Rattle.rules.proofs.Branches.{left}
 use Rattle.numbers.proofs.Casts.{cast-fits, kept, pos-fits}
 use Rattle.micro.specs.Micro.{counted}
 

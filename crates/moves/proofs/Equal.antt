@@ -6,11 +6,11 @@ use borrow.Author.Tests.{eqb-true, eq-eqb}
 use lib.Dec.{T, eqb}
 use lib.Ieee.{Float, nan, inf, fin, up, down, lt, le, eq, isNan}
 use lib.Ieee.Scale.{finite}
+use lib.Ieee.Bits.{is-true}
 use Rattle.numbers.specs.Reals.{maxOf}
-use Rattle.numbers.proofs.Branches.{by-test, no, both-true}
+use Rattle.rules.proofs.Branches.{by-test, no, both-true}
 use Rattle.numbers.proofs.Strict.{le-not-lt}
 use Rattle.spans.proofs.Sizes.{le-self}
-use Rattle.spans.proofs.Scales.{true-of}
 use Rattle.bound.proofs.Order.{le-trans}
 use Rattle.moves.specs.declared.Point.{Point}
 use Rattle.moves.specs.Phases.{sameOf}
@@ -49,7 +49,7 @@ le-both : (x y : Float) → T (le x y) → T (le y x) → eq x y ≡ true
 unfolding le
 le-both x y p q =
     by-test (eq x y) (λ e. e)
-    (λ e. by-test (lt x y) (λ l. absurd (le-not-lt y x (true-of (le y x) q) l)) (λ l. absurd (rw (l, e) at p)))
+    (λ e. by-test (lt x y) (λ l. absurd (le-not-lt y x (is-true (le y x) q) l)) (λ l. absurd (rw (l, e) at p)))
 
 eq-trans : (x y z : Float) → eq x y ≡ true → eq y z ≡ true → eq x z ≡ true
 eq-trans x y z p q =

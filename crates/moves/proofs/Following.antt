@@ -12,12 +12,11 @@ use lib.Ieee.{Float, le}
 use lib.Ieee.Scale.{finite}
 use lib.ListN.{length}
 use Rattle.numbers.specs.Reals.{f0}
-use Rattle.numbers.proofs.Branches.{by-test, both-true, no}
+use Rattle.rules.proofs.Branches.{by-test, both-true, no, holds}
 use Rattle.spans.specs.Mesh.{isCoordinate}
-use Rattle.spans.proofs.Cutting.{holds}
 use Rattle.spans.proofs.Ranges.{coordinate, coordinate-finite}
-use Rattle.grid.specs.Ladder.{refuse, demand}
-use Rattle.grid.proofs.Ladder.{demanded}
+use Rattle.rules.specs.Ladder.{refuse, demand}
+use Rattle.rules.proofs.Ladder.{demanded}
 use Rattle.terms.specs.Terms.{areThree}
 use Rattle.fives.specs.Tables.{roomOf}
 use Rattle.join.specs.Join.{runIn, runsIn}

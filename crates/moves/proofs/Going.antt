@@ -7,8 +7,8 @@ use native.Mathlib.Omega.{arith}
 use borrow.Author.Tests.{eq-eqb, ne-eqb}
 use lib.Dec.{eqb, lit<}
 use lib.Ieee.{Float}
-use Rattle.numbers.proofs.Branches.{by-test, no}
-use Rattle.grid.proofs.Ladder.{demanded, refused-not}
+use Rattle.rules.proofs.Branches.{by-test, no}
+use Rattle.rules.proofs.Ladder.{demanded, refused-not}
 use Rattle.fives.specs.Tables.{roomOf}
 use Rattle.moves.specs.declared.Heights.{Heights}
 use Rattle.moves.specs.declared.State.{State}

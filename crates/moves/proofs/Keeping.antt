@@ -11,7 +11,7 @@ use lib.Dec.{T, eqb}
 use lib.Ieee.{Float, le, eq}
 use lib.Ieee.Scale.{finite}
 use Rattle.numbers.specs.Reals.{maxOf}
-use Rattle.numbers.proofs.Branches.{by-test, either, no}
+use Rattle.rules.proofs.Branches.{by-test, either, no}
 use Rattle.spans.proofs.Sizes.{le-self}
 use Rattle.bound.proofs.Order.{le-trans}
 use Rattle.fives.specs.Tables.{roomOf}

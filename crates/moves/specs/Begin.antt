@@ -8,7 +8,7 @@ use lib.ListN.{length}
 use Rattle.numbers.specs.Reals.{f0}
 use Rattle.fives.specs.Tables.{roomOf}
 use Rattle.spans.specs.Mesh.{isCoordinate}
-use Rattle.grid.specs.Ladder.{demand}
+use Rattle.rules.specs.Ladder.{demand}
 use Rattle.terms.specs.Terms.{areThree}
 use Rattle.runs.specs.declared.Run.{Run}
 use Rattle.join.specs.Join.{runsIn}

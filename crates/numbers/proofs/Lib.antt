@@ -1,4 +1,3 @@
-pub mod Branches
 pub mod Patterns
 pub mod Significands
 pub mod Rounding

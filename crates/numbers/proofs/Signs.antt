@@ -11,10 +11,7 @@ use lib.Ieee.{Float, nan, inf, fin, up, down, le}
 use lib.Ieee.Fits.{down-pos}
 use lib.Ieee.Exact.{HasValue}
 use lib.Ieee.Order.{transfer}
-
-by-test : {P : Type 0} (t : Bool) → (t ≡ true → P) → (t ≡ false → P) → P
-by-test true x y = x refl
-by-test false x y = y refl
+use Rattle.rules.proofs.Branches.{by-test}
 
 -- ---- the tests that `le` comes down to
 or-le : (a b : ℕ) → T (ltb a b || (eqb a b && true)) → a ≤ b

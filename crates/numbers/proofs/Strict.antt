@@ -9,7 +9,7 @@ use borrow.Author.Tests.{ltb-true, lt-ltb, eqb-true}
 use lib.Dec.{eqb}
 use lib.Ieee.{Float, nan, inf, fin, up, down, lt, le, eq, isNan}
 use lib.Ieee.Fits.{down-pos}
-use Rattle.numbers.proofs.Branches.{no, both-true}
+use Rattle.rules.proofs.Branches.{no, both-true}
 
 -- a / A < b / B < c / C
 cross : (a b c A B C : ℕ) → 0 < A → 0 < B → 0 < C → a * B < b * A → b * C < c * B → a * C < c * A

@@ -7,7 +7,7 @@ use borrow.Author.Tests.{eq-eqb, ne-eqb}
 use lib.Ieee.{Float}
 use lib.ListN.{length, take, drop, length-append}
 use lib.Seq.{take-at}
-use Rattle.numbers.proofs.Branches.{taken, left as passed-by}
+use Rattle.rules.proofs.Branches.{taken, left as passed-by}
 use Rattle.fields.specs.Little.{value}
 use Rattle.fields.specs.Rows.{row}
 use Rattle.fields.proofs.Rows.{row-length}

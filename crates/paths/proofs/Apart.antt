@@ -8,8 +8,8 @@ use borrow.Author.Tests.{le-ltb}
 use lib.Dec.{eqb, ltb}
 use lib.ListN.{length, take}
 use Rattle.fields.specs.Little.{Field, value}
-use Rattle.fields.specs.Ladder.{refuse}
-use Rattle.fields.proofs.Ladder.{refuse-next, agrees}
+use Rattle.rules.specs.Ladder.{refuse}
+use Rattle.rules.proofs.Ladder.{refuse-next, agrees}
 use Rattle.fields.proofs.Copies.{Ladder, said, value-head, told-apart}
 use Rattle.paths.specs.Layout.{mark, version, zeroByte, count, letters}
 use Rattle.paths.specs.Reader.{refusalOfNumbers, refusalOfLength, refusalOfCount, refusalOf, shapeOf, Sound, SoundExactly, NeverTakenForAPart}

@@ -11,7 +11,7 @@ use Rattle.fields.specs.declared.Shape.{Shape}
 use Rattle.fields.specs.declared.Length.{Length}
 use Rattle.fields.specs.declared.Length.the-variants.{Exact}
 use Rattle.fields.specs.Length.{lengthRule, refuseLength}
-use Rattle.fields.proofs.Ladder.{refuse-next, refused-not, agrees}
+use Rattle.rules.proofs.Ladder.{refuse-next, refused-not, agrees}
 use Rattle.fields.proofs.Lengths.{exact-only, exact-length, rung-exact, rung-told}
 use Rattle.fields.proofs.Rows.{passed, passes}
 use Rattle.paths.specs.Layout.{shape}

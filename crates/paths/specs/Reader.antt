@@ -9,7 +9,7 @@ use lib.ListN.{length}
 use Rattle.fields.specs.declared.Shape.{Shape}
 use Rattle.fields.specs.Little.{value}
 use Rattle.fields.specs.Rows.{finite, firstBad, somewhere}
-use Rattle.fields.specs.Ladder.{refuse}
+use Rattle.rules.specs.Ladder.{refuse}
 use Rattle.fields.specs.Length.{lengthRule, refuseLength, wholeIn}
 use Rattle.fields.specs.Copies.{ToldApart}
 use Rattle.paths.specs.Layout.{mark, version, zeroByte, count, kindByte, number, shape, numbers, letters}

@@ -10,14 +10,14 @@ use lib.Dec.{eqb, leb, ltb, lit<}
 use lib.Ieee.{Float}
 use lib.ListN.{length, getD, replicate, length-replicate}
 use Rattle.numbers.specs.Reals.{f0}
-use Rattle.numbers.proofs.Branches.{taken, left, both-true}
+use Rattle.rules.proofs.Branches.{taken, left, both-true}
 use Rattle.sort.proofs.Counts.{on-or-off}
 use Rattle.fives.specs.Tables.{roomOf, written, zeroed}
 use Rattle.fives.proofs.Writing.{written-length}
 use Rattle.grid.specs.Index.{Index, BuiltFrom}
-use Rattle.grid.specs.Ladder.{refuse, demand}
+use Rattle.rules.specs.Ladder.{refuse, demand}
 use Rattle.grid.proofs.Indexing.{index-sound}
-use Rattle.grid.proofs.Ladder.{demanded, refuse-here, refuse-next}
+use Rattle.rules.proofs.Ladder.{demanded, refuse-here, refuse-next}
 use Rattle.grid.specs.Boxes.{isBoxed}
 use Rattle.query.specs.Asked.{isMarked}
 use Rattle.query.specs.Usable.{usableWhole}

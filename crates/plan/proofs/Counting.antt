@@ -6,7 +6,7 @@ use native.Mathlib.Omega.{arith}
 use lib.Ieee.{Float}
 use lib.ListN.{length}
 use Rattle.numbers.specs.Reals.{_⊕_}
-use Rattle.numbers.proofs.Branches.{either}
+use Rattle.rules.proofs.Branches.{either}
 use Rattle.fives.specs.Groups.{grouping, grouped}
 use Rattle.sort.specs.Ranks.{before}
 use Rattle.sort.proofs.Orders.{sorted-length}

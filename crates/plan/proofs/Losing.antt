@@ -9,21 +9,21 @@ use lib.Dec.{eqb, ltb, leb, lit<}
 use lib.Ieee.{Float, lt, le}
 use lib.ListN.{length, getD, replicate, length-replicate}
 use Rattle.numbers.specs.Reals.{_⊕_, f0, millionth, twoMillion, twoMillionths}
-use Rattle.numbers.proofs.Branches.{both-true, by-test, no}
-use Rattle.cells.specs.Cover.{isFrom}
+use Rattle.rules.proofs.Branches.{both-true, by-test, no}
+use Rattle.rules.specs.Every.{isFrom, every, each}
 use Rattle.spans.specs.Mesh.{isCoordinate, isRadius}
 use Rattle.grid.specs.Index.{Index}
 use Rattle.grid.specs.Header.{inRanges}
-use Rattle.grid.specs.Ladder.{demand}
-use Rattle.grid.proofs.Ladder.{demand-next, demanded}
+use Rattle.rules.specs.Ladder.{demand}
+use Rattle.rules.proofs.Ladder.{demand-next, demanded}
 use Rattle.walk.specs.Walk.{cell}
 use Rattle.header.specs.Head.{headUsable}
 use Rattle.header.proofs.Ranges.{Headed, headed-is}
 use Rattle.query.specs.declared.Patch.{Patch}
 use Rattle.grid.specs.Boxes.{isBoxed}
 use Rattle.query.specs.Asked.{isMarked}
-use Rattle.query.specs.Usable.{every, each, triangleUsable, memberUsable, cellUsable, rowUsable, cellsUsable, usable, usableWhole}
-use Rattle.query.proofs.Testing.{in-rows, every-at, every-all}
+use Rattle.query.specs.Usable.{triangleUsable, memberUsable, cellUsable, rowUsable, cellsUsable, usable, usableWhole}
+use Rattle.rules.proofs.Testing.{in-rows, every-at, every-all}
 use Rattle.query.proofs.Patches.{patch-inside}
 use Rattle.ask.specs.Ask.{refusalOf, answerOf, askedHeight}
 use Rattle.height.specs.Sweep.{Sweep, sweep, patchFor, capsuleWalk, sweepWalk}

@@ -7,15 +7,16 @@ use native.Mathlib.Omega.{arith}
 use lib.Ieee.{Float, ofBits}
 use lib.Ieee.Exact.{HasValue}
 use Rattle.numbers.specs.Reals.{threeMillion}
-use Rattle.numbers.proofs.Branches.{both-true}
+use Rattle.rules.proofs.Branches.{both-true}
 use Rattle.plane.specs.declared.Bounds.{Bounds}
 use Rattle.spans.specs.Mesh.{isCoordinate, isRadius}
 use Rattle.bound.proofs.Whole.{Bounded, bounded-size}
 use Rattle.grid.specs.Boxes.{boxAt}
 use Rattle.grid.specs.Index.{Index}
 use Rattle.query.specs.Asked.{isPoint}
-use Rattle.query.specs.Usable.{every, cornersUsable, areCoordinates, boxUsable, triangleUsable}
-use Rattle.query.proofs.Testing.{every-at}
+use Rattle.rules.specs.Every.{every}
+use Rattle.query.specs.Usable.{cornersUsable, areCoordinates, boxUsable, triangleUsable}
+use Rattle.rules.proofs.Testing.{every-at}
 use Rattle.height.specs.Height.{arePoints}
 use Rattle.fives.specs.Groups.{Each}
 use Rattle.levels.proofs.Boxes.{Sided, Boxed, levels-boxed}

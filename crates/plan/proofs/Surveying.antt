@@ -8,8 +8,8 @@ use borrow.Author.Tests.{ltb-false}
 use lib.Dec.{ltb, lit<}
 use lib.Ieee.{Float}
 use lib.ListN.{length, replicate}
-use Rattle.grid.specs.Ladder.{refuse}
-use Rattle.grid.proofs.Ladder.{refused-not}
+use Rattle.rules.specs.Ladder.{refuse}
+use Rattle.rules.proofs.Ladder.{refused-not}
 use Rattle.sort.proofs.Counts.{on-or-off}
 use Rattle.fives.specs.Tables.{roomOf, written}
 use Rattle.fives.proofs.Writing.{written-length}

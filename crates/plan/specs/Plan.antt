@@ -9,7 +9,7 @@ use lib.ListN.{length, replicate}
 use Rattle.numbers.specs.Reals.{f0}
 use Rattle.grid.specs.Boxes.{isBoxed}
 use Rattle.grid.specs.Index.{Index, BuiltFrom}
-use Rattle.grid.specs.Ladder.{refuse, demand}
+use Rattle.rules.specs.Ladder.{refuse, demand}
 use Rattle.query.specs.Asked.{isMarked}
 use Rattle.query.specs.Usable.{usableWhole}
 use Rattle.fives.specs.Tables.{roomOf, written, zeroed}

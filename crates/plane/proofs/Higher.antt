@@ -5,7 +5,7 @@ use lib.Dec.{T, not-T}
 use lib.Ieee.{Float, nan, inf, fin, lt, isNan}
 use lib.Ieee.Bits.{is-true, is-false}
 use Rattle.numbers.specs.Reals.{maxOf}
-use Rattle.numbers.proofs.Branches.{either, by-test, no}
+use Rattle.rules.proofs.Branches.{either, by-test, no}
 use Rattle.numbers.proofs.Strict.{lt-goes-on, lt-never-same, lt-number}
 use Rattle.plane.specs.declared.Touch.{Touch}
 use Rattle.plane.specs.declared.Contact.{Contact}

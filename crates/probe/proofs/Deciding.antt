@@ -11,7 +11,7 @@ use lib.Ieee.{Float, nan, inf, fin, binary64, ofBits, up, down, add, sub, neg, l
 use lib.Ieee.Bits.{is-true}
 use lib.Ieee.Scale.{finite}
 use Rattle.numbers.specs.Reals.{_⊕_, _⊖_, absOf, threeMillion}
-use Rattle.numbers.proofs.Branches.{by-test, no}
+use Rattle.rules.proofs.Branches.{by-test, no}
 use Rattle.numbers.proofs.Strict.{le-not-lt}
 use Rattle.spans.proofs.Ranges.{sub-mono}
 use Rattle.spans.proofs.Sizes.{le-self}

@@ -1,5 +1,4 @@
 pub mod Patches
-pub mod Testing
 pub mod Stretches
 pub mod Using
 pub mod Passing

@@ -1,6 +1,6 @@
 -- How often a triangle stands in the list that a walk looks at.
 use mathlib.Core.Bool.{Bool, true, false, cond}
-use mathlib.Core.List.{List, [], _∷_, _++_}
+use mathlib.Core.List.{List, [], _∷_}
 use mathlib.Core.Logic.{⊎-elim}
 use mathlib.Core.Path.{_≡_, refl, ap, sym, _∙_}
 use Prim.Native.Nat.{ℕ, zero, suc, _+_, _-_, _*_, _≤_, _<_}
@@ -8,26 +8,21 @@ use native.Mathlib.Nat.{eq-or-lt-of-le}
 use native.Mathlib.Omega.{arith}
 use borrow.Author.Tests.{eqb-true, eqb-false, ne-eqb}
 use lib.Dec.{eqb}
-use lib.Ieee.{Float}
 use lib.ListN.{length, getD, set, length-set, length-replicate, getD-replicate}
 use lib.Seq.{getD-set-same, getD-set-other}
-use Rattle.numbers.proofs.Branches.{either, by-test}
-use Rattle.cells.specs.Cover.{Cover, membersOf, times, weight}
+use Rattle.rules.proofs.Times.{times-append}
+use Rattle.rules.proofs.Branches.{either, by-test}
+use Rattle.cells.specs.Cover.{Cover, membersOf}
+use Rattle.rules.specs.Every.{times, weight}
 use Rattle.cells.proofs.Reading.{once}
 use Rattle.walk.specs.Walk.{over, cell, row, block, looked, nextStamp, readyMarks}
 use Rattle.grid.specs.Index.{Index, coversOf, SoundIndex}
 use Rattle.query.specs.declared.Patch.{Patch}
 use Rattle.query.specs.Usable.{usable}
 use Rattle.query.specs.Looked.{lookedIn, SharesCell, Shares, EachOnce, LooksOnce, UsablePromise}
-use Rattle.query.proofs.Testing.{in-rows}
+use Rattle.rules.proofs.Testing.{in-rows}
 use Rattle.query.proofs.Using.{usable-member}
 use Rattle.query.proofs.Passing.{sound-usable}
-
--- ---- a list taken apart
-pub times-append : (i : ℕ) (xs ys : List ℕ) → times i (xs ++ ys) ≡ times i xs + times i ys
-unfolding times
-times-append i [] ys = omega arith
-times-append i (x ∷ xs) ys = let r = times-append i xs ys in omega arith
 
 pub over-has : (f : ℕ → List ℕ) (a n i k : ℕ) → a ≤ k → k < a + n → 0 < times i (f k) → 0 < times i (over f a n)
 unfolding over

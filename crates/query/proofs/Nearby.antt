@@ -11,6 +11,7 @@ use lib.Ieee.{Float, nan, inf, fin, binary64, ofBits, up, down, round, sum, add,
 use lib.Ieee.Fits.{up-pos, down-pos, add-fits, mul-fits}
 use lib.Ieee.Order.{le-of-values, round-mono}
 use lib.Ieee.Scale.{finite}
+use lib.Ieee.Bits.{is-true}
 use Rattle.numbers.specs.Reals.{num, _⊕_, _⊗_, absOf, million}
 use Rattle.grid.specs.Boxes.{boxAt}
 use Rattle.numbers.proofs.Counts.{round-self}
@@ -18,8 +19,8 @@ use Rattle.cells.proofs.Sets.{by-lt}
 use Rattle.spans.specs.Mesh.{isCoordinate}
 use Rattle.spans.proofs.Signed.{upSigned, round-up}
 use Rattle.spans.proofs.Ranges.{million-is, finite-between, le-trans-finite}
-use Rattle.spans.proofs.Scales.{true-of}
-use Rattle.query.specs.Usable.{every, cornersUsable, areCoordinates, boxUsable, triangleUsable}
+use Rattle.rules.specs.Every.{every}
+use Rattle.query.specs.Usable.{cornersUsable, areCoordinates, boxUsable, triangleUsable}
 use Rattle.query.specs.Inside.{sevenSquares}
 
 -- 9e11 and 1e12
@@ -123,7 +124,7 @@ unfolding mul isCoordinate absOf
 square-coordinate nan h = absurd (unfold le in h)
 square-coordinate (inf true) h = absurd (unfold le in h)
 square-coordinate (inf false) h = absurd (unfold le in h)
-square-coordinate (fin s m e) h = rw million-is (by-lt (1000000 * down e) (m * up e) (λ k. absurd (over s k h)) (λ k. true-of _ (le-of-values (fin false m e) (fin false 15625 (pos 6)) (m * up e) (down e) 1000000 1 (down-pos e) (omega arith) (refl, refl) (refl, refl) (omega (arith, k)))))
+square-coordinate (fin s m e) h = rw million-is (by-lt (1000000 * down e) (m * up e) (λ k. absurd (over s k h)) (λ k. is-true _ (le-of-values (fin false m e) (fin false 15625 (pos 6)) (m * up e) (down e) 1000000 1 (down-pos e) (omega arith) (refl, refl) (refl, refl) (omega (arith, k)))))
   where
     farther : 1000000 * down e < m * up e → T (le (round binary64 false (m * up e * (m * up e)) (down e * down e)) most) → ⊥
     farther k g =

@@ -20,8 +20,9 @@ use Rattle.header.specs.Head.{headUsable}
 use Rattle.header.proofs.Ranges.{in-ranges-is}
 use Rattle.query.specs.declared.Patch.{Patch}
 use Rattle.query.specs.Asked.{isMarked, NoneAbove}
-use Rattle.query.specs.Usable.{every, cornersUsable, areCoordinates, boxUsable, triangleUsable, memberUsable, cellUsable, usable}
-use Rattle.query.proofs.Testing.{every-all}
+use Rattle.rules.specs.Every.{every}
+use Rattle.query.specs.Usable.{cornersUsable, areCoordinates, boxUsable, triangleUsable, memberUsable, cellUsable, usable}
+use Rattle.rules.proofs.Testing.{every-all}
 use Rattle.query.proofs.Stretches.{cell-stands, cells-pass}
 
 -- the lowest and the highest of three coordinates are

@@ -8,7 +8,7 @@ use borrow.Author.Tests.{le-leb, lt-leb}
 use lib.Dec.{leb}
 use lib.Ieee.{Float, lt}
 use Rattle.numbers.specs.Reals.{f0}
-use Rattle.numbers.proofs.Branches.{either, taken, left}
+use Rattle.rules.proofs.Branches.{either, taken, left}
 use Rattle.spans.specs.Axis.{truncated}
 use Rattle.grid.specs.declared.Header.{Header}
 use Rattle.query.specs.declared.Span.{Span}

@@ -8,12 +8,13 @@ use native.Mathlib.Omega.{arith}
 use borrow.Author.Tests.{leb-true, le-leb}
 use lib.Dec.{leb}
 use lib.ListN.{length, getD}
-use Rattle.numbers.proofs.Branches.{both-true}
+use Rattle.rules.proofs.Branches.{both-true}
 use Rattle.walk.specs.Walk.{cell}
 use Rattle.walk.specs.Inside.{Walkable}
 use Rattle.query.specs.declared.Patch.{Patch}
-use Rattle.query.specs.Usable.{every, each, cellUsable, rowUsable, cellsUsable}
-use Rattle.query.proofs.Testing.{in-rows, every-at, each-at, every-all, each-all}
+use Rattle.rules.specs.Every.{every, each}
+use Rattle.query.specs.Usable.{cellUsable, rowUsable, cellsUsable}
+use Rattle.rules.proofs.Testing.{in-rows, every-at, each-at, every-all, each-all}
 
 -- ---- a cell
 record Passes (test : ℕ → Bool) (starts members : List ℕ) (c : ℕ) : Type 0 where

@@ -11,7 +11,7 @@ use lib.Dec.{ltb, leb}
 use lib.Ieee.{Float}
 use lib.ListN.{length, getD}
 use Rattle.numbers.specs.Reals.{num}
-use Rattle.numbers.proofs.Branches.{both-true}
+use Rattle.rules.proofs.Branches.{both-true}
 use Rattle.spans.specs.Mesh.{isCoordinate}
 use Rattle.grid.specs.declared.Header.{Header}
 use Rattle.grid.specs.Boxes.{boxAt}
@@ -21,8 +21,9 @@ use Rattle.header.proofs.Ranges.{Headed, headed-is}
 use Rattle.walk.specs.Walk.{cell}
 use Rattle.walk.specs.Inside.{Walkable}
 use Rattle.query.specs.declared.Patch.{Patch}
-use Rattle.query.specs.Usable.{every, cornersUsable, boxUsable, triangleUsable, memberUsable, cellsUsable, usable}
-use Rattle.query.proofs.Testing.{every-at}
+use Rattle.rules.specs.Every.{every}
+use Rattle.query.specs.Usable.{cornersUsable, boxUsable, triangleUsable, memberUsable, cellsUsable, usable}
+use Rattle.rules.proofs.Testing.{every-at}
 use Rattle.query.proofs.Stretches.{usable-each, walkable-cells}
 
 -- room in starts for the rows of a grid

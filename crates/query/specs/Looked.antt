@@ -4,7 +4,8 @@ use mathlib.Core.List.{List}
 use mathlib.Core.Path.{_≡_}
 use Prim.Native.Nat.{ℕ, _+_, _*_, _≤_, _<_}
 use lib.ListN.{length}
-use Rattle.cells.specs.Cover.{Cover, times}
+use Rattle.cells.specs.Cover.{Cover}
+use Rattle.rules.specs.Every.{times}
 use Rattle.walk.specs.Walk.{block, looked, nextStamp, readyMarks}
 use Rattle.grid.specs.Index.{Index, coversOf, SoundIndex}
 use Rattle.query.specs.declared.Patch.{Patch}

@@ -1,10 +1,11 @@
 -- Document 01, refusal 7: what a header and its tables must be, so that a question can be answered from them. Nothing is written by these tests.
-use mathlib.Core.Bool.{Bool, true, _&&_}
-use mathlib.Core.List.{List, [], _∷_}
-use Prim.Native.Nat.{ℕ, zero, suc, _+_, _-_, _*_}
+use mathlib.Core.Bool.{Bool, _&&_}
+use mathlib.Core.List.{List}
+use Prim.Native.Nat.{ℕ, _+_, _-_, _*_}
 use lib.Dec.{ltb, leb}
 use lib.Ieee.{Float}
 use lib.ListN.{length, getD}
+use Rattle.rules.specs.Every.{every, each}
 use Rattle.numbers.specs.Reals.{num}
 use Rattle.spans.specs.Mesh.{isCoordinate}
 use Rattle.walk.specs.Walk.{cell}
@@ -13,16 +14,6 @@ use Rattle.grid.specs.Boxes.{boxAt}
 use Rattle.grid.specs.Index.{Index}
 use Rattle.header.specs.Head.{headUsable}
 use Rattle.query.specs.declared.Patch.{Patch}
-
--- the test holds of a, a + 1, .. n of them
-unfoldable pub every : (ℕ → Bool) → ℕ → ℕ → Bool
-every test a zero = true
-every test a (suc n) = test a && every test (a + 1) n
-
--- the test holds of each number of a list
-unfoldable pub each : (ℕ → Bool) → List ℕ → Bool
-each test [] = true
-each test (i ∷ is) = test i && each test is
 
 -- No coordinate of triangle i is one that 4 would refuse.
 unfoldable pub cornersUsable : List Float → ℕ → Bool

@@ -8,7 +8,8 @@ ghost use Rattle.query.specs.Patch.{heldTo, axisSpan, patchOf};
 ghost use Rattle.query.specs.Looked.{UsablePromise};
 ghost use Rattle.query.specs.Inside.{sevenSquares, Tested};
 ghost use mathlib.Core.Bool.{true};
-ghost use Rattle.query.specs.Usable.{each, cornersUsable, areCoordinates, boxUsable, triangleUsable, memberUsable, cellUsable, rowUsable, cellsUsable, usable};
+ghost use Rattle.rules.specs.Every.{each};
+ghost use Rattle.query.specs.Usable.{cornersUsable, areCoordinates, boxUsable, triangleUsable, memberUsable, cellUsable, rowUsable, cellsUsable, usable};
 use grid::Header;
 use plane::Bounds;
 

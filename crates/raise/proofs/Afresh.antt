@@ -8,7 +8,7 @@ use borrow.Author.Tests.{eq-eqb, ne-eqb, eqb-true, eqb-false, ltb-false}
 use lib.Dec.{eqb, lit<}
 use lib.Ieee.{Float}
 use lib.ListN.{length}
-use Rattle.numbers.proofs.Branches.{taken, left as passed-by, by-test}
+use Rattle.rules.proofs.Branches.{taken, left as passed-by, by-test}
 use Rattle.plane.specs.declared.Bounds.{Bounds}
 use Rattle.plane.specs.Mesh.{triangleOf, lowest, highest, topOf, boundsOf}
 use Rattle.spans.specs.Mesh.{isCoordinate, firstBad, boxOf, widened, extentOf, epsOf}
@@ -22,8 +22,8 @@ use Rattle.cells.specs.declared.Cells.{Cells}
 use Rattle.grid.specs.declared.Grid.{Grid}
 use Rattle.grid.specs.declared.Header.{Header}
 use Rattle.grid.specs.declared.Built.{Built}
-use Rattle.grid.specs.Ladder.{demand, refuse}
-use Rattle.grid.proofs.Ladder.{demanded, refused-not}
+use Rattle.rules.specs.Ladder.{demand, refuse}
+use Rattle.rules.proofs.Ladder.{demanded, refused-not}
 use Rattle.grid.specs.Grid.{trianglesIn, gridOf, cellsIn, cellsOf, coverOf}
 use Rattle.grid.specs.Header.{headerOf, inRanges}
 use Rattle.grid.specs.Boxes.{boxAt, isBoxed, fiveOf, boxesOf}

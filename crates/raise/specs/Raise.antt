@@ -13,7 +13,7 @@ use Rattle.plane.specs.Mesh.{triangleOf, topOf}
 use Rattle.spans.specs.Mesh.{isCoordinate, firstBad, epsOf}
 use Rattle.grid.specs.declared.Header.{Header}
 use Rattle.grid.specs.declared.Built.{Built}
-use Rattle.grid.specs.Ladder.{refuse, demand}
+use Rattle.rules.specs.Ladder.{refuse, demand}
 use Rattle.grid.specs.Grid.{trianglesIn}
 use Rattle.grid.specs.Header.{inRanges}
 use Rattle.grid.specs.Boxes.{boxAt, isBoxed, fiveOf}

@@ -8,15 +8,15 @@ use borrow.Author.Tests.{eq-eqb, ne-eqb, eqb-true, eqb-false, lt-ltb, le-ltb}
 use lib.Dec.{eqb, lit<}
 use lib.Ieee.{Float}
 use lib.ListN.{length}
-use Rattle.numbers.proofs.Branches.{taken, left, by-test}
+use Rattle.rules.proofs.Branches.{taken, left, by-test}
 use Rattle.cells.specs.Cover.{startOf}
 use Rattle.grid.specs.declared.Grid.{Grid}
-use Rattle.grid.specs.Ladder.{demand}
+use Rattle.rules.specs.Ladder.{demand}
 use Rattle.grid.specs.Grid.{trianglesIn, gridOf, cellsIn, coverOf, totalOf}
 use Rattle.grid.specs.Boxes.{isBoxed, boxesOf}
 use Rattle.grid.specs.Build.{refusalOfMesh, refusalOfGrid, refusalOfMembers, Outcome, refusedBy, acceptedWith, unless, filledOf, gridded, buildOf}
 use Rattle.grid.specs.Inside.{Gridded}
-use Rattle.grid.proofs.Ladder.{refuse-here, refuse-next}
+use Rattle.rules.proofs.Ladder.{refuse-here, refuse-next}
 use Rattle.grid.proofs.Boxing.{boxes-length}
 use Rattle.grid.proofs.Gridding.{counted}
 use Rattle.grid.proofs.Accepting.{Accepted, accepted, Passed, passed, members-fit}

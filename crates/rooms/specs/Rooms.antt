@@ -8,7 +8,7 @@ use lib.Ieee.{Float}
 use lib.ListN.{length}
 use Rattle.cells.specs.Cover.{startOf}
 use Rattle.grid.specs.declared.Grid.{Grid}
-use Rattle.grid.specs.Ladder.{refuse, demand}
+use Rattle.rules.specs.Ladder.{refuse, demand}
 use Rattle.grid.specs.Grid.{trianglesIn, gridOf, cellsIn, coverOf}
 use Rattle.grid.specs.Boxes.{isBoxed}
 use Rattle.grid.specs.Build.{refusalOfNumbers, refusalOfGrid, refusalOfMembers, buildOf}

@@ -4,7 +4,7 @@ use mathlib.Core.Bool.{Bool, true, false, not, cond, _||_, _&&_, Bool·beq}
 use Prim.Native.Nat.{ℕ, zero, suc, _+_, _-_, _*_, _/_, _%_, _^_, compare}
 use lib.Dec.{T, ltb}
 use lib.Ieee.{Float, nan, inf, fin, binary64, emax, low, up, down, unlike, size, nearest, odd, units, round, sum, add, mul, ne, isNan}
-use Rattle.numbers.proofs.Branches.{either, by-test, no, nan-left}
+use Rattle.rules.proofs.Branches.{either, by-test, no, nan-left}
 use Rattle.numbers.proofs.Patterns.{no-nan}
 
 abbrev squares : Float → Float → Float

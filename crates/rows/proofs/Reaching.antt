@@ -13,7 +13,7 @@ use lib.Ieee.{Float, nan, inf, fin, lt, isNan, toUnsigned, ofBits}
 use lib.ListN.{length}
 use Rattle.numbers.specs.Reals.{_⊕_, _⊖_, _⊗_, _⊘_, f1, maxOf}
 use Rattle.numbers.specs.Rounding.{roundUpOf}
-use Rattle.numbers.proofs.Branches.{either, by-test, no}
+use Rattle.rules.proofs.Branches.{either, by-test, no}
 use Rattle.spans.specs.Mesh.{isRadius}
 use Rattle.spans.proofs.Ranges.{cut-up}
 use Rattle.spans.proofs.Sizes.{f1-is, not-below}

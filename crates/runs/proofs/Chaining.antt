@@ -4,7 +4,7 @@ use mathlib.Core.List.{List, [], _∷_, _++_, append-assoc, append-nil}
 use mathlib.Core.Path.{_≡_, refl, sym, ap, subst, _∙_}
 use Prim.Native.Nat.{ℕ, zero, suc}
 use lib.Ieee.{Float, le}
-use Rattle.numbers.proofs.Branches.{either, by-test, no}
+use Rattle.rules.proofs.Branches.{either, by-test, no}
 use Rattle.fives.specs.Groups.{grouping, grouped, Each}
 use Rattle.fives.proofs.Grouping.{each-parts}
 use Rattle.runs.specs.Runs.{lengthOf, touchesOf, lengthened, joinedOf}

@@ -10,7 +10,7 @@ use lib.Dec.{leb}
 use lib.Ieee.{Float}
 use lib.ListN.{length, length-append}
 use Rattle.numbers.specs.Reals.{_⊕_, f0}
-use Rattle.numbers.proofs.Branches.{taken, left}
+use Rattle.rules.proofs.Branches.{taken, left}
 use Rattle.fives.specs.Tables.{roomOf, putAt, written}
 use Rattle.fives.specs.Groups.{grouped}
 use Rattle.fives.proofs.Writing.{written-more, written-length}

@@ -9,7 +9,7 @@ use lib.Dec.{eqb, ltb}
 use lib.IntN.{pos}
 use lib.Ieee.{Float, binary64, ofBits, ofInt, round}
 use Rattle.numbers.specs.Reals.{_⊕_, f2}
-use Rattle.numbers.proofs.Branches.{either, no}
+use Rattle.rules.proofs.Branches.{either, no}
 use Rattle.spans.specs.Mesh.{isRadius}
 use Rattle.bound.proofs.Whole.{Bounded, bounded-add, within-div}
 use Rattle.fives.specs.Groups.{Each}

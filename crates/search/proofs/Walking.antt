@@ -6,7 +6,7 @@ use Prim.Native.Nat.{ℕ, suc, _+_, _-_, _≤_, _<_}
 use native.Mathlib.Omega.{arith}
 use borrow.Author.Tests.{lt-ltb, le-ltb}
 use lib.Ieee.{Float}
-use Rattle.numbers.proofs.Branches.{no}
+use Rattle.rules.proofs.Branches.{no}
 use Rattle.runs.specs.declared.Run.{Run}
 use Rattle.runs.specs.Pieces.{Piece, piecesOf}
 use Rattle.runs.specs.Inside.{Work, work, takenAll}

@@ -11,10 +11,11 @@ use lib.Ieee.{Float, nan, inf, fin, binary64, down, sum, round, add, sub, mul, n
 use lib.Ieee.Fits.{add-fits}
 use lib.Ieee.Positive.{den, den-pos}
 use lib.Ieee.Scale.{finite}
+use lib.Ieee.Bits.{is-true}
 use Rattle.numbers.specs.Reals.{_⊕_, _⊖_, _⊗_, f0, f1, million, billion, minOf, maxOf, absOf}
 use Rattle.golden.specs.Phi.{phi60}
 use Rattle.roots.specs.Root.{rootOf}
-use Rattle.numbers.proofs.Branches.{either, by-test, both-true, no}
+use Rattle.rules.proofs.Branches.{either, by-test, both-true, no, holds}
 use Rattle.plane.specs.declared.Contact.{Contact}
 use Rattle.plane.specs.declared.Contact.the-variants.{Nothing, Height}
 use Rattle.plane.specs.Contacts.{corner, edge, takeOf}
@@ -47,13 +48,6 @@ use Rattle.section.specs.declared.Surface.{Surface}
 use Rattle.section.specs.declared.Surface.the-variants.{Beyond, Over}
 use Rattle.section.specs.Section.{positiveReach, validSection, profileOf, heightOver, sectionUnder, sectionVertex, sectionAt, lipschitzOf, sectionStretch, sectionEdge}
 use Rattle.section.specs.Inside.{Firm, lowEdge}
-
-holds : (b : Bool) → b ≡ true → T b
-holds b e = rw e tt
-
-is-true : (b : Bool) → T b → b ≡ true
-is-true true t = refl
-is-true false t = absurd t
 
 -- ---- a valid section
 abbrev B : Float

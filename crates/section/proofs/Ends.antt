@@ -7,8 +7,9 @@ use Prim.Native.Nat.{ℕ}
 use lib.Dec.{T}
 use lib.Ieee.{Float, nan, inf, fin, binary64, div, lt, le, eq, fits, isNan, ofBits}
 use lib.Ieee.Scale.{finite}
+use lib.Ieee.Bits.{is-true}
 use Rattle.numbers.specs.Reals.{_⊕_, _⊖_, _⊗_, _⊘_, f0, minOf, maxOf}
-use Rattle.numbers.proofs.Branches.{by-test, no}
+use Rattle.rules.proofs.Branches.{by-test, no, holds}
 use Rattle.golden.specs.Search.{goldenMax}
 use Rattle.touch.specs.declared.Edge.{Edge}
 use Rattle.touch.specs.Touch.{along, distanceAt}
@@ -27,13 +28,6 @@ use Rattle.section.specs.declared.Surface.the-variants.{Beyond, Over}
 use Rattle.section.specs.Section.{profileOf, heightOver, sectionAt}
 use Rattle.section.specs.Inside.{Firm, overOf, capOf}
 use Rattle.section.proofs.Capping.{Valid, valid-parts, top, height-all, least-far, f-top, fz, f1′, fr, climb-fine, beyond}
-
-holds : (b : Bool) → b ≡ true → T b
-holds b e = rw e tt
-
-is-true : (b : Bool) → T b → b ≡ true
-is-true true t = refl
-is-true false t = absurd t
 
 -- ---- the surface
 near-height : (s : Section) (d : Float) → le d (s .r0) ≡ true → heightOver (profileOf s d) ≡ s .z0

@@ -3,6 +3,7 @@ use mathlib.Core.Bool.{Bool, true, false, cond}
 use mathlib.Core.Path.{_≡_, refl}
 use lib.Dec.{T}
 use lib.Ieee.{Float, le}
+use lib.Ieee.Bits.{is-true}
 use Rattle.numbers.specs.Reals.{_⊕_, _⊖_, _⊗_, minOf}
 use Rattle.roots.specs.Hypot.{hypotOf}
 use Rattle.touch.specs.declared.Edge.{Edge}
@@ -12,10 +13,6 @@ use Rattle.section.specs.declared.Section.{Section}
 use Rattle.section.specs.declared.Surface.the-variants.{Beyond, Over}
 use Rattle.section.specs.Section.{profileOf, heightOver, sectionAt}
 use Rattle.section.specs.Inside.{FlatTo}
-
-is-true : (b : Bool) → T b → b ≡ true
-is-true true t = refl
-is-true false t = absurd t
 
 module _ (s : Section) where
   pub flat-at : (x y : Float) (e : Edge) (flat t : Float) → FlatTo s flat

@@ -7,7 +7,7 @@ use lib.Dec.{T}
 use lib.Ieee.{Float, nan, inf, fin, binary64, add, lt, le, eq, fits, isNan}
 use Rattle.numbers.specs.Reals.{_⊕_, _⊖_, _⊗_, maxOf}
 use Rattle.golden.specs.Phi.{phi60}
-use Rattle.numbers.proofs.Branches.{no}
+use Rattle.rules.proofs.Branches.{no}
 use Rattle.plane.specs.declared.Contact.{Contact}
 use Rattle.plane.specs.declared.Contact.the-variants.{Nothing, Height}
 use Rattle.plane.specs.Contacts.{edge}

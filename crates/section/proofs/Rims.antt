@@ -5,9 +5,10 @@ use Prim.Native.Nat.{ℕ}
 use lib.Dec.{T}
 use lib.Ieee.{Float, binary64, div, lt, le, eq, ofBits}
 use lib.Ieee.Fits.{sub-fits}
+use lib.Ieee.Bits.{is-true}
 use Rattle.numbers.specs.Reals.{_⊕_, _⊖_, _⊗_, _⊘_, f0}
 use Rattle.roots.specs.Hypot.{hypotOf}
-use Rattle.numbers.proofs.Branches.{by-test, no}
+use Rattle.rules.proofs.Branches.{by-test, no, holds}
 use Rattle.plane.specs.declared.Contact.{Contact}
 use Rattle.above.specs.Above.{offerOf}
 use Rattle.bound.specs.Inside.{Beyond as Outside}
@@ -16,13 +17,6 @@ use Rattle.section.specs.declared.Section.{Section}
 use Rattle.section.specs.declared.Surface.the-variants.{Beyond}
 use Rattle.section.specs.Section.{profileOf, sectionUnder, sectionVertex}
 use Rattle.section.specs.Inside.{Clear}
-
-holds : (b : Bool) → b ≡ true → T b
-holds b e = rw e tt
-
-is-true : (b : Bool) → T b → b ≡ true
-is-true true t = refl
-is-true false t = absurd t
 
 out-of : (s : Section) (d : Float) → le (s .r0) (s .r1) ≡ true → le d (s .r1) ≡ false → profileOf s d ≡ Beyond
 unfolding profileOf

@@ -11,14 +11,14 @@ use lib.Ieee.{Float}
 use Rattle.walk.specs.declared.Best.{Best}
 use lib.ListN.{length, take}
 use lib.Seq.{take-length}
-use Rattle.numbers.proofs.Branches.{left}
+use Rattle.rules.proofs.Branches.{left}
 use Rattle.grid.specs.Boxes.{isBoxed}
 use Rattle.grid.specs.Index.{Index}
-use Rattle.grid.specs.Ladder.{demand}
-use Rattle.cells.specs.Cover.{isFrom}
+use Rattle.rules.specs.Ladder.{demand}
+use Rattle.rules.specs.Every.{isFrom, every}
 use Rattle.query.specs.declared.Patch.{Patch}
 use Rattle.query.specs.Asked.{isMarked}
-use Rattle.query.specs.Usable.{every, usable}
+use Rattle.query.specs.Usable.{usable}
 use Rattle.reach.specs.declared.Chord.{Chord}
 use Rattle.section.specs.declared.Section.{Section}
 use Rattle.section.specs.Section.{validSection}

@@ -9,11 +9,11 @@ use borrow.Author.Tests.{eqb-true, leb-true, ltb-true, eq-eqb, ne-eqb}
 use lib.Dec.{lit<, eqb, leb, ltb}
 use lib.IntN.{ℤ}
 use lib.ListN.{length, getD}
-use Rattle.numbers.proofs.Branches.{both-true, taken, left}
+use Rattle.rules.proofs.Branches.{both-true, taken, left}
 use Rattle.walk.specs.Walk.{Walk, block, fold, walked, nextStamp, readyMarks}
 use Rattle.walk.specs.Inside.{look, Walkable}
 use Rattle.walk.proofs.Lists.{walk-is}
-use Rattle.grid.proofs.Ladder.{demanded}
+use Rattle.rules.proofs.Ladder.{demanded}
 use Rattle.query.specs.declared.Patch.{Patch}
 use Rattle.query.specs.Usable.{cellsUsable}
 use Rattle.query.proofs.Looks.{ready-length}

@@ -10,11 +10,11 @@ use lib.Dec.{eqb, leb}
 use lib.IntN.{ℤ}
 use lib.ListN.{length}
 use lib.Pow.{pow-pos}
-use Rattle.numbers.proofs.Branches.{both-true, no}
+use Rattle.rules.proofs.Branches.{both-true, no}
 use Rattle.fields.specs.Rows.{somewhere}
 use Rattle.fields.specs.declared.Place.{Place}
 use Rattle.fields.specs.declared.Place.the-variants.{Nowhere, At}
-use Rattle.cells.specs.Cover.{isFrom}
+use Rattle.rules.specs.Every.{isFrom}
 use Rattle.micro.specs.Micro.{isCoordinate, isRadius, firstWhere}
 use Rattle.um.specs.declared.Header.{Header}
 use Rattle.um.specs.Build.{isPower, inRanges}

@@ -4,7 +4,7 @@ use mathlib.Core.Path.{_≡_, ap, _∙_, subst⁻¹}
 use Prim.Native.Nat.{ℕ, _+_, _<_}
 use native.Mathlib.Omega.{arith}
 use lib.IntN.{ℤ}
-use Rattle.numbers.proofs.Branches.{either}
+use Rattle.rules.proofs.Branches.{either}
 use Rattle.micro.specs.declared.Box.{Box}
 use Rattle.micro.specs.Micro.{boxOf}
 use Rattle.setup.specs.declared.Reach.{Reach}

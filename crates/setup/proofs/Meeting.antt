@@ -8,7 +8,7 @@ use native.Mathlib.Omega.{arith}
 use borrow.Author.Tests.{leb-true, le-ltb, lt-leb}
 use lib.Dec.{leb}
 use lib.IntN.{ℤ}
-use Rattle.numbers.proofs.Branches.{both-true, left}
+use Rattle.rules.proofs.Branches.{both-true, left}
 use Rattle.cells.specs.Cover.{covers}
 use Rattle.cells.proofs.Sets.{covered}
 use Rattle.query.specs.declared.Span.{Span}

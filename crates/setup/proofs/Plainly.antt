@@ -7,8 +7,8 @@ use native.Mathlib.Omega.{arith}
 use borrow.Author.Tests.{lt-ltb, le-ltb, ltb-true, ltb-false, eqb-true, eqb-false, eq-eqb}
 use lib.Dec.{eqb, ltb}
 use lib.IntN.{ℤ}
-use Rattle.numbers.proofs.Branches.{by-test}
-use Rattle.cells.specs.Cover.{times}
+use Rattle.rules.proofs.Branches.{by-test}
+use Rattle.rules.specs.Every.{times}
 use Rattle.walk.specs.Walk.{fold}
 use Rattle.micro.specs.declared.Box.{Box}
 use Rattle.micro.specs.Micro.{boxOf}

@@ -8,15 +8,14 @@ use borrow.Author.Tests.{eqb-true, eq-eqb, le-leb, lt-ltb}
 use lib.Dec.{eqb}
 use lib.IntN.{ℤ}
 use lib.ListN.{length, getD}
-use Rattle.numbers.proofs.Branches.{by-test}
-use Rattle.cells.specs.Cover.{times}
+use Rattle.rules.proofs.Branches.{by-test}
+use Rattle.rules.specs.Every.{times, every}
 use Rattle.cells.proofs.Reading.{member-of}
 use Rattle.walk.specs.Walk.{Walk, cell, walked, nextStamp}
-use Rattle.grid.proofs.Ladder.{demand-next}
+use Rattle.rules.proofs.Ladder.{demand-next}
 use Rattle.query.specs.declared.Patch.{Patch}
 use Rattle.query.specs.Looked.{EachOnce}
-use Rattle.query.specs.Usable.{every}
-use Rattle.query.proofs.Testing.{every-all}
+use Rattle.rules.proofs.Testing.{every-all}
 use Rattle.query.proofs.Stretches.{usable-each, cell-stands, cells-pass}
 use Rattle.query.proofs.Looks.{each-once, once-shared}
 use Rattle.ask.specs.Ask.{Outcome, ended}

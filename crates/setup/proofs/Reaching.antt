@@ -6,8 +6,8 @@ use native.Mathlib.Nat.{min-le-right}
 use native.Mathlib.Omega.{arith}
 use borrow.Author.Tests.{leb-true, le-leb, lt-leb, le-ltb}
 use lib.Dec.{leb, ltb}
-use Rattle.numbers.proofs.Branches.{both-true, either, taken, left}
-use Rattle.cells.specs.Cover.{isFrom}
+use Rattle.rules.proofs.Branches.{both-true, either, taken, left}
+use Rattle.rules.specs.Every.{isFrom}
 use Rattle.micro.specs.Micro.{isCoordinate, isRadius}
 use Rattle.um.specs.declared.Header.{Header}
 use Rattle.um.proofs.Extents.{coordinate-is}

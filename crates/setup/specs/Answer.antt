@@ -6,9 +6,10 @@ use lib.Dec.{eqb, leb, ltb}
 use lib.IntN.{ℤ}
 use lib.ListN.{length, getD}
 use Rattle.walk.specs.Walk.{Walk, block, looked, walked, nextStamp, readyMarks}
-use Rattle.grid.specs.Ladder.{demand}
+use Rattle.rules.specs.Ladder.{demand}
 use Rattle.query.specs.declared.Patch.{Patch}
-use Rattle.query.specs.Usable.{every, cellsUsable}
+use Rattle.rules.specs.Every.{every}
+use Rattle.query.specs.Usable.{cellsUsable}
 use Rattle.ask.specs.Ask.{begun, Outcome, ended}
 use Rattle.micro.specs.Micro.{isCoordinate, numberAt}
 use Rattle.um.specs.declared.Header.{Header}

@@ -2,7 +2,7 @@
 use mathlib.Core.Bool.{Bool, _&&_}
 use mathlib.Core.List.{List}
 use Prim.Native.Nat.{ℕ, _*_, _≤_, _<_, _^_}
-use Rattle.cells.specs.Cover.{isFrom}
+use Rattle.rules.specs.Every.{isFrom}
 use Rattle.micro.specs.Micro.{isCoordinate, isRadius}
 use Rattle.walk.specs.Walk.{Walk}
 use Rattle.setup.specs.declared.Best.{Best}

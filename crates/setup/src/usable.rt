@@ -2,8 +2,8 @@
 ghost use mathlib.Core.Path.{_≡_};
 ghost use Prim.Native.Nat.{_+_, _*_, _≤_, _<_};
 ghost use lib.ListN.{length};
-ghost use Rattle.cells.specs.Cover.{isFrom};
-ghost use Rattle.query.specs.Usable.{each, cellUsable, rowUsable, cellsUsable};
+ghost use Rattle.rules.specs.Every.{isFrom, each};
+ghost use Rattle.query.specs.Usable.{cellUsable, rowUsable, cellsUsable};
 ghost use Rattle.um.specs.Build.{isPower, inRanges};
 ghost use Rattle.setup.specs.Answer.{isMarked, headUsable, triangleUsable, memberUsable};
 ghost use Rattle.setup.specs.Inside.{countsIn, placesIn};

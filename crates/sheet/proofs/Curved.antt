@@ -11,10 +11,10 @@ use lib.Ieee.Positive.{den, den-pos}
 use lib.Ieee.Scale.{finite}
 use Rattle.numbers.specs.Reals.{_⊖_, _⊗_, f0, million, maxOf}
 use Rattle.roots.specs.Root.{rootOf}
-use Rattle.numbers.proofs.Branches.{no}
+use Rattle.rules.proofs.Branches.{no, by-test}
 use Rattle.spans.proofs.Signed.{upper, lower, is-le, is-sub}
 use Rattle.spans.proofs.Ranges.{finite-between, sub-mono, Coordinate, million-is, extent-positive, two}
-use Rattle.spans.proofs.Sizes.{by-test, either-of, le-self, not-below, max-least, f0-is}
+use Rattle.spans.proofs.Sizes.{either-of, le-self, not-below, max-least, f0-is}
 use Rattle.bound.proofs.Order.{O, le-trans, sub-turns, square-up, no-lower, own}
 use Rattle.bound.proofs.Roots.{root-finite, root-le, lt-le}
 use Rattle.bound.proofs.Small.{M, M′, Small, small-up, small-finite, small-sub, small-range, square-nonneg, square-finite}

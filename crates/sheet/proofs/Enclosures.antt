@@ -9,11 +9,10 @@ use lib.Ieee.Scale.{finite}
 use lib.ListN.{length}
 use Rattle.numbers.specs.Reals.{_⊗_, f0, f2, million}
 use Rattle.roots.specs.Root.{rootOf}
-use Rattle.numbers.proofs.Branches.{no, both-true, by-test}
+use Rattle.rules.proofs.Branches.{no, both-true, by-test, holds}
 use Rattle.section.specs.declared.Section.{Section}
 use Rattle.section.specs.Section.{within, positiveReach, validSection, profileOf, heightOver}
 use Rattle.flatten.specs.Flat.{flatOf}
-use Rattle.spans.proofs.Cutting.{holds}
 use Rattle.spans.proofs.Ranges.{million-is}
 use Rattle.spans.proofs.Sizes.{f0-is}
 use Rattle.bound.proofs.Order.{O, le-trans, square-up}

@@ -10,13 +10,12 @@ use lib.Dec.{lit<}
 use lib.Ieee.{Float}
 use lib.ListN.{length, take}
 use lib.Seq.{take-at}
-use Rattle.numbers.proofs.Branches.{taken, left, both-true, no}
+use Rattle.rules.proofs.Branches.{taken, left, both-true, no}
 use Rattle.section.specs.declared.Section.{Section}
 use Rattle.section.specs.Section.{validSection}
 use Rattle.flatten.specs.Flat.{flatOf}
-use Rattle.cells.specs.Cover.{isFrom}
-use Rattle.query.specs.Usable.{every}
-use Rattle.grid.proofs.Ladder.{demand-here, demand-next, refused-not, demanded}
+use Rattle.rules.specs.Every.{isFrom, every}
+use Rattle.rules.proofs.Ladder.{demand-here, demand-next, refused-not, demanded}
 use Rattle.tool.specs.Tool.{sectionOf, isTool}
 use Rattle.sheet.specs.declared.Shape.{Shape}
 use Rattle.sheet.specs.declared.Sheet.{Sheet}

@@ -11,7 +11,7 @@ use Rattle.fields.specs.Rows.{allFinite}
 use Rattle.section.specs.declared.Section.{Section}
 use Rattle.section.specs.Section.{validSection}
 use Rattle.flatten.specs.Flat.{flatOf}
-use Rattle.grid.specs.Ladder.{refuse, demand}
+use Rattle.rules.specs.Ladder.{refuse, demand}
 use Rattle.sheet.specs.declared.Shape.{Shape}
 use Rattle.sheet.specs.declared.Shape.the-variants.{Flat, Ball, Bull, Drill, Chamfer, Beam}
 use Rattle.sheet.specs.declared.Sheet.{Sheet}

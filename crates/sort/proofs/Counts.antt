@@ -1,15 +1,16 @@
 -- How often a number stands in a list, after a store and a swap; what a swap leaves at each entry.
 use mathlib.Core.Bool.{Bool, true, false, cond}
-use mathlib.Core.List.{List, [], _∷_, _++_}
+use mathlib.Core.List.{List, [], _∷_}
 use mathlib.Core.Logic.{_⊎_, inl, inr, ⊎-elim}
-use mathlib.Core.Path.{_≡_, refl, sym, _∙_, ap, subst}
-use Prim.Native.Nat.{ℕ, zero, suc, _+_, _≤_, _<_}
+use mathlib.Core.Path.{_≡_, refl, _∙_, ap}
+use Prim.Native.Nat.{ℕ, zero, suc, _+_, _<_}
 use native.Mathlib.Omega.{arith}
 use borrow.Author.Tests.{eqb-true, eqb-false}
 use lib.Dec.{eqb}
 use lib.ListN.{length, getD, set, length-set}
 use lib.Seq.{getD-set-same, getD-set-other}
-use Rattle.sort.specs.Inside.{count, Rearranged, swapped}
+use Rattle.rules.specs.Every.{times}
+use Rattle.sort.specs.Inside.{Rearranged, swapped}
 
 pub on-or-off : (b : Bool) → (b ≡ true) ⊎ (b ≡ false)
 on-or-off true = inl refl
@@ -18,16 +19,11 @@ on-or-off false = inr refl
 pub same-or-not : (a b : ℕ) → (a ≡ b) ⊎ (a ≡ b → ⊥)
 same-or-not a b = ⊎-elim (λ e. inl (eqb-true a b e)) (λ e. inr (eqb-false a b e)) (on-or-off (eqb a b))
 
-count-set : (x v : ℕ) (l : List ℕ) (i : ℕ) → i < length l → count x (set l i v) + cond (eqb x (getD l i 0)) 1 0 ≡ count x l + cond (eqb x v) 1 0
-unfolding count
+count-set : (x v : ℕ) (l : List ℕ) (i : ℕ) → i < length l → times x (set l i v) + cond (eqb x (getD l i 0)) 1 0 ≡ times x l + cond (eqb x v) 1 0
+unfolding times
 count-set x v [] i h = absurd (omega arith)
 count-set x v (y ∷ ys) zero h = omega arith
 count-set x v (y ∷ ys) (suc i) h = let r = count-set x v ys i (omega arith) in omega arith
-
-pub count-append : (x : ℕ) (xs ys : List ℕ) → count x (xs ++ ys) ≡ count x xs + count x ys
-unfolding count
-count-append x [] ys = omega arith
-count-append x (y ∷ xs) ys = let r = count-append x xs ys in omega arith
 
 -- what two stores leave: entry b holds what a did, and a what b did
 module _ (l : List ℕ) (a b : ℕ) (ha : a < length l) (hb : b < length l) where
@@ -48,7 +44,7 @@ module _ (l : List ℕ) (a b : ℕ) (ha : a < length l) (hb : b < length l) wher
   pub swapped-else : (p : ℕ) → (p ≡ a → ⊥) → (p ≡ b → ⊥) → getD (swapped l a b) p 0 ≡ getD l p 0
   swapped-else p na nb = getD-set-other (set l a (getD l b 0)) b p (getD l a 0) 0 nb ∙ getD-set-other l a p (getD l b 0) 0 na
 
-  swapped-counts : (x : ℕ) → count x (swapped l a b) ≡ count x l
+  swapped-counts : (x : ℕ) → times x (swapped l a b) ≡ times x l
   swapped-counts x =
       let p = count-set x (getD l a 0) (set l a (getD l b 0)) b (rw (length-set l a (getD l b 0)) hb) in
       let q = count-set x (getD l b 0) l a ha in

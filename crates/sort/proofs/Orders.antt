@@ -9,10 +9,12 @@ use borrow.Author.Tests.{eq-eqb, ne-eqb, eqb-true}
 use lib.Dec.{eqb, ltb}
 use lib.ListN.{length, getD, take, drop, length-take, length-drop, take-append-drop}
 use lib.Seq.{ext-getD, getD-take, getD-drop}
-use Rattle.numbers.proofs.Branches.{either}
+use Rattle.rules.proofs.Times.{times-append}
+use Rattle.rules.proofs.Branches.{either}
 use Rattle.sort.specs.Ranks.{insert, sortedBy}
-use Rattle.sort.specs.Inside.{count, Rearranged}
-use Rattle.sort.proofs.Counts.{on-or-off, same-or-not, count-append}
+use Rattle.rules.specs.Every.{times}
+use Rattle.sort.specs.Inside.{Rearranged}
+use Rattle.sort.proofs.Counts.{on-or-off, same-or-not}
 use Rattle.sort.proofs.Heaps.{Strict, Tail}
 
 module _ (less : ℕ → ℕ → Bool) where
@@ -69,24 +71,24 @@ module _ (less : ℕ → ℕ → Bool) (s : Strict less) where
   sorted-rises [] = tt
   sorted-rises (x ∷ xs) = insert-rises x (sortedBy less xs) (sorted-rises xs)
 
-  insert-counts : (x i : ℕ) (js : List ℕ) → count x (insert less i js) ≡ cond (eqb x i) 1 0 + count x js
-  unfolding insert count
+  insert-counts : (x i : ℕ) (js : List ℕ) → times x (insert less i js) ≡ cond (eqb x i) 1 0 + times x js
+  unfolding insert times
   insert-counts x i [] = refl
   insert-counts x i (j ∷ js) =
       let r = insert-counts x i js in
-      either (λ (l : List ℕ). count x l ≡ cond (eqb x i) 1 0 + (cond (eqb x j) 1 0 + count x js)) (less i j) (i ∷ j ∷ js) (j ∷ insert less i js)
+      either (λ (l : List ℕ). times x l ≡ cond (eqb x i) 1 0 + (cond (eqb x j) 1 0 + times x js)) (less i j) (i ∷ j ∷ js) (j ∷ insert less i js)
       (λ _. refl)
       (λ _. omega arith)
 
-  pub sorted-counts : (x : ℕ) (xs : List ℕ) → count x (sortedBy less xs) ≡ count x xs
-  unfolding sortedBy count
+  pub sorted-counts : (x : ℕ) (xs : List ℕ) → times x (sortedBy less xs) ≡ times x xs
+  unfolding sortedBy times
   sorted-counts x [] = refl
   sorted-counts x (y ∷ ys) = let r = sorted-counts x ys in omega (arith, insert-counts x y (sortedBy less ys))
 
   -- ---- one sorted list of the same numbers
 
-  after-holds : (x z : ℕ) (ys : List ℕ) → After less x ys → 0 < count z ys → less z x ≡ false
-  unfolding count
+  after-holds : (x z : ℕ) (ys : List ℕ) → After less x ys → 0 < times z ys → less z x ≡ false
+  unfolding times
   after-holds x z [] a h = absurd (omega arith)
   after-holds x z (y ∷ ys) a h =
       ⊎-elim
@@ -94,20 +96,20 @@ module _ (less : ℕ → ℕ → Bool) (s : Strict less) where
       (λ (e : eqb z y ≡ false). after-holds x z ys (λ b l. a (suc b) (omega arith)) (omega (arith, rw e at h)))
       (on-or-off (eqb z y))
 
-  head-first : (x z : ℕ) (xs : List ℕ) → After less x xs → 0 < count z (x ∷ xs) → less z x ≡ false
-  unfolding count
+  head-first : (x z : ℕ) (xs : List ℕ) → After less x xs → 0 < times z (x ∷ xs) → less z x ≡ false
+  unfolding times
   head-first x z xs a h =
       ⊎-elim
       (λ (e : eqb z x ≡ true). rw (eqb-true z x e) (s .never x))
       (λ (e : eqb z x ≡ false). after-holds x z xs a (omega (arith, rw e at h)))
       (on-or-off (eqb z x))
 
-  here : (x : ℕ) (xs : List ℕ) → 0 < count x (x ∷ xs)
-  unfolding count
+  here : (x : ℕ) (xs : List ℕ) → 0 < times x (x ∷ xs)
+  unfolding times
   here x xs = rw (eq-eqb x x refl) (omega arith)
 
-  pub one-sorted : (xs ys : List ℕ) → Rising less xs → Rising less ys → ((x : ℕ) → count x xs ≡ count x ys) → xs ≡ ys
-  unfolding count
+  pub one-sorted : (xs ys : List ℕ) → Rising less xs → Rising less ys → ((x : ℕ) → times x xs ≡ times x ys) → xs ≡ ys
+  unfolding times
   one-sorted [] [] r q c = refl
   one-sorted [] (y ∷ ys) r q c = absurd (omega (arith, c y, here y ys))
   one-sorted (x ∷ xs) [] r q c = absurd (omega (arith, c x, here x xs))
@@ -130,8 +132,8 @@ module _ (less : ℕ → ℕ → Bool) (s : Strict less) where
       rw (getD-take k l′ b 0 q′, getD-take k l′ a 0 (omega arith)) (t a b h (omega arith) q′)) in
       let same : take k l′ ≡ sortedBy less (take k l) =
       one-sorted (take k l′) (sortedBy less (take k l)) rises (sorted-rises (take k l))
-      (λ x. omega (arith, sorted-counts x (take k l), r .same x, counted x l, counted x l′, ap (count x) rest)) in
+      (λ x. omega (arith, sorted-counts x (take k l), r .same x, counted x l, counted x l′, ap (times x) rest)) in
       sym (take-append-drop k l′) ∙ (rw (same, rest))
     where
-      counted : (x : ℕ) (m : List ℕ) → count x (take k m) + count x (drop k m) ≡ count x m
-      counted x m = sym (count-append x (take k m) (drop k m)) ∙ ap (count x) (take-append-drop k m)
+      counted : (x : ℕ) (m : List ℕ) → times x (take k m) + times x (drop k m) ≡ times x m
+      counted x m = sym (times-append x (take k m) (drop k m)) ∙ ap (times x) (take-append-drop k m)

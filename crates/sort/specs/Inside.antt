@@ -1,20 +1,16 @@
 -- What the parts of the sort promise each other. In a heap, entry p stands over the entries 2 * p + 1 and 2 * p + 2, and neither of them comes after it.
 use mathlib.Core.Bool.{Bool, true, false, cond}
-use mathlib.Core.List.{List, [], _∷_}
+use mathlib.Core.List.{List}
 use mathlib.Core.Path.{_≡_}
 use Prim.Native.Nat.{ℕ, _+_, _*_, _≤_, _<_}
-use lib.Dec.{eqb, ltb}
+use lib.Dec.{ltb}
 use lib.ListN.{length, getD, set}
-
--- How often x stands in a list.
-unfoldable pub count : ℕ → List ℕ → ℕ
-count x [] = 0
-count x (y ∷ ys) = cond (eqb x y) 1 0 + count x ys
+use Rattle.rules.specs.Every.{times}
 
 -- The first e entries rearranged: no number is lost, what holds of each of them still does, and the others stay.
 pub record Rearranged (e : ℕ) (l l′ : List ℕ) : Type 0 where
   pub size : length l′ ≡ length l
-  pub same : (x : ℕ) → count x l′ ≡ count x l
+  pub same : (x : ℕ) → times x l′ ≡ times x l
   pub inside : (P : ℕ → Bool) → ((p : ℕ) → p < e → P (getD l p 0) ≡ true) → (p : ℕ) → p < e → P (getD l′ p 0) ≡ true
   pub rest : (p : ℕ) → e ≤ p → getD l′ p 0 ≡ getD l p 0
 

@@ -10,7 +10,7 @@ use lib.IntN.{ℤ, pos}
 use lib.Ieee.{Float, nan, inf, fin, binary64, ofBits, up, down, lt, le, eq, toUnsigned}
 use lib.Ieee.Fits.{down-pos}
 use Rattle.numbers.specs.Reals.{f1}
-use Rattle.numbers.proofs.Branches.{no}
+use Rattle.rules.proofs.Branches.{no, holds}
 
 -- 2 ^ 64
 abbrev pub past64 : Float
@@ -23,9 +23,6 @@ f1-is = refl
 pub past64-is : past64 ≡ fin false 1 (pos 64)
 unfolding ofBits
 past64-is = refl
-
-pub holds : (b : Bool) → b ≡ true → T b
-holds b e = rw e tt
 
 -- what a failed `le` of two numbers says
 above : (a b : ℕ) → (ltb a b || (eqb a b && true)) ≡ false → b < a

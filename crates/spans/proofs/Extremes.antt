@@ -16,7 +16,8 @@ use Rattle.spans.specs.Axis.{cellAt, cellsAlong, stretchOf}
 use Rattle.spans.specs.Inside.{Near}
 use Rattle.spans.proofs.Rounding.{round-down-cuts}
 use Rattle.spans.proofs.Ranges.{Coordinate, coordinate, coordinate-finite, le-trans-finite}
-use Rattle.spans.proofs.Sizes.{Size, f0-is, by-test, either-of, le-self, not-below, quotient-low, cells-few, cells-mono}
+use Rattle.spans.proofs.Sizes.{Size, f0-is, either-of, le-self, not-below, quotient-low, cells-few, cells-mono}
+use Rattle.rules.proofs.Branches.{by-test}
 
 -- ---- the smaller and the larger of two finite numbers
 lt-le : (x y : Float) → lt x y ≡ true → T (le x y)

@@ -9,16 +9,16 @@ use lib.Dec.{eqb, ltb}
 use lib.IntN.{ℤ, pos}
 use lib.ListN.{length}
 use lib.Ieee.{Float, nan, inf, fin, binary64, ofBits, up, down, neg, lt, le, isNan}
+use lib.Ieee.Bits.{is-true}
 use Rattle.numbers.specs.Reals.{f0, million, maxOf, minOf, absOf}
-use Rattle.numbers.proofs.Branches.{no}
+use Rattle.rules.proofs.Branches.{no, by-test}
 use Rattle.plane.specs.Mesh.{triangleOf}
 use Rattle.spans.specs.Mesh.{isCoordinate, widened, extentOf, farther}
 use Rattle.spans.specs.Inside.{Good, AllGood, Corners, Ends, notNegative}
 use Rattle.spans.proofs.Signed.{le-apart}
 use Rattle.spans.proofs.Ranges.{million-is}
-use Rattle.spans.proofs.Sizes.{by-test, either-of}
+use Rattle.spans.proofs.Sizes.{either-of}
 use Rattle.spans.proofs.Extremes.{min-either, box-x, box-y}
-use Rattle.spans.proofs.Scales.{true-of}
 
 -- ---- a coordinate lies from -1e6 to 1e6
 abbrev pub minusMillion : Float
@@ -47,9 +47,9 @@ unfolding absOf
 sides nan = unfold le in refl
 sides (inf true) = unfold le in refl
 sides (inf false) = unfold le in refl
-sides (fin false m k) = on-left (le (fin true 15625 (pos 6)) (fin false m k)) (le (fin false m k) (fin false 15625 (pos 6))) (true-of _ (le-apart (fin true 15625 (pos 6)) (fin false m k) tt tt))
+sides (fin false m k) = on-left (le (fin true 15625 (pos 6)) (fin false m k)) (le (fin false m k) (fin false 15625 (pos 6))) (is-true _ (le-apart (fin true 15625 (pos 6)) (fin false m k) tt tt))
 sides (fin true m k) =
-    sym (off-right (le (fin true 15625 (pos 6)) (fin true m k)) (le (fin true m k) (fin false 15625 (pos 6))) (true-of _ (le-apart (fin true m k) (fin false 15625 (pos 6)) tt tt))) ∙ mirrored m k
+    sym (off-right (le (fin true 15625 (pos 6)) (fin true m k)) (le (fin true m k) (fin false 15625 (pos 6))) (is-true _ (le-apart (fin true m k) (fin false 15625 (pos 6)) tt tt))) ∙ mirrored m k
 
 pub coordinate-sides : (x : Float) → (le minusMillion x && le x million) ≡ isCoordinate x
 unfolding isCoordinate

@@ -12,6 +12,7 @@ use lib.Ieee.{Float, nan, inf, fin, binary64, ofBits, up, down, mul, round, lt, 
 use lib.Ieee.Fits.{up-pos}
 use lib.Ieee.Positive.{positive, positive-finite, between, mul-mono}
 use lib.Ieee.Scale.{finite}
+use lib.Ieee.Bits.{is-true}
 use Rattle.numbers.specs.Reals.{_⊗_, f0, f1, slack, million, twoMillionths, num, maxOf, absOf}
 use Rattle.plane.specs.Mesh.{triangleOf}
 use Rattle.spans.specs.Mesh.{isCoordinate, farther, farthestOf, scaleOf, epsOf}
@@ -37,10 +38,6 @@ f0-is = refl
 bound-is : twoMillionths ≡ fin false 4722366482869645 (negsuc 70)
 unfolding ofBits
 bound-is = refl
-
-pub true-of : (b : Bool) → T b → b ≡ true
-true-of true t = refl
-true-of false t = absurd t
 
 positive-lt : (x : Float) → T (positive x) → T (lt (fin false 0 (pos 0)) x)
 positive-lt nan p = absurd p
@@ -113,8 +110,8 @@ module _ (mesh : List Float) (good : (k : ℕ) → k < length mesh → isCoordin
 
     pub eps-above : lt f0 (epsOf mesh n) ≡ true
     unfolding epsOf scale
-    eps-above = rw (f0-is, slack-is) (true-of _ (positive-lt _ eps-low))
+    eps-above = rw (f0-is, slack-is) (is-true _ (positive-lt _ eps-low))
 
     pub eps-under : le (epsOf mesh n) twoMillionths ≡ true
     unfolding epsOf scale
-    eps-under = rw (bound-is, slack-is) (true-of _ eps-high)
+    eps-under = rw (bound-is, slack-is) (is-true _ eps-high)

@@ -12,6 +12,7 @@ use lib.Ieee.Fits.{ofInt-fits}
 use lib.Ieee.Order.{round-mono}
 use lib.Ieee.Scale.{finite}
 use lib.Ieee.Positive.{num, den, den-pos, positive, above, above-of-le, between, le→cross}
+use Rattle.rules.proofs.Branches.{by-test}
 use Rattle.numbers.specs.Reals.{_⊖_, _⊘_, million, millionth, f0, f1, f4, maxOf}
 use Rattle.roots.specs.Root.{rootOf, rootOfUnits, nearestRoot, wholeRoot}
 use Rattle.roots.proofs.Monotone.{root-mono}
@@ -69,10 +70,6 @@ cells-mono lo x y s cl cx cy z h k =
     (div-up binary64 (x ⊖ lo) (y ⊖ lo) s (extent-finite x lo cx cl) (extent-finite y lo cy cl) (size-positive s z) (sub-mono binary64 x y lo fx fy fl k))
 
 -- ---- maxima
-pub by-test : {P : Type 0} (t : Bool) → (t ≡ true → P) → (t ≡ false → P) → P
-by-test true x y = x refl
-by-test false x y = y refl
-
 pub either-of : (P : Float → Type 0) (x y : Float) → P x → P y → P (maxOf x y)
 unfolding maxOf
 either-of P x y p q = by-test (isNan x) (λ e. rw e q) (λ e. by-test (lt x y) (λ f. rw (e, f) q) (λ f. rw (e, f) p))

@@ -10,7 +10,7 @@ use lib.Dec.{eqb, ltb}
 use lib.Ieee.{Float, nan, lt, le, eq}
 use lib.ListN.{length, List·getD-eq-default}
 use Rattle.numbers.specs.Reals.{_⊖_}
-use Rattle.numbers.proofs.Branches.{by-test}
+use Rattle.rules.proofs.Branches.{by-test}
 use Rattle.plane.specs.declared.Bounds.{Bounds}
 use Rattle.plane.specs.declared.Triangle.{Triangle}
 use Rattle.plane.specs.Mesh.{triangleOf}

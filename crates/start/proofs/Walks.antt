@@ -9,7 +9,7 @@ use lib.Ieee.{Float, nan, inf, fin, lt, le, eq, isNan, ofBits}
 use lib.Ieee.Bits.{is-true}
 use lib.ListN.{replicate}
 use Rattle.numbers.specs.Reals.{_⊖_}
-use Rattle.numbers.proofs.Branches.{either, by-test, no}
+use Rattle.rules.proofs.Branches.{either, by-test, no}
 use Rattle.numbers.proofs.Strict.{le-not-lt, lt-number}
 use Rattle.spans.proofs.Ranges.{finite-between}
 use Rattle.spans.proofs.Sizes.{le-self, not-below}

@@ -7,12 +7,14 @@ use borrow.Author.Tests.{eq-eqb, ne-eqb}
 use lib.Dec.{eqb, lit<}
 use lib.Ieee.{Float}
 use lib.ListN.{length, take}
-use Rattle.numbers.proofs.Branches.{taken, left}
+use Rattle.rules.proofs.Branches.{taken, left}
 use Rattle.fields.specs.declared.Shape.{Shape}
 use Rattle.fields.specs.Little.{value}
-use Rattle.fields.specs.Ladder.{refuse, tooMany}
+use Rattle.rules.specs.Ladder.{refuse}
+use Rattle.fields.specs.Room.{tooMany}
 use Rattle.fields.specs.Length.{wholeIn}
-use Rattle.fields.proofs.Ladder.{refuse-next, room-enough}
+use Rattle.rules.proofs.Ladder.{refuse-next}
+use Rattle.fields.proofs.Room.{room-enough}
 use Rattle.fields.proofs.Copies.{Ladder, said, value-head, told-apart}
 use Rattle.stl.specs.Layout.{count, shape}
 use Rattle.stl.specs.Reader.{refusalOfNumbers, refusalOfLength, refusalOfCount, refusalOf, Outcome, ended, shapeOf, toldWith, refusedBy, readOf, NeverTakenForAPart}

@@ -13,7 +13,8 @@ use Rattle.fields.specs.declared.Length.{Length}
 use Rattle.fields.specs.declared.Length.the-variants.{Exact}
 use Rattle.fields.specs.Little.{value}
 use Rattle.fields.specs.Length.{lengthRule, refuseLength}
-use Rattle.fields.proofs.Ladder.{refuse-next, refused-not, refused-later, room-for, room-enough}
+use Rattle.rules.proofs.Ladder.{refuse-next, refused-not, refused-later}
+use Rattle.fields.proofs.Room.{room-for, room-enough}
 use Rattle.fields.proofs.Lengths.{exact-only, exact-length, rung-exact}
 use Rattle.stl.specs.Layout.{count, shape}
 use Rattle.stl.specs.Reader.{numberOf, badAmong, refusalOfNumbers, refusalOfLength, refusalOfCount, refusalOf, shapeOf, Sound}

@@ -6,7 +6,7 @@ use Prim.Native.Nat.{ℕ, _+_, _-_, _*_, _/_, _%_, _≤_, _<_}
 use native.Mathlib.Omega.{arith}
 use borrow.Author.Tests.{ltb-true, ltb-false}
 use lib.Dec.{ltb}
-use Rattle.numbers.proofs.Branches.{by-test, no}
+use Rattle.rules.proofs.Branches.{by-test, no}
 use Rattle.fields.specs.Little.{value}
 use Rattle.fields.specs.Rows.{finite, firstBad, somewhere}
 use Rattle.fields.proofs.Rows.{passed, passes}

@@ -9,7 +9,8 @@ use lib.ListN.{length, drop}
 use Rattle.fields.specs.declared.Shape.{Shape}
 use Rattle.fields.specs.Little.{value}
 use Rattle.fields.specs.Rows.{finite, row, firstBad, somewhere}
-use Rattle.fields.specs.Ladder.{refuse, tooMany}
+use Rattle.rules.specs.Ladder.{refuse}
+use Rattle.fields.specs.Room.{tooMany}
 use Rattle.fields.specs.Length.{lengthRule, refuseLength, wholeIn}
 use Rattle.fields.specs.Copies.{ToldApart}
 use Rattle.single.specs.Single.{valueOf}

@@ -6,7 +6,7 @@ use lib.Ieee.{Float}
 use Rattle.levels.specs.declared.Level.{Level}
 use Rattle.levels.specs.Inside.{levelIn}
 use Rattle.fives.specs.Tables.{roomOf}
-use Rattle.grid.specs.Ladder.{refuse}
+use Rattle.rules.specs.Ladder.{refuse}
 use Rattle.rows.specs.declared.Axis.{Axis}
 use Rattle.terms.specs.declared.Parameters.{Parameters}
 use Rattle.terms.specs.Terms.{tooDeep, tooFine, anyOf}

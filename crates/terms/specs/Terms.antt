@@ -10,7 +10,7 @@ use Rattle.spans.specs.Mesh.{isCoordinate}
 use Rattle.levels.specs.declared.Level.{Level}
 use Rattle.rows.specs.declared.Axis.{Axis}
 use Rattle.rows.specs.Lanes.{spreadOf, intervalsOf, stepOf, samplesOf}
-use Rattle.grid.specs.Ladder.{refuse}
+use Rattle.rules.specs.Ladder.{refuse}
 use Rattle.terms.specs.declared.Parameters.{Parameters}
 
 -- ---- 9

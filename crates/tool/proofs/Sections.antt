@@ -16,7 +16,7 @@ use Rattle.section.specs.Section.{validSection, sectionContact}
 use Rattle.section_gap.specs.Blocks.{sectionBlocks}
 use Rattle.above.specs.Above.{offerOf, soFar}
 use Rattle.walk.specs.declared.Best.{Best}
-use Rattle.query.specs.Usable.{every}
+use Rattle.rules.specs.Every.{every}
 use Rattle.ask.specs.Ask.{raisedBy}
 use Rattle.ask.proofs.Beside.{raised-beside}
 use Rattle.tool.specs.Tool.{sectionOf, widestOf, lowestOf, raisedOver}

@@ -6,12 +6,11 @@ use lib.Dec.{eqb}
 use lib.Ieee.{Float}
 use lib.ListN.{length}
 use Rattle.numbers.specs.Reals.{num, f0, maxOf, minOf}
-use Rattle.cells.specs.Cover.{isFrom}
+use Rattle.rules.specs.Every.{isFrom, every}
 use Rattle.golden.specs.Upper.{infinity}
 use Rattle.plane.specs.declared.Triangle.{Triangle}
 use Rattle.plane.specs.declared.Bounds.{Bounds}
 use Rattle.walk.specs.declared.Best.{Best}
-use Rattle.query.specs.Usable.{every}
 use Rattle.ask.specs.Ask.{raisedBy}
 use Rattle.reach.specs.declared.Chord.{Chord}
 use Rattle.section.specs.declared.Section.{Section}

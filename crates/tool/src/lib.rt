@@ -2,8 +2,7 @@
 ghost use mathlib.Core.Path.{_≡_};
 ghost use Prim.Native.Nat.{_+_, _*_, _≤_};
 ghost use lib.ListN.{length};
-ghost use Rattle.cells.specs.Cover.{isFrom};
-ghost use Rattle.query.specs.Usable.{every};
+ghost use Rattle.rules.specs.Every.{isFrom, every};
 ghost use Rattle.section.specs.Section.{validSection};
 ghost use Rattle.tool.specs.Tool.{sectionOf, sectionsIn, isTool, widestOf, lowestOf, raisedOver, passesAll};
 use plane::Bounds;

@@ -13,7 +13,7 @@ use lib.Ieee.{Float, nan, inf, fin, binary64, round, add, sub, mul, neg, le}
 use lib.Ieee.Exact.{HasValue, round-exact}
 use lib.Ieee.Positive.{den, den-pos}
 use lib.Ieee.Scale.{finite}
-use Rattle.numbers.proofs.Branches.{no, by-test}
+use Rattle.rules.proofs.Branches.{no, by-test}
 use Rattle.spans.proofs.Signed.{upper, lower, le→parts, Is, rounded, is-le, is-sub}
 use Rattle.spans.proofs.Ranges.{finite-between}
 use Rattle.bound.proofs.Order.{neg-finite, neg-upper, add-is, is-mul}

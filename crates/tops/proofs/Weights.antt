@@ -12,7 +12,8 @@ use lib.Ieee.Scale.{finite}
 use Rattle.numbers.specs.Reals.{_⊕_, _⊖_, _⊗_}
 use Rattle.spans.proofs.Signed.{upper, lower, le→parts}
 use Rattle.spans.proofs.Ranges.{finite-between, sub-mono}
-use Rattle.spans.proofs.Sizes.{by-test, not-below}
+use Rattle.rules.proofs.Branches.{by-test}
+use Rattle.spans.proofs.Sizes.{not-below}
 use Rattle.bound.proofs.Order.{le-trans, sub-turns}
 use Rattle.bound.proofs.Roots.{lt-le}
 use Rattle.tops.proofs.Fractions.{Held, held-more, held-sub, floor, held-floor}

@@ -9,13 +9,13 @@ use borrow.Author.Tests.{eq-eqb, ne-eqb, eqb-true, eqb-false, ltb-false, not-fal
 use lib.Dec.{lit<, eqb}
 use lib.IntN.{ℤ}
 use lib.ListN.{length}
-use Rattle.numbers.proofs.Branches.{taken, left, by-test}
+use Rattle.rules.proofs.Branches.{taken, left, by-test}
 use Rattle.fields.specs.Rows.{somewhere}
 use Rattle.fields.specs.declared.Place.{Place}
 use Rattle.fields.specs.declared.Place.the-variants.{Nowhere, At}
 use Rattle.cells.specs.Cover.{startOf, startsOf, membersTable}
 use Rattle.grid.specs.Build.{refusalOfGrid, refusalOfMembers}
-use Rattle.grid.proofs.Ladder.{refused-not, demanded, refuse-here, refuse-next}
+use Rattle.rules.proofs.Ladder.{refused-not, demanded, refuse-here, refuse-next}
 use Rattle.grid.proofs.Accepting.{Passed, passed}
 use Rattle.micro.specs.Micro.{isCoordinate, isRadius, numberAt, firstWhere}
 use Rattle.um.specs.declared.Extent.{Extent}

@@ -9,8 +9,8 @@ use native.Mathlib.Omega.{arith}
 use borrow.Author.Tests.{leb-true, le-leb}
 use lib.Dec.{leb}
 use lib.IntN.{ℤ}
-use Rattle.numbers.proofs.Branches.{both-true}
-use Rattle.cells.specs.Cover.{isFrom}
+use Rattle.rules.proofs.Branches.{both-true}
+use Rattle.rules.specs.Every.{isFrom}
 use Rattle.micro.specs.Micro.{isCoordinate, numberAt, lowAt, highAt, boxOf}
 use Rattle.um.specs.declared.Extent.{Extent}
 use Rattle.um.specs.Grid.{widened, extentOf}

@@ -10,8 +10,9 @@ use lib.Dec.{eqb}
 use lib.IntN.{ℤ}
 use lib.ListN.{length}
 use lib.Pow.{pow-pos}
-use Rattle.numbers.proofs.Branches.{by-test}
-use Rattle.cells.specs.Cover.{isFrom, startsOf, membersTable}
+use Rattle.rules.proofs.Branches.{by-test}
+use Rattle.rules.specs.Every.{isFrom}
+use Rattle.cells.specs.Cover.{startsOf, membersTable}
 use Rattle.cells.proofs.Reading.{cell-is, starts-room, starts-rise, starts-within}
 use Rattle.grid.proofs.Accepting.{Passed}
 use Rattle.micro.specs.Micro.{isCoordinate, isRadius, numberAt, boxOf, firstWhere}

@@ -8,8 +8,9 @@ use lib.ListN.{length}
 use Rattle.fields.specs.Rows.{somewhere}
 use Rattle.fields.specs.declared.Place.{Place}
 use Rattle.fields.specs.declared.Place.the-variants.{Nowhere, At}
-use Rattle.cells.specs.Cover.{isFrom, startOf, startsOf, membersTable}
-use Rattle.grid.specs.Ladder.{refuse, demand}
+use Rattle.rules.specs.Every.{isFrom}
+use Rattle.cells.specs.Cover.{startOf, startsOf, membersTable}
+use Rattle.rules.specs.Ladder.{refuse, demand}
 use Rattle.grid.specs.Build.{refusalOfMembers}
 use Rattle.micro.specs.Micro.{isCoordinate, isRadius, numberAt, firstWhere}
 use Rattle.um.specs.declared.Grid.{Grid}

@@ -6,7 +6,7 @@ use Prim.Native.Nat.{ℕ, suc, _+_}
 use native.Mathlib.Omega.{arith}
 use lib.Dec.{eqb}
 use lib.ListN.{length, getD, set}
-use Rattle.numbers.proofs.Branches.{taken, left}
+use Rattle.rules.proofs.Branches.{taken, left}
 use Rattle.walk.specs.Walk.{Walk, looked, upTo, marked, fold, clearOf, gathered, walked, chased}
 use Rattle.walk.specs.Inside.{look, strike, struck}
 use Rattle.walk.proofs.Rings.{stopped}

@@ -9,7 +9,7 @@ use borrow.Author.Tests.{eq-eqb, eqb-true, not-true, not-false}
 use lib.Dec.{eqb}
 use lib.ListN.{length, getD, set, drop, length-set, drop-of-length-le}
 use lib.Seq.{drop-cons, set-getD}
-use Rattle.numbers.proofs.Branches.{either, taken, left}
+use Rattle.rules.proofs.Branches.{either, taken, left}
 use Rattle.walk.specs.Walk.{Walk, over, fold}
 use Rattle.walk.specs.Inside.{look, strike, struck, unmarked, Below, Room}
 

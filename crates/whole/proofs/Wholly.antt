@@ -8,7 +8,7 @@ use borrow.Author.Tests.{ltb-true, leb-true, lt-ltb}
 use lib.Dec.{ltb, leb}
 use lib.ListN.{length, getD}
 use Rattle.numbers.specs.Reals.{num}
-use Rattle.numbers.proofs.Branches.{both-true}
+use Rattle.rules.proofs.Branches.{both-true}
 use Rattle.spans.specs.Mesh.{isCoordinate}
 use Rattle.grid.specs.Boxes.{boxAt}
 use Rattle.grid.specs.Index.{Index, SoundIndex}
@@ -16,8 +16,9 @@ use Rattle.header.specs.Head.{headUsable}
 use Rattle.header.proofs.Ranges.{Headed, headed-is}
 use Rattle.walk.specs.Walk.{cell}
 use Rattle.walk.specs.Inside.{Walkable}
-use Rattle.query.specs.Usable.{every, each, cornersUsable, boxUsable, triangleUsable, cellUsable, usableWhole}
-use Rattle.query.proofs.Testing.{in-rows, every-at, each-at, every-all}
+use Rattle.rules.specs.Every.{every, each}
+use Rattle.query.specs.Usable.{cornersUsable, boxUsable, triangleUsable, cellUsable, usableWhole}
+use Rattle.rules.proofs.Testing.{in-rows, every-at, each-at, every-all}
 use Rattle.query.proofs.Passing.{sound-head, sound-triangle, sound-cell}
 
 module _ (ix : Index) (e : usableWhole ix ≡ true) where

@@ -4,7 +4,8 @@ ghost use Prim.Native.Nat.{_+_, _*_, _/_, _≤_, _<_};
 ghost use lib.Dec.{ltb};
 ghost use lib.ListN.{length};
 ghost use Rattle.grid.specs.Index.{indexOf};
-ghost use Rattle.query.specs.Usable.{every, each, triangleUsable, cellUsable, usableWhole};
+ghost use Rattle.rules.specs.Every.{every, each};
+ghost use Rattle.query.specs.Usable.{triangleUsable, cellUsable, usableWhole};
 use grid::Header;
 
 // Whether header and tables can be used for any question over the mesh.

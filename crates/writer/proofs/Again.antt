@@ -11,7 +11,7 @@ use lib.Ieee.{Float, binary64, ofBits, toBits}
 use lib.Ieee.Bits.{toBits-ofBits}
 use lib.ListN.{length, getD, take, drop, length-drop, length-take, List·getD-eq-default}
 use lib.Seq.{getD-take, getD-drop, length-take-le, take-add, take-at, take-all, drop-drop}
-use Rattle.numbers.proofs.Branches.{by-test}
+use Rattle.rules.proofs.Branches.{by-test}
 use Rattle.fields.specs.Little.{little, Field, value}
 use Rattle.fields.specs.Rows.{finite, allFinite, row}
 use Rattle.fields.proofs.Finite.{finite-no-nan}

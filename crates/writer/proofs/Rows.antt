@@ -8,7 +8,7 @@ use native.Mathlib.Omega.{arith}
 use lib.Ieee.{Float, nan, binary64, toBits}
 use lib.ListN.{length, getD, drop, drop-of-length-le, length-append}
 use lib.Seq.{drop-cons, sets}
-use Rattle.numbers.proofs.Branches.{both-true}
+use Rattle.rules.proofs.Branches.{both-true}
 use Rattle.fields.specs.Rows.{finite, allFinite}
 use Rattle.writer.specs.Writer.{digits, numbersIn, laidAll, headOf, jobOf}
 use Rattle.writer.proofs.Digits.{digits-length}

@@ -9,9 +9,9 @@ use lib.Dec.{eqb, lit<}
 use lib.Ieee.{Float}
 use lib.ListN.{length, drop, length-append}
 use lib.Seq.{sets, sets-eq}
-use Rattle.numbers.proofs.Branches.{taken, left, either}
+use Rattle.rules.proofs.Branches.{taken, left, either}
 use Rattle.fields.specs.Rows.{allFinite}
-use Rattle.fields.proofs.Ladder.{refuse-next, refused-not}
+use Rattle.rules.proofs.Ladder.{refuse-next, refused-not}
 use Rattle.writer.specs.Writer.{numbersIn, jobOf, jobIn, sizeOf, refusalOfNumbers, refusalOfCounts, refusalOf, Outcome, ended, refusedBy, acceptedOf, writeOf}
 use Rattle.writer.proofs.Rows.{laid-length, head-length}
 

@@ -10,7 +10,7 @@ use lib.ListN.{length, drop}
 use Rattle.job.specs.Layout.{mark, version, zeroByte, triangles, questions, number, bytesOf, letters, wide}
 use Rattle.fields.specs.Little.{Field}
 use Rattle.fields.specs.Rows.{allFinite}
-use Rattle.fields.specs.Ladder.{refuse}
+use Rattle.rules.specs.Ladder.{refuse}
 use Rattle.writer.specs.declared.Written.{Written}
 
 -- ---- the bytes of a job

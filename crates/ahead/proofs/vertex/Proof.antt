@@ -1,5 +1,5 @@
 use mathlib.Core.Path.{_≡_, refl}
-use Rattle.numbers.proofs.Branches.{taken, left}
+use Rattle.rules.proofs.Branches.{taken, left}
 use Rattle.ahead.specs.Inside.{sightedVertex}
 use Rattle.ahead.proofs.vertex.Statement.{statement}
 use Rattle.ahead.proofs.vertex.Tie as tie

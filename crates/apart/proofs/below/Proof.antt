@@ -1,6 +1,6 @@
 use mathlib.Core.Path.{sym, subst}
 use lib.Dec.{T}
-use Rattle.numbers.proofs.Branches.{no}
+use Rattle.rules.proofs.Branches.{no}
 use Rattle.apart.proofs.Farther.{ahead-called, lies-below}
 use Rattle.apart.proofs.below.Statement.{statement}
 use Rattle.apart.proofs.below.Tie as tie

@@ -1,6 +1,6 @@
 use mathlib.Core.Path.{sym, subst}
 use lib.Dec.{T}
-use Rattle.numbers.proofs.Branches.{no}
+use Rattle.rules.proofs.Branches.{no}
 use Rattle.apart.proofs.Farther.{behind-called, lies-over}
 use Rattle.apart.proofs.over.Statement.{statement}
 use Rattle.apart.proofs.over.Tie as tie

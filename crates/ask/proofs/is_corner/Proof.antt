@@ -1,4 +1,4 @@
-use Rattle.numbers.proofs.Branches.{branches}
+use Rattle.rules.proofs.Branches.{branches}
 use Rattle.ask.specs.Ask.{isCorner}
 use Rattle.ask.proofs.is_corner.Statement.{statement}
 use Rattle.ask.proofs.is_corner.Tie as tie

@@ -1,4 +1,4 @@
-use Rattle.numbers.proofs.Branches.{flags}
+use Rattle.rules.proofs.Branches.{flags}
 use Rattle.ask.specs.Ask.{raisedTo}
 use Rattle.ask.proofs.raise_to.Statement.{statement}
 use Rattle.ask.proofs.raise_to.Tie as tie

@@ -4,10 +4,10 @@ use denote.Ref.{now}
 use lib.ListN.{length}
 use mathlib.Core.Bool.{true}
 use mathlib.Core.Path.{_≡_, refl}
-use Rattle.numbers.proofs.Branches.{bool-called}
+use Rattle.rules.proofs.Branches.{bool-called}
 use Rattle.query.specs.Asked.{isMarked}
 use Rattle.grid.specs.Boxes.{isBoxed}
-use Rattle.grid.proofs.Ladder.{demand-here, demand-next}
+use Rattle.rules.proofs.Ladder.{demand-here, demand-next}
 use Rattle.ask.specs.Ask.{refusalOf}
 use Rattle.ask.proofs.Answers.{marked-is, boxed-is}
 use Rattle.ask.proofs.Demands.{refusal-told}

@@ -2,7 +2,7 @@
 use mathlib.Core.Path.{subst, sym}
 use lib.Dec.{T}
 use borrow.Author.Tests.{not-false}
-use Rattle.numbers.proofs.Branches.{bool-called}
+use Rattle.rules.proofs.Branches.{bool-called}
 use Rattle.bound.proofs.Far.{far-square, far-none}
 use Rattle.bound.proofs.beyond.Statement.{statement}
 use Rattle.bound.proofs.beyond.Tie as tie

@@ -1,4 +1,4 @@
-use Rattle.numbers.proofs.Branches.{branches}
+use Rattle.rules.proofs.Branches.{branches}
 use Rattle.bound.specs.Inside.{nearerOf}
 use Rattle.bound.proofs.nearer.Statement.{statement}
 use Rattle.bound.proofs.nearer.Tie as tie

@@ -3,7 +3,7 @@ use mathlib.Core.Path.{_≡_, subst, sym}
 use lib.Dec.{T}
 use lib.Ieee.{binary64, fits}
 use borrow.Author.Tests.{not-false}
-use Rattle.numbers.proofs.Branches.{bool-called}
+use Rattle.rules.proofs.Branches.{bool-called}
 use Rattle.bound.proofs.Near.{near-square, near-none}
 use Rattle.bound.proofs.within.Statement.{statement}
 use Rattle.bound.proofs.within.Tie as tie

@@ -1,5 +1,5 @@
 use mathlib.Core.Path.{_≡_, refl}
-use Rattle.numbers.proofs.Branches.{taken, bool-called}
+use Rattle.rules.proofs.Branches.{taken, bool-called}
 use Rattle.bull.specs.Bull.{bullEdge}
 use Rattle.bull.proofs.Taking.{edge-on}
 use Rattle.bull.proofs.edge.Statement.{statement}

@@ -1,4 +1,4 @@
-use Rattle.numbers.proofs.Branches.{bool-called}
+use Rattle.rules.proofs.Branches.{bool-called}
 use borrow.Author.Tests.{not-false}
 use Rattle.bull.proofs.Flats.{flat-part, flat-none}
 use Rattle.bull.proofs.flat_of.Statement.{statement}

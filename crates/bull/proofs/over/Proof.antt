@@ -1,5 +1,5 @@
 use mathlib.Core.Path.{_≡_, refl, ap, sym, _∙_}
-use Rattle.numbers.proofs.Branches.{taken, left}
+use Rattle.rules.proofs.Branches.{taken, left}
 use Rattle.bull.specs.Bull.{bullOver}
 use Rattle.bull.proofs.over.Statement.{statement}
 use Rattle.bull.proofs.over.Tie as tie

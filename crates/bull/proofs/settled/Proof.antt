@@ -1,7 +1,7 @@
 use mathlib.Core.Bool.{true}
 use mathlib.Core.Path.{_≡_, subst}
 use lib.Ieee.{Float, le}
-use Rattle.numbers.proofs.Branches.{no}
+use Rattle.rules.proofs.Branches.{no}
 use Rattle.bull.proofs.settled.Statement.{statement}
 use Rattle.bull.proofs.settled.Tie as tie
 

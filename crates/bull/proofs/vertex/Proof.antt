@@ -1,6 +1,6 @@
 use mathlib.Core.Path.{_≡_, ap, _∙_}
 use Rattle.numbers.specs.Reals.{_⊖_}
-use Rattle.numbers.proofs.Branches.{bool-called}
+use Rattle.rules.proofs.Branches.{bool-called}
 use Rattle.bull.specs.Bull.{bullVertex}
 use Rattle.bull.specs.Inside.{lowVertex}
 use Rattle.bull.proofs.Bases.{vertex-stays}

@@ -1,5 +1,5 @@
 use mathlib.Core.Path.{_≡_, refl, ap, sym, _∙_}
-use Rattle.numbers.proofs.Branches.{taken, left}
+use Rattle.rules.proofs.Branches.{taken, left}
 use Rattle.bull_gap.specs.Blocks.{bullBlocks, bullSearched}
 use Rattle.bull_gap.proofs.bull_blocks.Statement.{statement}
 use Rattle.bull_gap.proofs.bull_blocks.Tie as tie

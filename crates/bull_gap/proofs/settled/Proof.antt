@@ -1,6 +1,6 @@
 use mathlib.Core.Path.{_≡_, sym, _∙_}
 use borrow.Author.Tests.{ne-eqb}
-use Rattle.numbers.proofs.Branches.{no, both-true}
+use Rattle.rules.proofs.Branches.{no, both-true}
 use Rattle.bull_gap.proofs.settled.Statement.{statement}
 use Rattle.bull_gap.proofs.settled.Tie as tie
 

@@ -1,6 +1,6 @@
 use mathlib.Core.Path.{_≡_, sym, subst}
 use lib.Dec.{T}
-use Rattle.numbers.proofs.Branches.{called-lt}
+use Rattle.rules.proofs.Branches.{called-lt}
 use Rattle.bull_gap.proofs.Rising.{low-risen, high-risen}
 use Rattle.bull_gap.proofs.Breaking.{passed}
 use Rattle.bull_gap.proofs.stands.Statement.{statement}

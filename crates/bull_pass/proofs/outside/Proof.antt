@@ -1,5 +1,5 @@
 use mathlib.Core.Path.{_≡_, refl, ap, sym, _∙_}
-use Rattle.numbers.proofs.Branches.{branches}
+use Rattle.rules.proofs.Branches.{branches}
 use Rattle.bull_pass.specs.Inside.{outsideOf}
 use Rattle.bull_pass.proofs.outside.Statement.{statement}
 use Rattle.bull_pass.proofs.outside.Tie as tie

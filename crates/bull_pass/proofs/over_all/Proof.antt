@@ -1,5 +1,5 @@
 use mathlib.Core.Path.{_≡_, ap, sym, _∙_}
-use Rattle.numbers.proofs.Branches.{and-on, and-off, bool-called}
+use Rattle.rules.proofs.Branches.{and-on, and-off, bool-called}
 use Rattle.bull_pass.specs.Inside.{facetPasses}
 use Rattle.bull_pass.proofs.over_all.Statement.{statement}
 use Rattle.bull_pass.proofs.over_all.Tie as tie

@@ -1,5 +1,5 @@
 use mathlib.Core.Path.{_≡_, ap, sym, _∙_}
-use Rattle.numbers.proofs.Branches.{taken, left, bool-called}
+use Rattle.rules.proofs.Branches.{taken, left, bool-called}
 use Rattle.bull_pass.specs.Inside.{pieceUnder}
 use Rattle.bull_pass.proofs.piece_under.Statement.{statement}
 use Rattle.bull_pass.proofs.piece_under.Tie as tie

@@ -1,5 +1,5 @@
 use mathlib.Core.Path.{_≡_, refl, ap, sym, _∙_}
-use Rattle.numbers.proofs.Branches.{flags}
+use Rattle.rules.proofs.Branches.{flags}
 use Rattle.bull_pass.specs.Inside.{underOf}
 use Rattle.bull_pass.proofs.under.Statement.{statement}
 use Rattle.bull_pass.proofs.under.Tie as tie

@@ -1,6 +1,6 @@
 use mathlib.Core.Path.{_≡_, sym, subst, _∙_}
 use lib.Dec.{T}
-use Rattle.numbers.proofs.Branches.{no}
+use Rattle.rules.proofs.Branches.{no}
 use Rattle.caps.proofs.bracketed.Statement.{statement}
 use Rattle.caps.proofs.bracketed.Tie as tie
 

@@ -1,5 +1,5 @@
 use mathlib.Core.Path.{_≡_, refl}
-use Rattle.numbers.proofs.Branches.{and-on, and-off}
+use Rattle.rules.proofs.Branches.{and-on, and-off}
 use Rattle.caps.specs.Inside.{inOrder}
 use Rattle.caps.proofs.in_order.Statement.{statement}
 use Rattle.caps.proofs.in_order.Tie as tie

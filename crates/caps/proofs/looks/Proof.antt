@@ -1,6 +1,6 @@
 use mathlib.Core.Path.{sym, _∙_}
 use borrow.Author.Tests.{ne-eqb, le-ltb}
-use Rattle.numbers.proofs.Branches.{no}
+use Rattle.rules.proofs.Branches.{no}
 use Rattle.caps.proofs.looks.Statement.{statement}
 use Rattle.caps.proofs.looks.Tie as tie
 

@@ -1,4 +1,4 @@
-use Rattle.numbers.proofs.Branches.{branches}
+use Rattle.rules.proofs.Branches.{branches}
 use Rattle.caps.specs.Inside.{rootMost}
 use Rattle.caps.proofs.root_most.Statement.{statement}
 use Rattle.caps.proofs.root_most.Tie as tie

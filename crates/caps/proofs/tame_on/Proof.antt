@@ -1,5 +1,5 @@
 use mathlib.Core.Path.{_≡_}
-use Rattle.numbers.proofs.Branches.{and-on, and-off, bool-called}
+use Rattle.rules.proofs.Branches.{and-on, and-off, bool-called}
 use Rattle.caps.specs.Inside.{tameOn}
 use Rattle.caps.proofs.tame_on.Statement.{statement}
 use Rattle.caps.proofs.tame_on.Tie as tie

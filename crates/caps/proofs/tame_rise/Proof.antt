@@ -1,5 +1,5 @@
 use mathlib.Core.Path.{_≡_, refl}
-use Rattle.numbers.proofs.Branches.{and-on, and-off, bool-called}
+use Rattle.rules.proofs.Branches.{and-on, and-off, bool-called}
 use Rattle.caps.specs.Inside.{tameRise}
 use Rattle.caps.proofs.tame_rise.Statement.{statement}
 use Rattle.caps.proofs.tame_rise.Tie as tie

@@ -1,5 +1,5 @@
 use mathlib.Core.Path.{sym, _∙_}
-use Rattle.numbers.proofs.Branches.{no}
+use Rattle.rules.proofs.Branches.{no}
 use Rattle.capsule.proofs.Gathering.{le-called}
 use Rattle.capsule.proofs.Leaving.{ordinary-size}
 use Rattle.capsule.proofs.are_ordinary.Statement.{statement}

@@ -1,4 +1,4 @@
-use Rattle.numbers.proofs.Branches.{branches}
+use Rattle.rules.proofs.Branches.{branches}
 use Rattle.capsule.proofs.count_of.Statement.{statement}
 use Rattle.capsule.proofs.count_of.Tie as tie
 

@@ -1,6 +1,6 @@
 use mathlib.Core.Path.{ap, _∙_}
 use borrow.Author.Tests.{not-false}
-use Rattle.numbers.proofs.Branches.{no}
+use Rattle.rules.proofs.Branches.{no}
 use Rattle.capsule.specs.declared.Place.{Place}
 use Rattle.capsule.proofs.is_single.Statement.{statement}
 use Rattle.capsule.proofs.is_single.Tie as tie

@@ -1,5 +1,5 @@
 use mathlib.Core.Path.{refl}
-use Rattle.numbers.proofs.Branches.{bool-called}
+use Rattle.rules.proofs.Branches.{bool-called}
 use Rattle.capsule.specs.Candidates.{reached, pointOn}
 use Rattle.capsule.proofs.Gathering.{off, reaching}
 use Rattle.capsule.proofs.offer_at.Statement.{statement}

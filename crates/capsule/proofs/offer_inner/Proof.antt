@@ -1,5 +1,5 @@
 use mathlib.Core.Path.{refl}
-use Rattle.numbers.proofs.Branches.{called-lt}
+use Rattle.rules.proofs.Branches.{called-lt}
 use Rattle.capsule.specs.Candidates.{inner, determinantOf}
 use Rattle.capsule.proofs.Gathering.{off}
 use Rattle.capsule.proofs.Extremes.{rising}

@@ -1,4 +1,4 @@
-use Rattle.numbers.proofs.Branches.{branches}
+use Rattle.rules.proofs.Branches.{branches}
 use Rattle.capsule.specs.Candidates.{onEdge}
 use Rattle.capsule.proofs.on_edge.Statement.{statement}
 use Rattle.capsule.proofs.on_edge.Tie as tie

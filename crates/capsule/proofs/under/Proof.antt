@@ -1,5 +1,5 @@
 use borrow.Author.Tests.{ne-eqb}
-use Rattle.numbers.proofs.Branches.{no}
+use Rattle.rules.proofs.Branches.{no}
 use Rattle.capsule.specs.Region.{contactOf}
 use Rattle.capsule.proofs.Gathering.{le-called}
 use Rattle.capsule.proofs.Leaving.{edge-under}

@@ -4,7 +4,7 @@ use Prim.Native.Nat.{_+_}
 use native.Mathlib.Omega.{arith}
 use borrow.Author.Needs.{needs}
 use borrow.Author.Tests.{le-leb, lt-leb}
-use Rattle.numbers.proofs.Branches.{and-on, and-off}
+use Rattle.rules.proofs.Branches.{and-on, and-off}
 use Rattle.checked.specs.Inside.{cellHolds}
 use Rattle.checked.proofs.cell_holds.Statement.{statement}
 use Rattle.checked.proofs.cell_holds.Tie as tie

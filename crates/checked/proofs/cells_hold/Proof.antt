@@ -5,7 +5,7 @@ use mathlib.Core.Path.{_≡_, refl, sym, _∙_}
 use native.Mathlib.Omega.{arith}
 use borrow.Author.Tests.{not-true, not-false}
 use denote.Ref.{now}
-use Rattle.numbers.proofs.Branches.{no}
+use Rattle.rules.proofs.Branches.{no}
 use Rattle.checked.specs.Inside.{boxCovers, cellHolds}
 use Rattle.checked.proofs.Comparing.{tells-true, tells-false, all-more}
 use Rattle.checked.proofs.cells_hold.Statement.{statement}

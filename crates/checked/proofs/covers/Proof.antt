@@ -2,7 +2,7 @@
 use Prim.Native.Nat.{_<_}
 use mathlib.Core.Path.{refl, sym, subst⁻¹, _∙_}
 use borrow.Author.Tests.{not-true, not-false}
-use Rattle.numbers.proofs.Branches.{and-on, and-off}
+use Rattle.rules.proofs.Branches.{and-on, and-off}
 use Rattle.plane.specs.declared.Bounds.{Bounds}
 use Rattle.spans.specs.Inside.{Near}
 use Rattle.checked.proofs.Comparing.{columns-of, rows-of}

@@ -5,7 +5,7 @@ use native.Mathlib.Omega.{arith}
 use borrow.Author.Tests.{not-true, not-false}
 use lib.ListN.{length, drop}
 use denote.Ref.{now}
-use Rattle.numbers.proofs.Branches.{bool-called}
+use Rattle.rules.proofs.Branches.{bool-called}
 use Rattle.cells.specs.Cover.{covers}
 use Rattle.checked.specs.Inside.{boxCovers, risesFrom}
 use Rattle.checked.proofs.Counting.{too-low, too-high, outside, goes-on, at-end}

@@ -1,5 +1,5 @@
 -- `checked::told` meets its contract.
-use Rattle.numbers.proofs.Branches.{branches}
+use Rattle.rules.proofs.Branches.{branches}
 use Rattle.checked.specs.Inside.{toldAs}
 use Rattle.checked.proofs.told.Statement.{statement}
 use Rattle.checked.proofs.told.Tie as tie

@@ -1,7 +1,7 @@
 use native.Mathlib.Omega.{arith}
 use borrow.Author.Needs.{needs}
 use mathlib.Core.Bool.{Bool, true}
-use Rattle.numbers.proofs.Branches.{bool-called}
+use Rattle.rules.proofs.Branches.{bool-called}
 use Rattle.ask.proofs.Answers.{inside, ready, chord-refused, chord-early, chord-ruled}
 use Rattle.chords.specs.Chords.{bullBlocksAt}
 use Rattle.chords.specs.Inside.{shapeBlocks, shapeBlocksAt}

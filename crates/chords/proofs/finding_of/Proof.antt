@@ -1,4 +1,4 @@
-use Rattle.numbers.proofs.Branches.{branches}
+use Rattle.rules.proofs.Branches.{branches}
 use Rattle.chords.proofs.finding_of.Statement.{statement}
 use Rattle.chords.proofs.finding_of.Tie as tie
 

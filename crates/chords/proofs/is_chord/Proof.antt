@@ -1,4 +1,4 @@
-use Rattle.numbers.proofs.Branches.{and-on, and-off, bool-called}
+use Rattle.rules.proofs.Branches.{and-on, and-off, bool-called}
 use Rattle.chords.specs.Chords.{isChord}
 use Rattle.chords.proofs.is_chord.Statement.{statement}
 use Rattle.chords.proofs.is_chord.Tie as tie

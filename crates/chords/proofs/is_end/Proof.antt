@@ -1,4 +1,4 @@
-use Rattle.numbers.proofs.Branches.{and-on, and-off, bool-called}
+use Rattle.rules.proofs.Branches.{and-on, and-off, bool-called}
 use Rattle.chords.specs.Chords.{isEnd}
 use Rattle.chords.proofs.is_end.Statement.{statement}
 use Rattle.chords.proofs.is_end.Tie as tie

@@ -1,6 +1,6 @@
 use mathlib.Core.Path.{_≡_, refl, ap, sym, _∙_}
 use mathlib.Core.Bool.{not}
-use Rattle.numbers.proofs.Branches.{taken, left}
+use Rattle.rules.proofs.Branches.{taken, left}
 use Rattle.chords.specs.Chords.{toolBlocks}
 use Rattle.chords.proofs.tool_blocks.Statement.{statement}
 use Rattle.chords.proofs.tool_blocks.Tie as tie

@@ -1,6 +1,6 @@
 use borrow.Author.Needs.{needs}
 use denote.Ref.{now}
-use Rattle.numbers.proofs.Branches.{bool-called}
+use Rattle.rules.proofs.Branches.{bool-called}
 use Rattle.grid.specs.Index.{indexOf}
 use Rattle.chords.specs.Chords.{toolBlocksAt}
 use Rattle.chords.specs.Inside.{shapeBlocks, shapeBlocksAt}

@@ -1,4 +1,4 @@
-use Rattle.numbers.proofs.Branches.{and-on, and-off, bool-called}
+use Rattle.rules.proofs.Branches.{and-on, and-off, bool-called}
 use Rattle.contact.specs.Inside.{mayBegin}
 use Rattle.contact.proofs.may_begin.Statement.{statement}
 use Rattle.contact.proofs.may_begin.Tie as tie

@@ -1,5 +1,5 @@
 use mathlib.Core.Path.{_≡_, refl, ap, sym, _∙_}
-use Rattle.numbers.proofs.Branches.{taken, left}
+use Rattle.rules.proofs.Branches.{taken, left}
 use Rattle.ask.specs.Ask.{raisedBy}
 use Rattle.ask.proofs.Beside.{raised-beside}
 use Rattle.contact.specs.Contact.{bullRaised}

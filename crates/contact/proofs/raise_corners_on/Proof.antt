@@ -1,6 +1,6 @@
 use mathlib.Core.Path.{_≡_, refl, ap, _∙_}
 use lib.Ieee.{Float}
-use Rattle.numbers.proofs.Branches.{taken, left}
+use Rattle.rules.proofs.Branches.{taken, left}
 use Rattle.ask.specs.Ask.{atFloor}
 use Rattle.contact.specs.Inside.{cornersRaised}
 use Rattle.contact.proofs.raise_corners_on.Statement.{statement}

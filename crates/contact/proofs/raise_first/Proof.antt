@@ -1,4 +1,4 @@
-use Rattle.numbers.proofs.Branches.{taken, left, bool-called}
+use Rattle.rules.proofs.Branches.{taken, left, bool-called}
 use Rattle.contact.specs.Inside.{firstRaised}
 use Rattle.contact.proofs.raise_first.Statement.{statement}
 use Rattle.contact.proofs.raise_first.Tie as tie

@@ -1,4 +1,4 @@
-use Rattle.numbers.proofs.Branches.{taken, left}
+use Rattle.rules.proofs.Branches.{taken, left}
 use Rattle.contact.specs.Inside.{fromRaised}
 use Rattle.contact.proofs.raise_from_on.Statement.{statement}
 use Rattle.contact.proofs.raise_from_on.Tie as tie

@@ -1,5 +1,5 @@
 use mathlib.Core.Path.{_≡_, refl, ap, sym, _∙_}
-use Rattle.numbers.proofs.Branches.{taken, left}
+use Rattle.rules.proofs.Branches.{taken, left}
 use Rattle.contact.specs.Contact.{toolRaised}
 use Rattle.contact.proofs.raise_tool_on.Statement.{statement}
 use Rattle.contact.proofs.raise_tool_on.Tie as tie

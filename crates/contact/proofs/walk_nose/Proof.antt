@@ -1,6 +1,6 @@
 -- `contact::walk_nose` meets its contract: the walk over vertices leaves marks over which the next walk does what it does over those before.
 use borrow.Author.Needs.{needs}
-use Rattle.numbers.proofs.Branches.{bool-called}
+use Rattle.rules.proofs.Branches.{bool-called}
 use Rattle.contact.specs.Inside.{shapeStep}
 use Rattle.contact.proofs.Again.{besides-own, left-besides, left-fresh, walked-again}
 use Rattle.contact.proofs.Walking.{visits, tables-again, walks-again}

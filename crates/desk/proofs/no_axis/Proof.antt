@@ -1,4 +1,4 @@
-use Rattle.grid.proofs.Ladder.{ladder}
+use Rattle.rules.proofs.Ladder.{ladder}
 use Rattle.desk.proofs.no_axis.Statement.{statement}
 use Rattle.desk.proofs.no_axis.Tie as tie
 

@@ -1,4 +1,4 @@
-use Rattle.numbers.proofs.Branches.{branches}
+use Rattle.rules.proofs.Branches.{branches}
 use Rattle.desk_moves.specs.Doors.{earlyPhase}
 use Rattle.desk_moves.proofs.early_phase.Statement.{statement}
 use Rattle.desk_moves.proofs.early_phase.Tie as tie

@@ -1,4 +1,4 @@
-use Rattle.numbers.proofs.Branches.{branches}
+use Rattle.rules.proofs.Branches.{branches}
 use Rattle.desk_moves.specs.Doors.{latePhase}
 use Rattle.desk_moves.proofs.late_phase.Statement.{statement}
 use Rattle.desk_moves.proofs.late_phase.Tie as tie

@@ -1,4 +1,4 @@
-use Rattle.numbers.proofs.Branches.{branches}
+use Rattle.rules.proofs.Branches.{branches}
 use Rattle.desk_moves.specs.Doors.{phaseFrom}
 use Rattle.desk_moves.proofs.phase_from.Statement.{statement}
 use Rattle.desk_moves.proofs.phase_from.Tie as tie

@@ -1,4 +1,4 @@
-use Rattle.grid.proofs.Ladder.{ladder}
+use Rattle.rules.proofs.Ladder.{ladder}
 use Rattle.desk_moves.proofs.refusal_of_phase.Statement.{statement}
 use Rattle.desk_moves.proofs.refusal_of_phase.Tie as tie
 

@@ -1,6 +1,6 @@
 use mathlib.Core.Bool.{_&&_}
 use mathlib.Core.Path.{_≡_, refl, _∙_}
-use Rattle.numbers.proofs.Branches.{and-on, and-off}
+use Rattle.rules.proofs.Branches.{and-on, and-off}
 use Rattle.fields.proofs.Tables.{between}
 use Rattle.fields.proofs.is_number.Statement.{statement}
 use Rattle.fields.proofs.is_number.Tie as tie

@@ -1,5 +1,5 @@
-use Rattle.numbers.proofs.Branches.{branches}
-use Rattle.fields.specs.Ladder.{tooMany}
+use Rattle.rules.proofs.Branches.{branches}
+use Rattle.fields.specs.Room.{tooMany}
 use Rattle.fields.proofs.too_many.Statement.{statement}
 use Rattle.fields.proofs.too_many.Tie as tie
 

@@ -1,5 +1,5 @@
 use Rattle.golden.specs.Upper.{allLow}
-use Rattle.numbers.proofs.Branches.{branches}
+use Rattle.rules.proofs.Branches.{branches}
 use Rattle.golden.proofs.all_low.Statement.{statement}
 use Rattle.golden.proofs.all_low.Tie as tie
 

@@ -1,4 +1,4 @@
-use Rattle.numbers.proofs.Branches.{and-on, and-off, bool-called}
+use Rattle.rules.proofs.Branches.{and-on, and-off, bool-called}
 use mathlib.Core.Path.{refl}
 use Rattle.golden.proofs.both_finite.Statement.{statement}
 use Rattle.golden.proofs.both_finite.Tie as tie

@@ -1,5 +1,5 @@
 use Rattle.golden.specs.Upper.{finiteOf}
-use Rattle.numbers.proofs.Branches.{branches}
+use Rattle.rules.proofs.Branches.{branches}
 use Rattle.golden.proofs.finite.Statement.{statement}
 use Rattle.golden.proofs.finite.Tie as tie
 

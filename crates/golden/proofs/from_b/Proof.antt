@@ -1,4 +1,4 @@
-use Rattle.numbers.proofs.Branches.{taken, left, bool-called}
+use Rattle.rules.proofs.Branches.{taken, left, bool-called}
 use mathlib.Core.Path.{refl}
 use Rattle.golden.specs.Upper.{fromB}
 use Rattle.golden.proofs.from_b.Statement.{statement}

@@ -1,5 +1,5 @@
 use Rattle.golden.specs.Upper.{heldOf}
-use Rattle.numbers.proofs.Branches.{branches}
+use Rattle.rules.proofs.Branches.{branches}
 use Rattle.golden.proofs.held.Statement.{statement}
 use Rattle.golden.proofs.held.Tie as tie
 

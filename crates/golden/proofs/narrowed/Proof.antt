@@ -1,5 +1,5 @@
 use Rattle.golden.specs.Search.{narrowedOf}
-use Rattle.numbers.proofs.Branches.{branches}
+use Rattle.rules.proofs.Branches.{branches}
 use Rattle.golden.proofs.narrowed.Statement.{statement}
 use Rattle.golden.proofs.narrowed.Tie as tie
 

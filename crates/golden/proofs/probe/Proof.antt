@@ -1,5 +1,5 @@
 use Rattle.golden.specs.Search.{probeOf}
-use Rattle.numbers.proofs.Branches.{branches}
+use Rattle.rules.proofs.Branches.{branches}
 use Rattle.golden.proofs.probe.Statement.{statement}
 use Rattle.golden.proofs.probe.Tie as tie
 

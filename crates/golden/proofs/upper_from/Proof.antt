@@ -1,4 +1,4 @@
-use Rattle.numbers.proofs.Branches.{flags}
+use Rattle.rules.proofs.Branches.{flags}
 use Rattle.golden.specs.Upper.{upperFrom}
 use Rattle.golden.proofs.upper_from.Statement.{statement}
 use Rattle.golden.proofs.upper_from.Tie as tie

@@ -3,7 +3,7 @@ use native.Mathlib.Nat.{mul-le-mul-right}
 use native.Mathlib.Omega.{arith}
 use borrow.Author.Needs.{needs}
 use Rattle.grid.specs.Build.{refusalOfGrid}
-use Rattle.grid.proofs.Ladder.{ladder}
+use Rattle.rules.proofs.Ladder.{ladder}
 use Rattle.grid.proofs.refusal_of_grid.Statement.{statement}
 use Rattle.grid.proofs.refusal_of_grid.Tie as tie
 

@@ -1,6 +1,6 @@
 -- `grid::refusal_of_members` meets its contract.
 use Rattle.grid.specs.Build.{refusalOfMembers}
-use Rattle.grid.proofs.Ladder.{ladder}
+use Rattle.rules.proofs.Ladder.{ladder}
 use Rattle.grid.proofs.refusal_of_members.Statement.{statement}
 use Rattle.grid.proofs.refusal_of_members.Tie as tie
 

@@ -1,9 +1,9 @@
 -- `grid::refusal_of_mesh` meets its contract.
 use mathlib.Core.Path.{refl}
 use native.Mathlib.Omega.{arith}
-use Rattle.numbers.proofs.Branches.{bool-called}
+use Rattle.rules.proofs.Branches.{bool-called}
 use Rattle.grid.specs.Build.{toldWith, refusalOfMesh}
-use Rattle.grid.proofs.Ladder.{ladder}
+use Rattle.rules.proofs.Ladder.{ladder}
 use Rattle.grid.proofs.refusal_of_mesh.Statement.{statement}
 use Rattle.grid.proofs.refusal_of_mesh.Tie as tie
 

@@ -5,12 +5,12 @@ use native.Mathlib.Omega.{arith}
 use borrow.Author.Needs.{needs}
 use borrow.Author.Tests.{not-false}
 use denote.Ref.{now}
-use Rattle.numbers.proofs.Branches.{bool-called}
+use Rattle.rules.proofs.Branches.{bool-called}
 use Rattle.spans.specs.Mesh.{firstBad}
-use Rattle.grid.specs.Ladder.{demand}
+use Rattle.rules.specs.Ladder.{demand}
 use Rattle.grid.specs.Build.{isNowhere, placeOf, toldWith, refusalOfNumbers}
 use Rattle.grid.proofs.Accepting.{place-below}
-use Rattle.grid.proofs.Ladder.{ladder, demand-here, demand-next}
+use Rattle.rules.proofs.Ladder.{ladder, demand-here, demand-next}
 use Rattle.grid.proofs.refusal_of_numbers.Statement.{statement}
 use Rattle.grid.proofs.refusal_of_numbers.Tie as tie
 

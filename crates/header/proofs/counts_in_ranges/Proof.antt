@@ -1,6 +1,6 @@
 use mathlib.Core.Path.{sym, _∙_}
 use native.Mathlib.Omega.{arith}
-use Rattle.numbers.proofs.Branches.{branches, bool-called}
+use Rattle.rules.proofs.Branches.{branches, bool-called}
 use Rattle.header.proofs.Ranges.{few-cells}
 use Rattle.header.proofs.counts_in_ranges.Statement.{statement}
 use Rattle.header.proofs.counts_in_ranges.Tie as tie

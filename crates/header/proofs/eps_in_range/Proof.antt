@@ -1,4 +1,4 @@
-use Rattle.numbers.proofs.Branches.{branches, bool-called}
+use Rattle.rules.proofs.Branches.{branches, bool-called}
 use Rattle.header.proofs.eps_in_range.Statement.{statement}
 use Rattle.header.proofs.eps_in_range.Tie as tie
 

@@ -1,6 +1,6 @@
 use mathlib.Core.Path.{sym, _∙_}
 use native.Mathlib.Omega.{arith}
-use Rattle.numbers.proofs.Branches.{branches, bool-called}
+use Rattle.rules.proofs.Branches.{branches, bool-called}
 use Rattle.header.specs.Head.{headUsable}
 use Rattle.header.proofs.Ranges.{Ranged, in-ranges-is}
 use Rattle.header.proofs.head_usable.Statement.{statement}

@@ -1,5 +1,5 @@
-use Rattle.numbers.proofs.Branches.{branches}
-use Rattle.cells.specs.Cover.{isFrom}
+use Rattle.rules.proofs.Branches.{branches}
+use Rattle.rules.specs.Every.{isFrom}
 use Rattle.header.proofs.is_from.Statement.{statement}
 use Rattle.header.proofs.is_from.Tie as tie
 

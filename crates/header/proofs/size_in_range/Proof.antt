@@ -1,4 +1,4 @@
-use Rattle.numbers.proofs.Branches.{branches}
+use Rattle.rules.proofs.Branches.{branches}
 use Rattle.header.proofs.size_in_range.Statement.{statement}
 use Rattle.header.proofs.size_in_range.Tie as tie
 

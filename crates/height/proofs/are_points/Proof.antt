@@ -1,4 +1,4 @@
-use Rattle.numbers.proofs.Branches.{branches, bool-called}
+use Rattle.rules.proofs.Branches.{branches, bool-called}
 use Rattle.height.specs.Height.{arePoints}
 use Rattle.height.proofs.are_points.Statement.{statement}
 use Rattle.height.proofs.are_points.Tie as tie

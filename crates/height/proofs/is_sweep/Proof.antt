@@ -1,4 +1,4 @@
-use Rattle.numbers.proofs.Branches.{branches, bool-called}
+use Rattle.rules.proofs.Branches.{branches, bool-called}
 use Rattle.height.specs.Height.{isSweep}
 use Rattle.height.proofs.is_sweep.Statement.{statement}
 use Rattle.height.proofs.is_sweep.Tie as tie

@@ -1,6 +1,6 @@
 use borrow.Author.Needs.{needs}
 use Rattle.job.specs.Head.{refusalOfCounts}
-use Rattle.fields.proofs.Ladder.{ladder}
+use Rattle.rules.proofs.Ladder.{ladder}
 use Rattle.job.proofs.refusal_of_counts.Statement.{statement}
 use Rattle.job.proofs.refusal_of_counts.Tie as tie
 

@@ -5,7 +5,7 @@ use borrow.Author.Tests.{le-ltb}
 use denote.Ref.{now}
 use Rattle.job.specs.Head.{refusalOfHead}
 use Rattle.fields.proofs.Bytes.{value-byte}
-use Rattle.fields.proofs.Ladder.{ladder, refuse-next, differs, agrees}
+use Rattle.rules.proofs.Ladder.{ladder, refuse-next, differs, agrees}
 use Rattle.job.proofs.refusal_of_head.Statement.{statement}
 use Rattle.job.proofs.refusal_of_head.Tie as tie
 

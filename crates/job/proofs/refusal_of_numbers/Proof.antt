@@ -2,7 +2,7 @@ use mathlib.Core.Path.{sym, ap, _∙_}
 use borrow.Author.Needs.{needs}
 use Rattle.fields.specs.declared.Place.{Place}
 use Rattle.fields.specs.Rows.{somewhere}
-use Rattle.fields.specs.Ladder.{refuse}
+use Rattle.rules.specs.Ladder.{refuse}
 use Rattle.job.specs.Reader.{refusalOfNumbers}
 use Rattle.job.proofs.refusal_of_numbers.Statement.{statement}
 use Rattle.job.proofs.refusal_of_numbers.Tie as tie

@@ -1,4 +1,4 @@
-use Rattle.grid.proofs.Ladder.{ladder}
+use Rattle.rules.proofs.Ladder.{ladder}
 use Rattle.join.specs.Join.{refusalOf}
 use Rattle.join.proofs.refusal.Statement.{statement}
 use Rattle.join.proofs.refusal.Tie as tie

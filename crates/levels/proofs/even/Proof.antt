@@ -1,5 +1,5 @@
 use Rattle.levels.specs.Flats.{evenOf}
-use Rattle.numbers.proofs.Branches.{flags, and-on, and-off}
+use Rattle.rules.proofs.Branches.{flags, and-on, and-off}
 use borrow.Author.Needs.{needs}
 use Rattle.levels.proofs.even.Statement.{statement}
 use Rattle.levels.proofs.even.Tie as tie

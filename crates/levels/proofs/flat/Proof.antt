@@ -1,5 +1,5 @@
 use Rattle.levels.specs.Flats.{isFlat}
-use Rattle.numbers.proofs.Branches.{flags, and-on, and-off}
+use Rattle.rules.proofs.Branches.{flags, and-on, and-off}
 use borrow.Author.Needs.{needs}
 use Rattle.levels.proofs.flat.Statement.{statement}
 use Rattle.levels.proofs.flat.Tie as tie

@@ -1,6 +1,6 @@
 use Rattle.levels.specs.Inside.{gatheredOne}
 use mathlib.Core.Path.{_≡_, refl, sym, ap, _∙_}
-use Rattle.numbers.proofs.Branches.{taken, left}
+use Rattle.rules.proofs.Branches.{taken, left}
 use Rattle.plane.specs.Mesh.{triangleOf}
 use Rattle.plane.specs.declared.Triangle.{Triangle}
 use Rattle.levels.specs.Flats.{isFlat}

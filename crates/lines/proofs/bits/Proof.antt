@@ -1,7 +1,7 @@
 use lib.Ieee.{toBits}
 use lib.Ieee.Compare.{differs-from-itself}
 use borrow.Author.Needs.{needs}
-use Rattle.numbers.proofs.Branches.{nan-left}
+use Rattle.rules.proofs.Branches.{nan-left}
 use Rattle.lines.proofs.bits.Statement.{statement}
 use Rattle.lines.proofs.bits.Tie as tie
 

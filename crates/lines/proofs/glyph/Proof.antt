@@ -1,5 +1,5 @@
 use borrow.Author.Needs.{needs}
-use Rattle.numbers.proofs.Branches.{branches}
+use Rattle.rules.proofs.Branches.{branches}
 use Rattle.lines.proofs.glyph.Statement.{statement}
 use Rattle.lines.proofs.glyph.Tie as tie
 

@@ -1,4 +1,4 @@
-use Rattle.numbers.proofs.Branches.{branches}
+use Rattle.rules.proofs.Branches.{branches}
 use Rattle.lines.proofs.is_done.Statement.{statement}
 use Rattle.lines.proofs.is_done.Tie as tie
 

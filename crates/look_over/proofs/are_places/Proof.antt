@@ -2,8 +2,8 @@ use mathlib.Core.Path.{_≡_, ap, _∙_}
 use Prim.Native.Nat.{ℕ, _+_, _-_, _≤_}
 use native.Mathlib.Omega.{arith}
 use Rattle.fields.specs.Little.{value}
-use Rattle.query.specs.Usable.{every}
-use Rattle.query.proofs.Testing.{every-stops, every-goes, every-ends, failed, passed}
+use Rattle.rules.specs.Every.{every}
+use Rattle.rules.proofs.Testing.{every-stops, every-goes, every-ends, failed, passed}
 use Rattle.paths.specs.Layout.{count}
 use Rattle.paths.specs.Reader.{pointOf}
 use Rattle.look_over.specs.Verdict.{isPlace, arePlaces}

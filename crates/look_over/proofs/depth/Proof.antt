@@ -1,4 +1,4 @@
-use Rattle.numbers.proofs.Branches.{branches}
+use Rattle.rules.proofs.Branches.{branches}
 use Rattle.look_over.proofs.depth.Statement.{statement}
 use Rattle.look_over.proofs.depth.Tie as tie
 

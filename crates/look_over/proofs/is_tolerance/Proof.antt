@@ -1,4 +1,4 @@
-use Rattle.numbers.proofs.Branches.{and-on, and-off}
+use Rattle.rules.proofs.Branches.{and-on, and-off}
 use Rattle.look_over.specs.Verdict.{isTolerance}
 use Rattle.look_over.proofs.is_tolerance.Statement.{statement}
 use Rattle.look_over.proofs.is_tolerance.Tie as tie

@@ -1,7 +1,7 @@
 use mathlib.Core.Path.{refl}
 use borrow.Author.Tests.{not-true, not-false}
-use Rattle.numbers.proofs.Branches.{bool-called}
-use Rattle.grid.proofs.Ladder.{ladder, demand-here, demand-next}
+use Rattle.rules.proofs.Branches.{bool-called}
+use Rattle.rules.proofs.Ladder.{ladder, demand-here, demand-next}
 use Rattle.look_over.specs.Verdict.{refusalOfNumbers}
 use Rattle.look_over.proofs.refusal_of_numbers.Statement.{statement}
 use Rattle.look_over.proofs.refusal_of_numbers.Tie as tie

@@ -1,6 +1,6 @@
 use borrow.Author.Tests.{eqb-true}
 use Rattle.grid.specs.Boxes.{isBoxed}
-use Rattle.grid.proofs.Ladder.{ladder}
+use Rattle.rules.proofs.Ladder.{ladder}
 use Rattle.look_over.specs.Verdict.{refusalOfTool}
 use Rattle.look_over.proofs.refusal_of_tool.Statement.{statement}
 use Rattle.look_over.proofs.refusal_of_tool.Tie as tie

@@ -5,7 +5,7 @@ use borrow.Author.Needs.{needs}
 use borrow.Author.Tests.{lt-ltb, le-ltb}
 use mir.Syntax.{w32}
 use mir.ValLaws.{toZ-pos}
-use Rattle.numbers.proofs.Branches.{taken, left}
+use Rattle.rules.proofs.Branches.{taken, left}
 use Rattle.micro.specs.Micro.{wholeOf}
 use Rattle.micro.proofs.Signed.{below-fits, below-read}
 use Rattle.micro.proofs.whole.Statement.{statement}

@@ -1,4 +1,4 @@
-use Rattle.numbers.proofs.Branches.{flags, and-on, and-off}
+use Rattle.rules.proofs.Branches.{flags, and-on, and-off}
 use Rattle.moves.specs.Begin.{areHeights}
 use Rattle.moves.proofs.are_heights.Statement.{statement}
 use Rattle.moves.proofs.are_heights.Tie as tie

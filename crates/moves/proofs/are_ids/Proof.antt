@@ -1,5 +1,5 @@
 use native.Mathlib.Omega.{arith}
-use Rattle.numbers.proofs.Branches.{branches}
+use Rattle.rules.proofs.Branches.{branches}
 use Rattle.moves.specs.Begin.{areIds}
 use Rattle.moves.proofs.Lines.{ids-none, ids-some}
 use Rattle.moves.proofs.are_ids.Statement.{statement}

@@ -1,4 +1,4 @@
-use Rattle.numbers.proofs.Branches.{and-on, and-off}
+use Rattle.rules.proofs.Branches.{and-on, and-off}
 use Rattle.moves.specs.Begin.{inOrder}
 use Rattle.moves.proofs.in_order.Statement.{statement}
 use Rattle.moves.proofs.in_order.Tie as tie

@@ -1,4 +1,4 @@
-use Rattle.numbers.proofs.Branches.{and-on, and-off}
+use Rattle.rules.proofs.Branches.{and-on, and-off}
 use Rattle.moves.specs.Phases.{sameOf}
 use Rattle.moves.proofs.is_empty.Statement.{statement}
 use Rattle.moves.proofs.is_empty.Tie as tie

@@ -1,4 +1,4 @@
-use Rattle.numbers.proofs.Branches.{flags, and-on, and-off}
+use Rattle.rules.proofs.Branches.{flags, and-on, and-off}
 use Rattle.moves.specs.Begin.{isRun}
 use Rattle.moves.proofs.is_run.Statement.{statement}
 use Rattle.moves.proofs.is_run.Tie as tie

@@ -1,4 +1,4 @@
-use Rattle.grid.proofs.Ladder.{ladder}
+use Rattle.rules.proofs.Ladder.{ladder}
 use Rattle.moves.specs.Begin.{refusalOfBegin}
 use Rattle.moves.proofs.refusal_of_begin.Statement.{statement}
 use Rattle.moves.proofs.refusal_of_begin.Tie as tie

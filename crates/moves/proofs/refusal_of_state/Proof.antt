@@ -1,5 +1,5 @@
 use native.Mathlib.Omega.{arith}
-use Rattle.grid.proofs.Ladder.{ladder}
+use Rattle.rules.proofs.Ladder.{ladder}
 use Rattle.moves.specs.Next.{refusalOfState}
 use Rattle.moves.proofs.refusal_of_state.Statement.{statement}
 use Rattle.moves.proofs.refusal_of_state.Tie as tie

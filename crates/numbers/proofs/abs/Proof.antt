@@ -3,7 +3,7 @@ use mathlib.Core.Path.{refl, subst, sym, _∙_}
 use lib.Dec.{T}
 use lib.Ieee.{lt}
 use Rattle.numbers.specs.Reals.{_⊖_, f0}
-use Rattle.numbers.proofs.Branches.{taken, left}
+use Rattle.rules.proofs.Branches.{taken, left}
 use Rattle.numbers.proofs.Magnitude.{magnitude}
 use Rattle.numbers.proofs.abs.Statement.{statement}
 use Rattle.numbers.proofs.abs.Tie as tie

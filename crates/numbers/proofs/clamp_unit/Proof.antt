@@ -1,5 +1,5 @@
 use Rattle.numbers.specs.Reals.{clampUnit}
-use Rattle.numbers.proofs.Branches.{branches}
+use Rattle.rules.proofs.Branches.{branches}
 use Rattle.numbers.proofs.clamp_unit.Statement.{statement}
 use Rattle.numbers.proofs.clamp_unit.Tie as tie
 

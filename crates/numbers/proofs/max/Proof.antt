@@ -1,5 +1,5 @@
 use Rattle.numbers.specs.Reals.{maxOf}
-use Rattle.numbers.proofs.Branches.{branches}
+use Rattle.rules.proofs.Branches.{branches}
 use Rattle.numbers.proofs.max.Statement.{statement}
 use Rattle.numbers.proofs.max.Tie as tie
 

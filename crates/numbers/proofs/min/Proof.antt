@@ -1,5 +1,5 @@
 use Rattle.numbers.specs.Reals.{minOf}
-use Rattle.numbers.proofs.Branches.{branches}
+use Rattle.rules.proofs.Branches.{branches}
 use Rattle.numbers.proofs.min.Statement.{statement}
 use Rattle.numbers.proofs.min.Tie as tie
 

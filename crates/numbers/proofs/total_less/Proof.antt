@@ -2,7 +2,7 @@
 use mathlib.Core.Path.{subst, sym}
 use lib.Dec.{T}
 use Rattle.numbers.specs.Order.{totalLess}
-use Rattle.numbers.proofs.Branches.{branches, left}
+use Rattle.rules.proofs.Branches.{branches, left}
 use Rattle.numbers.proofs.Patterns.{no-nan}
 use Rattle.numbers.proofs.SignBit.{signs-less}
 use Rattle.numbers.proofs.total_less.Statement.{statement}

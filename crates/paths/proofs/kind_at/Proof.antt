@@ -3,7 +3,7 @@ use native.Mathlib.Omega.{arith}
 use borrow.Author.Needs.{needs}
 use borrow.Author.Tests.{eq-eqb, ne-eqb}
 use denote.Ref.{now}
-use Rattle.numbers.proofs.Branches.{taken, left}
+use Rattle.rules.proofs.Branches.{taken, left}
 use Rattle.fields.proofs.Bytes.{value-byte}
 use Rattle.paths.specs.Reader.{kindOf}
 use Rattle.paths.proofs.kind_at.Statement.{statement}

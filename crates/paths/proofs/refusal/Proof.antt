@@ -5,7 +5,7 @@ use borrow.Author.Tests.{lt-ltb, le-ltb}
 use denote.Ref.{now}
 use Rattle.paths.specs.Reader.{refusalOf}
 use Rattle.fields.proofs.Bytes.{value-byte}
-use Rattle.fields.proofs.Ladder.{ladder, refuse-here, refuse-next, differs, agrees}
+use Rattle.rules.proofs.Ladder.{ladder, refuse-here, refuse-next, differs, agrees}
 use Rattle.paths.proofs.Apart.{whole-contract}
 use Rattle.paths.proofs.refusal.Statement.{statement}
 use Rattle.paths.proofs.refusal.Tie as tie

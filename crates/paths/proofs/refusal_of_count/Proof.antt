@@ -1,5 +1,5 @@
 use Rattle.paths.specs.Reader.{refusalOfCount}
-use Rattle.fields.proofs.Ladder.{ladder}
+use Rattle.rules.proofs.Ladder.{ladder}
 use Rattle.paths.proofs.refusal_of_count.Statement.{statement}
 use Rattle.paths.proofs.refusal_of_count.Tie as tie
 

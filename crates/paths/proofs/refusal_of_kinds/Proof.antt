@@ -1,6 +1,6 @@
 use borrow.Author.Needs.{needs}
 use Rattle.paths.specs.Reader.{refusalOfKinds}
-use Rattle.fields.proofs.Ladder.{ladder}
+use Rattle.rules.proofs.Ladder.{ladder}
 use Rattle.paths.proofs.refusal_of_kinds.Statement.{statement}
 use Rattle.paths.proofs.refusal_of_kinds.Tie as tie
 

@@ -3,7 +3,7 @@ use borrow.Author.Needs.{needs}
 use denote.Ref.{now}
 use Rattle.fields.specs.declared.Place.{Place}
 use Rattle.fields.specs.Rows.{somewhere}
-use Rattle.fields.specs.Ladder.{refuse}
+use Rattle.rules.specs.Ladder.{refuse}
 use Rattle.paths.specs.Reader.{refusalOfKinds, refusalOfNumbers}
 use Rattle.paths.proofs.refusal_of_numbers.Statement.{statement}
 use Rattle.paths.proofs.refusal_of_numbers.Tie as tie

@@ -5,9 +5,9 @@ use Prim.Native.Nat.{_*_, _/_}
 use borrow.Author.Tests.{not-true, not-false, eqb-true}
 use denote.Ref.{now}
 use lib.ListN.{length}
-use Rattle.numbers.proofs.Branches.{bool-called}
+use Rattle.rules.proofs.Branches.{bool-called}
 use Rattle.grid.specs.Boxes.{isBoxed}
-use Rattle.grid.proofs.Ladder.{ladder, demand-here, demand-next}
+use Rattle.rules.proofs.Ladder.{ladder, demand-here, demand-next}
 use Rattle.plan.specs.Plan.{refusalOfInput}
 use Rattle.plan.proofs.refusal.Statement.{statement}
 use Rattle.plan.proofs.refusal.Tie as tie

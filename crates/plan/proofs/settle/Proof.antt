@@ -1,7 +1,7 @@
 use borrow.Author.Needs.{needs}
 use borrow.Author.Tests.{lt-ltb, le-ltb}
 use mathlib.Core.Path.{refl}
-use Rattle.numbers.proofs.Branches.{taken, left}
+use Rattle.rules.proofs.Branches.{taken, left}
 use Rattle.plan.specs.Inside.{settledOf}
 use Rattle.plan.proofs.settle.Statement.{statement}
 use Rattle.plan.proofs.settle.Tie as tie

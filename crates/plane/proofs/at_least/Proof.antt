@@ -1,4 +1,4 @@
-use Rattle.numbers.proofs.Branches.{branches}
+use Rattle.rules.proofs.Branches.{branches}
 use Rattle.plane.specs.Distance.{atLeast}
 use Rattle.plane.proofs.at_least.Statement.{statement}
 use Rattle.plane.proofs.at_least.Tie as tie

@@ -1,4 +1,4 @@
-use Rattle.numbers.proofs.Branches.{branches}
+use Rattle.rules.proofs.Branches.{branches}
 use Rattle.plane.specs.Distance.{baryOf}
 use Rattle.plane.proofs.bary.Statement.{statement}
 use Rattle.plane.proofs.bary.Tie as tie

@@ -1,6 +1,6 @@
 use borrow.Author.Needs.{needs}
 use mathlib.Core.Path.{_≡_, refl, sym, ap, _∙_}
-use Rattle.numbers.proofs.Branches.{taken, left}
+use Rattle.rules.proofs.Branches.{taken, left}
 use Rattle.plane.specs.Distance.{baryOf, inside, distanceXy}
 use Rattle.plane.proofs.distance_xy.Statement.{statement}
 use Rattle.plane.proofs.distance_xy.Tie as tie

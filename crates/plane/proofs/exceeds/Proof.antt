@@ -1,4 +1,4 @@
-use Rattle.numbers.proofs.Branches.{branches}
+use Rattle.rules.proofs.Branches.{branches}
 use Rattle.plane.specs.Contacts.{exceedsOf}
 use Rattle.plane.proofs.exceeds.Statement.{statement}
 use Rattle.plane.proofs.exceeds.Tie as tie

@@ -1,4 +1,4 @@
-use Rattle.numbers.proofs.Branches.{branches}
+use Rattle.rules.proofs.Branches.{branches}
 use Rattle.plane.specs.Distance.{nearestT}
 use Rattle.plane.proofs.nearest_t.Statement.{statement}
 use Rattle.plane.proofs.nearest_t.Tie as tie

@@ -1,5 +1,5 @@
 use borrow.Author.Needs.{needs}
-use Rattle.numbers.proofs.Branches.{bool-called}
+use Rattle.rules.proofs.Branches.{bool-called}
 use Rattle.plane.proofs.Taking.{first-taken, next-taken, next-left}
 use Rattle.plane.proofs.take.Statement.{statement}
 use Rattle.plane.proofs.take.Tie as tie

@@ -1,4 +1,4 @@
-use Rattle.numbers.proofs.Branches.{no}
+use Rattle.rules.proofs.Branches.{no}
 use Rattle.probe.proofs.Deciding.{beyond-is}
 use Rattle.probe.proofs.is_beyond.Statement.{statement}
 use Rattle.probe.proofs.is_beyond.Tie as tie

@@ -2,7 +2,7 @@ use mathlib.Core.Bool.{not}
 use mathlib.Core.Path.{_≡_, ap}
 use borrow.Author.Tests.{ne-eqb}
 use lib.Ieee.{Float, le}
-use Rattle.numbers.proofs.Branches.{left, branches}
+use Rattle.rules.proofs.Branches.{left, branches}
 use Rattle.probe.specs.Inside.{splitsOf}
 use Rattle.probe.proofs.splits.Statement.{statement}
 use Rattle.probe.proofs.splits.Tie as tie

@@ -1,4 +1,4 @@
-use Rattle.numbers.proofs.Branches.{branches, bool-called}
+use Rattle.rules.proofs.Branches.{branches, bool-called}
 use Rattle.query.specs.Usable.{areCoordinates}
 use Rattle.query.proofs.are_coordinates.Statement.{statement}
 use Rattle.query.proofs.are_coordinates.Tie as tie

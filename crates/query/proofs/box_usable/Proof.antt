@@ -1,4 +1,4 @@
-use Rattle.numbers.proofs.Branches.{branches, bool-called}
+use Rattle.rules.proofs.Branches.{branches, bool-called}
 use Rattle.query.specs.Usable.{boxUsable}
 use Rattle.query.proofs.box_usable.Statement.{statement}
 use Rattle.query.proofs.box_usable.Tie as tie

@@ -4,7 +4,7 @@ use Prim.Native.Nat.{_+_}
 use native.Mathlib.Omega.{arith}
 use borrow.Author.Needs.{needs}
 use borrow.Author.Tests.{lt-leb}
-use Rattle.numbers.proofs.Branches.{branches, no}
+use Rattle.rules.proofs.Branches.{branches, no}
 use Rattle.query.specs.Usable.{cellUsable}
 use Rattle.query.proofs.cell_usable.Statement.{statement}
 use Rattle.query.proofs.cell_usable.Tie as tie

@@ -3,12 +3,13 @@ use Prim.Native.Nat.{_-_}
 use borrow.Author.Needs.{needs}
 use borrow.Author.Tests.{not-false}
 use lib.ListN.{length}
-use Rattle.numbers.proofs.Branches.{no}
+use Rattle.rules.proofs.Branches.{no}
 use Rattle.query.specs.Inside.{Tested}
 use mathlib.Core.Path.{_≡_, refl, sym, _∙_}
 use native.Mathlib.Omega.{arith}
-use Rattle.query.specs.Usable.{every, memberUsable, rowUsable, cellsUsable}
-use Rattle.query.proofs.Testing.{every-stops, every-goes, every-ends, failed, passed, in-rows}
+use Rattle.rules.specs.Every.{every}
+use Rattle.query.specs.Usable.{memberUsable, rowUsable, cellsUsable}
+use Rattle.rules.proofs.Testing.{every-stops, every-goes, every-ends, failed, passed, in-rows}
 use Rattle.query.proofs.cells_usable.Statement.{statement}
 use Rattle.query.proofs.cells_usable.Tie as tie
 

@@ -5,8 +5,9 @@ use native.Mathlib.Omega.{arith}
 use borrow.Author.Needs.{needs}
 use Rattle.numbers.specs.Reals.{num}
 use Rattle.spans.specs.Mesh.{isCoordinate}
-use Rattle.query.specs.Usable.{every, cornersUsable}
-use Rattle.query.proofs.Testing.{every-stops, every-goes, every-ends, failed, passed}
+use Rattle.rules.specs.Every.{every}
+use Rattle.query.specs.Usable.{cornersUsable}
+use Rattle.rules.proofs.Testing.{every-stops, every-goes, every-ends, failed, passed}
 use Rattle.query.proofs.corners_usable.Statement.{statement}
 use Rattle.query.proofs.corners_usable.Tie as tie
 

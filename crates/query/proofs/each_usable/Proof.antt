@@ -1,6 +1,6 @@
 use mathlib.Core.Path.{_≡_, ap, _∙_}
 use borrow.Author.Needs.{needs}
-use Rattle.numbers.proofs.Branches.{branches, bool-called}
+use Rattle.rules.proofs.Branches.{branches, bool-called}
 use Rattle.query.specs.Usable.{boxUsable, triangleUsable}
 use Rattle.query.proofs.each_usable.Statement.{statement}
 use Rattle.query.proofs.each_usable.Tie as tie

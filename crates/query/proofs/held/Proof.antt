@@ -1,5 +1,5 @@
 use mathlib.Core.Path.{refl}
-use Rattle.numbers.proofs.Branches.{taken}
+use Rattle.rules.proofs.Branches.{taken}
 use Rattle.query.specs.Patch.{heldTo}
 use Rattle.query.proofs.Patches.{held-none, held-some}
 use Rattle.query.proofs.held.Statement.{statement}

@@ -1,5 +1,5 @@
 use native.Mathlib.Omega.{arith}
-use Rattle.numbers.proofs.Branches.{branches}
+use Rattle.rules.proofs.Branches.{branches}
 use Rattle.query.specs.Asked.{isMarked}
 use Rattle.query.proofs.is_marked.Statement.{statement}
 use Rattle.query.proofs.is_marked.Tie as tie

@@ -1,6 +1,6 @@
 -- `query::member_usable` meets its contract: a test for each conjunct.
 use borrow.Author.Needs.{needs}
-use Rattle.numbers.proofs.Branches.{bool-called, branches}
+use Rattle.rules.proofs.Branches.{bool-called, branches}
 use Rattle.query.specs.Usable.{memberUsable}
 use Rattle.query.proofs.member_usable.Statement.{statement}
 use Rattle.query.proofs.member_usable.Tie as tie

@@ -5,10 +5,11 @@ use native.Mathlib.Omega.{arith}
 use borrow.Author.Needs.{needs}
 use borrow.Author.Tests.{not-false}
 use lib.ListN.{length, drop}
-use Rattle.numbers.proofs.Branches.{no}
-use Rattle.query.specs.Usable.{each, memberUsable}
+use Rattle.rules.proofs.Branches.{no}
+use Rattle.rules.specs.Every.{each}
+use Rattle.query.specs.Usable.{memberUsable}
 use Rattle.query.specs.Inside.{Tested}
-use Rattle.query.proofs.Testing.{each-stops, each-goes, each-ends, failed, passed}
+use Rattle.rules.proofs.Testing.{each-stops, each-goes, each-ends, failed, passed}
 use Rattle.query.proofs.members_usable.Statement.{statement}
 use Rattle.query.proofs.members_usable.Tie as tie
 

@@ -2,7 +2,7 @@
 use native.Mathlib.Omega.{arith}
 use borrow.Author.Needs.{needs}
 use mathlib.Core.Path.{sym, _∙_}
-use Rattle.numbers.proofs.Branches.{no}
+use Rattle.rules.proofs.Branches.{no}
 use Rattle.query.proofs.Recent.{not-below, tested-there, tested-more}
 use Rattle.query.proofs.tested.Statement.{statement}
 use Rattle.query.proofs.tested.Tie as tie

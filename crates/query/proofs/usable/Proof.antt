@@ -1,7 +1,7 @@
 use mathlib.Core.Path.{sym, _∙_}
 use native.Mathlib.Omega.{arith}
 use borrow.Author.Needs.{needs}
-use Rattle.numbers.proofs.Branches.{branches, bool-called}
+use Rattle.rules.proofs.Branches.{branches, bool-called}
 use Rattle.header.proofs.Ranges.{headed-is}
 use Rattle.query.specs.Usable.{usable}
 use Rattle.query.proofs.Using.{rows-room}

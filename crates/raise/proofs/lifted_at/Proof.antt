@@ -1,4 +1,4 @@
-use Rattle.numbers.proofs.Branches.{branches}
+use Rattle.rules.proofs.Branches.{branches}
 use Rattle.raise.specs.Raise.{liftedAt}
 use Rattle.raise.proofs.lifted_at.Statement.{statement}
 use Rattle.raise.proofs.lifted_at.Tie as tie

@@ -4,11 +4,11 @@ use mathlib.Core.Path.{_≡_, refl}
 use native.Mathlib.Omega.{arith}
 use borrow.Author.Tests.{not-true, not-false, eq-eqb, le-ltb}
 use denote.Ref.{now}
-use Rattle.numbers.proofs.Branches.{bool-called}
-use Rattle.grid.specs.Ladder.{demand}
+use Rattle.rules.proofs.Branches.{bool-called}
+use Rattle.rules.specs.Ladder.{demand}
 use Rattle.grid.specs.Boxes.{isBoxed}
 use Rattle.grid.specs.Build.{toldWith}
-use Rattle.grid.proofs.Ladder.{ladder, refuse-next, demand-here, demand-next}
+use Rattle.rules.proofs.Ladder.{ladder, refuse-next, demand-here, demand-next}
 use Rattle.spans.specs.Mesh.{isCoordinate}
 use Rattle.raise.specs.Raise.{refusalOfIndex, refusalOf}
 use Rattle.raise.proofs.refusal.Statement.{statement}

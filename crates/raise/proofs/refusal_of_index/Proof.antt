@@ -4,12 +4,12 @@ use native.Mathlib.Omega.{arith}
 use borrow.Author.Needs.{needs}
 use borrow.Author.Tests.{not-true, not-false, eq-eqb}
 use denote.Ref.{now}
-use Rattle.numbers.proofs.Branches.{bool-called}
+use Rattle.rules.proofs.Branches.{bool-called}
 use Rattle.spans.specs.Mesh.{firstBad}
-use Rattle.grid.specs.Ladder.{demand}
+use Rattle.rules.specs.Ladder.{demand}
 use Rattle.grid.specs.Build.{isNowhere, placeOf, toldWith}
 use Rattle.grid.proofs.Accepting.{place-below}
-use Rattle.grid.proofs.Ladder.{ladder, demand-here, demand-next}
+use Rattle.rules.proofs.Ladder.{ladder, demand-here, demand-next}
 use Rattle.header.proofs.Ranges.{in-ranges-is}
 use Rattle.raise.specs.Raise.{lifted, refusalOfIndex}
 use Rattle.raise.proofs.Lifting.{lifted-length}

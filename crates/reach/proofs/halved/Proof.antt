@@ -1,5 +1,5 @@
 use mathlib.Core.Path.{_≡_, refl, ap, sym, _∙_}
-use Rattle.numbers.proofs.Branches.{taken, left}
+use Rattle.rules.proofs.Branches.{taken, left}
 use Rattle.reach.specs.Reach.{halvedOf}
 use Rattle.reach.proofs.halved.Statement.{statement}
 use Rattle.reach.proofs.halved.Tie as tie

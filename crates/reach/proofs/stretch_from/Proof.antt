@@ -1,5 +1,5 @@
 use mathlib.Core.Path.{_≡_, refl, ap, sym, _∙_}
-use Rattle.numbers.proofs.Branches.{taken, left, called-lt}
+use Rattle.rules.proofs.Branches.{taken, left, called-lt}
 use Rattle.reach.specs.Reach.{stretchFrom}
 use Rattle.reach.proofs.stretch_from.Statement.{statement}
 use Rattle.reach.proofs.stretch_from.Tie as tie

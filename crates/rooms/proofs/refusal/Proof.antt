@@ -1,6 +1,6 @@
 -- `rooms::refusal` meets its contract.
 use native.Mathlib.Omega.{arith}
-use Rattle.grid.proofs.Ladder.{ladder}
+use Rattle.rules.proofs.Ladder.{ladder}
 use Rattle.rooms.specs.Rooms.{refusalOf}
 use Rattle.rooms.proofs.refusal.Statement.{statement}
 use Rattle.rooms.proofs.refusal.Tie as tie

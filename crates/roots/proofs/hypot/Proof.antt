@@ -8,7 +8,7 @@ use lib.Dec.{T}
 use lib.Ieee.{Float, binary64, fits, isNan, toBits}
 use Rattle.numbers.proofs.Patterns.{no-nan}
 use Rattle.roots.specs.Inside.{infiniteBits, ofSizes}
-use Rattle.numbers.proofs.Branches.{nan-taken}
+use Rattle.rules.proofs.Branches.{nan-taken}
 use Rattle.roots.proofs.Sums.{one-nan, first-number, second-number}
 use Rattle.roots.proofs.Sized.{Magnitude, magnitude, sizes, most, hypot-nan}
 use Rattle.roots.proofs.hypot.Statement.{statement}

@@ -1,4 +1,4 @@
-use Rattle.numbers.proofs.Branches.{and-on, and-off}
+use Rattle.rules.proofs.Branches.{and-on, and-off}
 use borrow.Author.Needs.{needs}
 use Rattle.runs.proofs.joins.Statement.{statement}
 use Rattle.runs.proofs.joins.Tie as tie

@@ -1,5 +1,5 @@
 use Rattle.runs.specs.Inside.{Work, work, keptBy}
-use Rattle.numbers.proofs.Branches.{bool-called, taken, left}
+use Rattle.rules.proofs.Branches.{bool-called, taken, left}
 use mathlib.Core.Bool.{true}
 use mathlib.Core.Path.{_≡_, refl, ap}
 use borrow.Author.Needs.{needs}

@@ -1,5 +1,5 @@
 use Rattle.runs.specs.Inside.{onTo}
-use Rattle.numbers.proofs.Branches.{branches}
+use Rattle.rules.proofs.Branches.{branches}
 use borrow.Author.Needs.{needs}
 use Rattle.runs.proofs.on_to.Statement.{statement}
 use Rattle.runs.proofs.on_to.Tie as tie

@@ -1,6 +1,6 @@
 use Rattle.runs.specs.Inside.{work, takenBy}
 use mathlib.Core.Path.{_≡_, refl, ap}
-use Rattle.numbers.proofs.Branches.{taken, left}
+use Rattle.rules.proofs.Branches.{taken, left}
 use borrow.Author.Needs.{needs}
 use Rattle.runs.proofs.take.Statement.{statement}
 use Rattle.runs.proofs.take.Tie as tie

@@ -1,5 +1,5 @@
 use Rattle.runs.specs.Runs.{touchesOf}
-use Rattle.numbers.proofs.Branches.{branches}
+use Rattle.rules.proofs.Branches.{branches}
 use Rattle.runs.proofs.touches.Statement.{statement}
 use Rattle.runs.proofs.touches.Tie as tie
 use Rattle.runs.proofs.touches.Reads as reads

@@ -1,5 +1,5 @@
 use native.Mathlib.Omega.{arith}
-use Rattle.numbers.proofs.Branches.{branches}
+use Rattle.rules.proofs.Branches.{branches}
 use Rattle.search.specs.Inside.{numberOf}
 use Rattle.search.proofs.number.Statement.{statement}
 use Rattle.search.proofs.number.Tie as tie

@@ -1,5 +1,5 @@
 use mathlib.Core.Path.{_≡_, ap, sym, _∙_}
-use Rattle.numbers.proofs.Branches.{bool-called}
+use Rattle.rules.proofs.Branches.{bool-called}
 use Rattle.above.specs.Above.{offerOf}
 use Rattle.touch.specs.declared.Stretch.{Stretch}
 use Rattle.section.specs.Section.{sectionStretch, sectionEdge}

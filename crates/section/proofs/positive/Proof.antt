@@ -1,5 +1,5 @@
 use mathlib.Core.Path.{_≡_, refl, ap, sym, _∙_}
-use Rattle.numbers.proofs.Branches.{branches}
+use Rattle.rules.proofs.Branches.{branches}
 use Rattle.section.specs.Section.{positiveReach}
 use Rattle.section.proofs.positive.Statement.{statement}
 use Rattle.section.proofs.positive.Tie as tie

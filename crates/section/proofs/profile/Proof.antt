@@ -1,4 +1,4 @@
-use Rattle.numbers.proofs.Branches.{branches}
+use Rattle.rules.proofs.Branches.{branches}
 use Rattle.section.specs.Section.{profileOf}
 use Rattle.section.proofs.profile.Statement.{statement}
 use Rattle.section.proofs.profile.Tie as tie

@@ -1,4 +1,4 @@
-use Rattle.numbers.proofs.Branches.{branches}
+use Rattle.rules.proofs.Branches.{branches}
 use Rattle.section.specs.Section.{reachOf}
 use Rattle.section.proofs.reach_of.Statement.{statement}
 use Rattle.section.proofs.reach_of.Tie as tie

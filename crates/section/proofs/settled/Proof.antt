@@ -3,7 +3,7 @@ use mathlib.Core.Logic.{inl, inr}
 use mathlib.Core.Path.{_≡_, subst}
 use lib.Ieee.{Float, le}
 use Rattle.numbers.specs.Reals.{_⊕_}
-use Rattle.numbers.proofs.Branches.{no}
+use Rattle.rules.proofs.Branches.{no}
 use Rattle.section.proofs.settled.Statement.{statement}
 use Rattle.section.proofs.settled.Tie as tie
 

@@ -1,7 +1,7 @@
 use mathlib.Core.Path.{_≡_, refl, ap, sym, _∙_}
 use mathlib.Core.Bool.{false}
 use borrow.Author.Tests.{not-true, not-false}
-use Rattle.numbers.proofs.Branches.{and-on, and-off, bool-called}
+use Rattle.rules.proofs.Branches.{and-on, and-off, bool-called}
 use Rattle.section.specs.Section.{validSection}
 use Rattle.section.proofs.valid.Statement.{statement}
 use Rattle.section.proofs.valid.Tie as tie

@@ -1,4 +1,4 @@
-use Rattle.numbers.proofs.Branches.{branches}
+use Rattle.rules.proofs.Branches.{branches}
 use Rattle.section.proofs.within_range.Statement.{statement}
 use Rattle.section.proofs.within_range.Tie as tie
 

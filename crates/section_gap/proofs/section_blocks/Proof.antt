@@ -1,5 +1,5 @@
 use mathlib.Core.Path.{_≡_, refl, ap, sym, _∙_}
-use Rattle.numbers.proofs.Branches.{taken, left, bool-called}
+use Rattle.rules.proofs.Branches.{taken, left, bool-called}
 use Rattle.section_gap.specs.Blocks.{sectionBlocks, sectionSearched}
 use Rattle.section_gap.proofs.section_blocks.Statement.{statement}
 use Rattle.section_gap.proofs.section_blocks.Tie as tie

@@ -1,6 +1,6 @@
 use mathlib.Core.Path.{refl, sym, _∙_}
 use borrow.Author.Tests.{not-true, not-false}
-use Rattle.grid.proofs.Ladder.{demand-here, demand-next}
+use Rattle.rules.proofs.Ladder.{demand-here, demand-next}
 use Rattle.setup.specs.Answer.{refusalOf}
 use Rattle.setup.proofs.Answering.{marked-is}
 use Rattle.setup.proofs.refusal.Statement.{statement}

@@ -1,6 +1,6 @@
 use mathlib.Core.Path.{refl}
 use denote.Ref.{now}
-use Rattle.grid.proofs.Ladder.{demand-here, demand-next}
+use Rattle.rules.proofs.Ladder.{demand-here, demand-next}
 use Rattle.um.specs.Index.{indexOf}
 use Rattle.setup.specs.Answer.{refusalOfTables}
 use Rattle.setup.proofs.Heads.{headed-is}

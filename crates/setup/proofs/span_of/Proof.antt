@@ -2,7 +2,7 @@ use Prim.Native.Nat.{ℕ, _/_}
 use mathlib.Core.Path.{refl, ap}
 use borrow.Author.Needs.{needs}
 use borrow.Author.Tests.{lt-ltb}
-use Rattle.numbers.proofs.Branches.{taken}
+use Rattle.rules.proofs.Branches.{taken}
 use Rattle.setup.specs.Question.{spanOf}
 use Rattle.setup.proofs.Reaching.{span-none, span-some}
 use Rattle.setup.proofs.span_of.Statement.{statement}

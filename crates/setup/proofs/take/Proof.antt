@@ -1,6 +1,6 @@
 use mathlib.Core.Path.{refl, sym, _∙_}
 use borrow.Author.Needs.{needs}
-use Rattle.numbers.proofs.Branches.{taken as taken-side, left}
+use Rattle.rules.proofs.Branches.{taken as taken-side, left}
 use Rattle.setup.specs.Question.{taken}
 use Rattle.setup.proofs.take.Statement.{statement}
 use Rattle.setup.proofs.take.Tie as tie

@@ -1,5 +1,5 @@
 use mathlib.Core.Path.{refl, ap}
-use Rattle.numbers.proofs.Branches.{taken, left}
+use Rattle.rules.proofs.Branches.{taken, left}
 use Rattle.sheet.specs.declared.Part.the-variants.{There}
 use Rattle.sheet.specs.Sheet.{belowOf}
 use Rattle.sheet.proofs.below.Statement.{statement}

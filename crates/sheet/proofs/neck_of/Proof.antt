@@ -1,5 +1,5 @@
 use mathlib.Core.Path.{refl}
-use Rattle.numbers.proofs.Branches.{taken, left}
+use Rattle.rules.proofs.Branches.{taken, left}
 use Rattle.sheet.specs.Sheet.{neckOf}
 use Rattle.sheet.proofs.neck_of.Statement.{statement}
 use Rattle.sheet.proofs.neck_of.Tie as tie

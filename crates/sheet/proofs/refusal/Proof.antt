@@ -1,7 +1,7 @@
 use mathlib.Core.Path.{refl}
 use borrow.Author.Tests.{eq-eqb, ne-eqb}
-use Rattle.query.proofs.Testing.{failed, passed}
-use Rattle.grid.proofs.Ladder.{demand-here, demand-next}
+use Rattle.rules.proofs.Testing.{failed, passed}
+use Rattle.rules.proofs.Ladder.{demand-here, demand-next}
 use Rattle.sheet.specs.Sheet.{refusalOf}
 use Rattle.sheet.proofs.refusal.Statement.{statement}
 use Rattle.sheet.proofs.refusal.Tie as tie

@@ -1,6 +1,6 @@
 use mathlib.Core.Path.{refl, ap}
 use borrow.Author.Needs.{needs}
-use Rattle.grid.proofs.Ladder.{refuse-here, refuse-next}
+use Rattle.rules.proofs.Ladder.{refuse-here, refuse-next}
 use Rattle.sheet.specs.Sheet.{isAbsent, refusalOfEnd}
 use Rattle.sheet.proofs.refusal_of_end.Statement.{statement}
 use Rattle.sheet.proofs.refusal_of_end.Tie as tie

@@ -1,6 +1,6 @@
 use mathlib.Core.Path.{sym, _∙_}
 use native.Mathlib.Omega.{arith}
-use Rattle.query.proofs.Testing.{failed, passed}
+use Rattle.rules.proofs.Testing.{failed, passed}
 use Rattle.sheet.proofs.Lists.{sections-length}
 use Rattle.sheet.proofs.Sheets.{too-many, invalid, no-room, good-list, body-bad, holders-bad, all-good}
 use Rattle.sheet.proofs.refusal_of_list.Statement.{statement}

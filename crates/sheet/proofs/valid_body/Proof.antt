@@ -1,4 +1,4 @@
-use Rattle.numbers.proofs.Branches.{and-on, and-off, bool-called}
+use Rattle.rules.proofs.Branches.{and-on, and-off, bool-called}
 use Rattle.sheet.proofs.valid_body.Statement.{statement}
 use Rattle.sheet.proofs.valid_body.Tie as tie
 

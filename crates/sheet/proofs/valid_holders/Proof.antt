@@ -3,7 +3,7 @@ use mathlib.Core.Path.{_≡_, ap, _∙_}
 use native.Mathlib.Omega.{arith}
 use lib.ListN.{length}
 use Rattle.section.specs.Section.{validSection}
-use Rattle.query.proofs.Testing.{failed, passed}
+use Rattle.rules.proofs.Testing.{failed, passed}
 use Rattle.sheet.specs.Sheet.{holdersFrom, allValid}
 use Rattle.sheet.proofs.Loops.{holders-begin, holder-stops, holder-goes, holders-end}
 use Rattle.sheet.proofs.valid_holders.Statement.{statement}

@@ -1,6 +1,6 @@
 use native.Mathlib.Omega.{arith}
 use borrow.Author.Tests.{ltb-true}
-use Rattle.numbers.proofs.Branches.{flags}
+use Rattle.rules.proofs.Branches.{flags}
 use Rattle.sort.specs.Inside.{laterOf}
 use borrow.Author.Needs.{needs}
 use Rattle.sort.proofs.later.Statement.{statement}

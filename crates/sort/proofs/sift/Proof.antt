@@ -4,7 +4,7 @@ use native.Mathlib.Omega.{arith}
 use borrow.Author.Needs.{needs}
 use borrow.Author.Tests.{ltb-true, not-true, not-false}
 use mathlib.Core.Path.{_≡_, sym, _∙_}
-use Rattle.numbers.proofs.Branches.{bool-called}
+use Rattle.rules.proofs.Branches.{bool-called}
 use Rattle.sort.specs.Ranks.{before}
 use Rattle.sort.specs.Inside.{Within}
 use Rattle.sort.proofs.Counts.{rearranged-none}

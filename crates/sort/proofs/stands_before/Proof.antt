@@ -1,4 +1,4 @@
-use Rattle.numbers.proofs.Branches.{flags}
+use Rattle.rules.proofs.Branches.{flags}
 use Rattle.sort.specs.Ranks.{before}
 use borrow.Author.Needs.{needs}
 use Rattle.sort.proofs.stands_before.Statement.{statement}

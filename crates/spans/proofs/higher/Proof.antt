@@ -1,7 +1,7 @@
 -- `spans::higher` meets its contract.
 use mathlib.Core.Path.{refl}
 use Rattle.numbers.specs.Reals.{maxOf}
-use Rattle.numbers.proofs.Branches.{taken, left}
+use Rattle.rules.proofs.Branches.{taken, left}
 use Rattle.spans.proofs.higher.Statement.{statement}
 use Rattle.spans.proofs.higher.Tie as tie
 

@@ -1,6 +1,6 @@
 -- `spans::is_coordinate` meets its contract.
 use mathlib.Core.Path.{refl, _∙_}
-use Rattle.numbers.proofs.Branches.{and-on, and-off}
+use Rattle.rules.proofs.Branches.{and-on, and-off}
 use Rattle.spans.proofs.Plain.{coordinate-sides}
 use Rattle.spans.proofs.is_coordinate.Statement.{statement}
 use Rattle.spans.proofs.is_coordinate.Tie as tie

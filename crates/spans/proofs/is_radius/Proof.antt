@@ -1,5 +1,5 @@
 -- `spans::is_radius` meets its contract.
-use Rattle.numbers.proofs.Branches.{branches}
+use Rattle.rules.proofs.Branches.{branches}
 use Rattle.spans.specs.Mesh.{isRadius}
 use Rattle.spans.proofs.is_radius.Statement.{statement}
 use Rattle.spans.proofs.is_radius.Tie as tie

@@ -1,7 +1,7 @@
 -- `spans::lower` meets its contract.
 use mathlib.Core.Path.{refl}
 use Rattle.numbers.specs.Reals.{minOf}
-use Rattle.numbers.proofs.Branches.{taken, left}
+use Rattle.rules.proofs.Branches.{taken, left}
 use Rattle.spans.proofs.lower.Statement.{statement}
 use Rattle.spans.proofs.lower.Tie as tie
 

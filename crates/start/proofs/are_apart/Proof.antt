@@ -3,7 +3,7 @@ use Prim.Native.Nat.{_-_, _≤_}
 use mathlib.Core.Path.{refl}
 use native.Mathlib.Omega.{arith}
 use borrow.Author.Tests.{not-false}
-use Rattle.numbers.proofs.Branches.{no}
+use Rattle.rules.proofs.Branches.{no}
 use Rattle.start.proofs.Scanning.{ApartTo, apart-none, apart-more, apart-all}
 use Rattle.start.proofs.are_apart.Statement.{statement}
 use Rattle.start.proofs.are_apart.Tie as tie

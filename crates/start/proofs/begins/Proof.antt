@@ -1,6 +1,6 @@
 use borrow.Author.Tests.{not-false}
 use mathlib.Core.Path.{sym, _∙_}
-use Rattle.numbers.proofs.Branches.{no}
+use Rattle.rules.proofs.Branches.{no}
 use Rattle.start.proofs.begins.Statement.{statement}
 use Rattle.start.proofs.begins.Tie as tie
 

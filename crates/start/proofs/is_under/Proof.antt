@@ -1,4 +1,4 @@
-use Rattle.numbers.proofs.Branches.{no}
+use Rattle.rules.proofs.Branches.{no}
 use Rattle.start.proofs.Serving.{under-is}
 use Rattle.start.proofs.is_under.Statement.{statement}
 use Rattle.start.proofs.is_under.Tie as tie

@@ -1,5 +1,5 @@
 use borrow.Author.Needs.{needs}
-use Rattle.numbers.proofs.Branches.{no}
+use Rattle.rules.proofs.Branches.{no}
 use Rattle.start.proofs.may_begin.Statement.{statement}
 use Rattle.start.proofs.may_begin.Tie as tie
 

@@ -1,6 +1,6 @@
 use borrow.Author.Needs.{needs}
 use borrow.Author.Tests.{le-ltb}
-use Rattle.fields.proofs.Ladder.{ladder, refuse-next}
+use Rattle.rules.proofs.Ladder.{ladder, refuse-next}
 use Rattle.stl.specs.Reader.{refusalOf}
 use Rattle.stl.proofs.refusal.Statement.{statement}
 use Rattle.stl.proofs.refusal.Tie as tie

@@ -1,4 +1,4 @@
-use Rattle.fields.proofs.Ladder.{ladder}
+use Rattle.rules.proofs.Ladder.{ladder}
 use Rattle.stl.specs.Reader.{refusalOfCount}
 use Rattle.stl.proofs.refusal_of_count.Statement.{statement}
 use Rattle.stl.proofs.refusal_of_count.Tie as tie

@@ -1,5 +1,5 @@
 use borrow.Author.Needs.{needs}
-use Rattle.fields.proofs.Ladder.{ladder}
+use Rattle.rules.proofs.Ladder.{ladder}
 use Rattle.stl.specs.Reader.{refusalOfNumbers}
 use Rattle.stl.proofs.refusal_of_numbers.Statement.{statement}
 use Rattle.stl.proofs.refusal_of_numbers.Tie as tie

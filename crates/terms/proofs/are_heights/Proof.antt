@@ -1,5 +1,5 @@
 use Rattle.terms.specs.Terms.{areHeights}
-use Rattle.numbers.proofs.Branches.{flags, branches, and-on, and-off}
+use Rattle.rules.proofs.Branches.{flags, branches, and-on, and-off}
 use Rattle.terms.proofs.are_heights.Statement.{statement}
 use Rattle.terms.proofs.are_heights.Tie as tie
 use Rattle.terms.proofs.are_heights.Reads as reads

@@ -1,5 +1,5 @@
 use Rattle.terms.specs.Terms.{areSteps}
-use Rattle.numbers.proofs.Branches.{flags, branches, and-on, and-off}
+use Rattle.rules.proofs.Branches.{flags, branches, and-on, and-off}
 use Rattle.terms.proofs.are_steps.Statement.{statement}
 use Rattle.terms.proofs.are_steps.Tie as tie
 use Rattle.terms.proofs.are_steps.Reads as reads

@@ -1,5 +1,5 @@
 use Rattle.terms.specs.Terms.{areTerms}
-use Rattle.numbers.proofs.Branches.{flags, branches, and-on, and-off}
+use Rattle.rules.proofs.Branches.{flags, branches, and-on, and-off}
 use borrow.Author.Needs.{needs}
 use Rattle.terms.proofs.are_terms.Statement.{statement}
 use Rattle.terms.proofs.are_terms.Tie as tie

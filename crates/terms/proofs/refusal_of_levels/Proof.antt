@@ -1,6 +1,6 @@
 use borrow.Author.Needs.{needs}
 use native.Mathlib.Omega.{arith}
-use Rattle.grid.proofs.Ladder.{ladder}
+use Rattle.rules.proofs.Ladder.{ladder}
 use Rattle.terms.specs.Inside.{refusalOfCount}
 use Rattle.terms.proofs.refusal_of_levels.Statement.{statement}
 use Rattle.terms.proofs.refusal_of_levels.Tie as tie

@@ -4,8 +4,8 @@ use borrow.Author.Needs.{needs}
 use native.Mathlib.Omega.{arith}
 use Rattle.section.specs.Section.{validSection}
 use Rattle.tool.specs.Tool.{sectionOf, sectionsIn}
-use Rattle.query.specs.Usable.{every}
-use Rattle.query.proofs.Testing.{every-stops, every-goes, every-ends, failed, passed}
+use Rattle.rules.specs.Every.{every}
+use Rattle.rules.proofs.Testing.{every-stops, every-goes, every-ends, failed, passed}
 use Rattle.tool.proofs.Sections.{valid-here, all-left}
 use Rattle.tool.proofs.all_valid.Statement.{statement}
 use Rattle.tool.proofs.all_valid.Tie as tie

@@ -1,5 +1,5 @@
-use Rattle.cells.specs.Cover.{isFrom}
-use Rattle.numbers.proofs.Branches.{branches}
+use Rattle.rules.specs.Every.{isFrom}
+use Rattle.rules.proofs.Branches.{branches}
 use Rattle.tool.proofs.few.Statement.{statement}
 use Rattle.tool.proofs.few.Tie as tie
 

@@ -1,6 +1,6 @@
 use mathlib.Core.Path.{_≡_, ap, sym, _∙_}
 use borrow.Author.Tests.{eq-eqb, ne-eqb}
-use Rattle.numbers.proofs.Branches.{and-on, and-off, bool-called}
+use Rattle.rules.proofs.Branches.{and-on, and-off, bool-called}
 use Rattle.tool.specs.Tool.{isTool}
 use Rattle.tool.proofs.is_tool.Statement.{statement}
 use Rattle.tool.proofs.is_tool.Tie as tie

@@ -1,4 +1,4 @@
-use Rattle.numbers.proofs.Branches.{branches}
+use Rattle.rules.proofs.Branches.{branches}
 use Rattle.tops.specs.Inside.{isApart}
 use Rattle.tops.proofs.is_apart.Statement.{statement}
 use Rattle.tops.proofs.is_apart.Tie as tie

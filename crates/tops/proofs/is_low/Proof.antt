@@ -1,4 +1,4 @@
-use Rattle.numbers.proofs.Branches.{and-on, and-off}
+use Rattle.rules.proofs.Branches.{and-on, and-off}
 use Rattle.tops.specs.Inside.{isLow}
 use Rattle.tops.proofs.is_low.Statement.{statement}
 use Rattle.tops.proofs.is_low.Tie as tie

@@ -1,4 +1,4 @@
-use Rattle.numbers.proofs.Branches.{branches}
+use Rattle.rules.proofs.Branches.{branches}
 use Rattle.tops.specs.Inside.{isParted}
 use Rattle.tops.proofs.is_parted.Statement.{statement}
 use Rattle.tops.proofs.is_parted.Tie as tie

@@ -1,4 +1,4 @@
-use Rattle.numbers.proofs.Branches.{and-on, and-off}
+use Rattle.rules.proofs.Branches.{and-on, and-off}
 use Rattle.tops.specs.Inside.{isStart}
 use Rattle.tops.proofs.is_start.Statement.{statement}
 use Rattle.tops.proofs.is_start.Tie as tie

@@ -1,4 +1,4 @@
-use Rattle.numbers.proofs.Branches.{and-on, and-off, bool-called}
+use Rattle.rules.proofs.Branches.{and-on, and-off, bool-called}
 use Rattle.tops.specs.Inside.{liesApart}
 use Rattle.tops.proofs.lies_apart.Statement.{statement}
 use Rattle.tops.proofs.lies_apart.Tie as tie

@@ -1,4 +1,4 @@
-use Rattle.numbers.proofs.Branches.{and-on, and-off, bool-called}
+use Rattle.rules.proofs.Branches.{and-on, and-off, bool-called}
 use Rattle.tops.specs.Inside.{liesLow}
 use Rattle.tops.proofs.lies_low.Statement.{statement}
 use Rattle.tops.proofs.lies_low.Tie as tie

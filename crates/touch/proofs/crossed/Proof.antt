@@ -1,4 +1,4 @@
-use Rattle.numbers.proofs.Branches.{branches}
+use Rattle.rules.proofs.Branches.{branches}
 use Rattle.touch.specs.Touch.{crossedOf}
 use Rattle.touch.proofs.crossed.Statement.{statement}
 use Rattle.touch.proofs.crossed.Tie as tie

@@ -1,4 +1,4 @@
-use Rattle.numbers.proofs.Branches.{taken, left, called-lt}
+use Rattle.rules.proofs.Branches.{taken, left, called-lt}
 use mathlib.Core.Path.{refl, ap}
 use Rattle.touch.specs.declared.Facing.the-variants.{Leaning}
 use Rattle.touch.specs.Touch.{facingOf}

@@ -1,5 +1,5 @@
 use mathlib.Core.Path.{refl, ap, _∙_}
-use Rattle.numbers.proofs.Branches.{taken, left}
+use Rattle.rules.proofs.Branches.{taken, left}
 use Rattle.touch.specs.Touch.{reachedOf, crossedOf}
 use Rattle.touch.proofs.reached.Statement.{statement}
 use Rattle.touch.proofs.reached.Tie as tie

@@ -1,5 +1,5 @@
 use mathlib.Core.Path.{refl}
-use Rattle.numbers.proofs.Branches.{taken, left, bool-called}
+use Rattle.rules.proofs.Branches.{taken, left, bool-called}
 use Rattle.touch.specs.Touch.{weighedOf}
 use Rattle.touch.proofs.weighed.Statement.{statement}
 use Rattle.touch.proofs.weighed.Tie as tie

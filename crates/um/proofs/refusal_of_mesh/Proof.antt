@@ -2,7 +2,7 @@
 use mathlib.Core.Path.{refl}
 use native.Mathlib.Omega.{arith}
 use Rattle.um.specs.Build.{toldWith, refusalOfMesh}
-use Rattle.grid.proofs.Ladder.{ladder}
+use Rattle.rules.proofs.Ladder.{ladder}
 use Rattle.um.proofs.refusal_of_mesh.Statement.{statement}
 use Rattle.um.proofs.refusal_of_mesh.Tie as tie
 

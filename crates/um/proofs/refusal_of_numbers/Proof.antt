@@ -5,10 +5,10 @@ use native.Mathlib.Omega.{arith}
 use borrow.Author.Needs.{needs}
 use borrow.Author.Tests.{not-false}
 use denote.Ref.{now}
-use Rattle.numbers.proofs.Branches.{bool-called}
+use Rattle.rules.proofs.Branches.{bool-called}
 use Rattle.fields.specs.Rows.{somewhere}
-use Rattle.grid.specs.Ladder.{refuse}
-use Rattle.grid.proofs.Ladder.{ladder, refuse-here, refuse-next, demand-next}
+use Rattle.rules.specs.Ladder.{refuse}
+use Rattle.rules.proofs.Ladder.{ladder, refuse-here, refuse-next, demand-next}
 use Rattle.um.specs.Build.{firstBad, placeOf, toldWith, refusalOfNumbers}
 use Rattle.um.proofs.Accepting.{place-below}
 use Rattle.um.proofs.refusal_of_numbers.Statement.{statement}

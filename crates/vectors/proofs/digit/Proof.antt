@@ -1,5 +1,5 @@
 use borrow.Author.Needs.{needs}
-use Rattle.numbers.proofs.Branches.{branches}
+use Rattle.rules.proofs.Branches.{branches}
 use Rattle.vectors.specs.Lines.{digitOf}
 use Rattle.vectors.proofs.digit.Statement.{statement}
 use Rattle.vectors.proofs.digit.Tie as tie

@@ -1,4 +1,4 @@
-use Rattle.numbers.proofs.Branches.{branches}
+use Rattle.rules.proofs.Branches.{branches}
 use Rattle.vectors.specs.Lines.{unlikeOf}
 use Rattle.vectors.proofs.unlike.Statement.{statement}
 use Rattle.vectors.proofs.unlike.Tie as tie

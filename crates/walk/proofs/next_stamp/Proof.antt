@@ -1,5 +1,5 @@
 use Rattle.walk.specs.Walk.{nextStamp, readyMarks}
-use Rattle.numbers.proofs.Branches.{flags}
+use Rattle.rules.proofs.Branches.{flags}
 use borrow.Author.Needs.{needs}
 use Rattle.walk.proofs.next_stamp.Statement.{statement}
 use Rattle.walk.proofs.next_stamp.Tie as tie

@@ -2,7 +2,7 @@
 use Prim.Native.Nat.{_+_}
 use native.Mathlib.Omega.{arith}
 use borrow.Author.Needs.{needs}
-use Rattle.numbers.proofs.Branches.{branches}
+use Rattle.rules.proofs.Branches.{branches}
 use Rattle.query.specs.Usable.{cellUsable}
 use Rattle.whole.proofs.cell_below.Statement.{statement}
 use Rattle.whole.proofs.cell_below.Tie as tie

@@ -4,8 +4,9 @@ use mathlib.Core.Path.{_≡_, ap}
 use native.Mathlib.Nat.{sub-zero}
 use native.Mathlib.Omega.{arith}
 use lib.Dec.{ltb}
-use Rattle.query.specs.Usable.{every, cellUsable}
-use Rattle.query.proofs.Testing.{every-stops, every-goes, every-ends, failed, passed}
+use Rattle.rules.specs.Every.{every}
+use Rattle.query.specs.Usable.{cellUsable}
+use Rattle.rules.proofs.Testing.{every-stops, every-goes, every-ends, failed, passed}
 use Rattle.whole.proofs.cells_below.Statement.{statement}
 use Rattle.whole.proofs.cells_below.Tie as tie
 

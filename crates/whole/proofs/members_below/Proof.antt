@@ -5,8 +5,8 @@ use borrow.Author.Needs.{needs}
 use borrow.Author.Tests.{lt-ltb, le-ltb}
 use lib.Dec.{ltb}
 use lib.ListN.{length, drop}
-use Rattle.query.specs.Usable.{each}
-use Rattle.query.proofs.Testing.{each-stops, each-goes, each-ends}
+use Rattle.rules.specs.Every.{each}
+use Rattle.rules.proofs.Testing.{each-stops, each-goes, each-ends}
 use Rattle.whole.proofs.members_below.Statement.{statement}
 use Rattle.whole.proofs.members_below.Tie as tie
 

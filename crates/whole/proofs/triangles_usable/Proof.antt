@@ -3,8 +3,9 @@ use Prim.Native.Nat.{_-_, _≤_}
 use mathlib.Core.Path.{_≡_, ap}
 use native.Mathlib.Nat.{sub-zero}
 use native.Mathlib.Omega.{arith}
-use Rattle.query.specs.Usable.{every, triangleUsable}
-use Rattle.query.proofs.Testing.{every-stops, every-goes, every-ends, failed, passed}
+use Rattle.rules.specs.Every.{every}
+use Rattle.query.specs.Usable.{triangleUsable}
+use Rattle.rules.proofs.Testing.{every-stops, every-goes, every-ends, failed, passed}
 use Rattle.whole.proofs.triangles_usable.Statement.{statement}
 use Rattle.whole.proofs.triangles_usable.Tie as tie
 

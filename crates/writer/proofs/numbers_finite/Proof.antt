@@ -1,7 +1,7 @@
 use mathlib.Core.Path.{refl, sym, _∙_}
 use denote.Ref.{now}
 use borrow.Author.Tests.{not-true, not-false}
-use Rattle.numbers.proofs.Branches.{and-on, and-off}
+use Rattle.rules.proofs.Branches.{and-on, and-off}
 use Rattle.writer.proofs.Rows.{told}
 use Rattle.writer.proofs.numbers_finite.Statement.{statement}
 use Rattle.writer.proofs.numbers_finite.Tie as tie

@@ -2,7 +2,7 @@ use mathlib.Core.Path.{refl}
 use borrow.Author.Needs.{needs}
 use borrow.Author.Tests.{lt-ltb, le-ltb}
 use Rattle.writer.specs.Writer.{refusalOf}
-use Rattle.fields.proofs.Ladder.{refuse-here, refuse-next, differs, agrees}
+use Rattle.rules.proofs.Ladder.{refuse-here, refuse-next, differs, agrees}
 use Rattle.writer.proofs.refusal.Statement.{statement}
 use Rattle.writer.proofs.refusal.Tie as tie
 

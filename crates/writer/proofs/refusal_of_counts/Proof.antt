@@ -1,6 +1,6 @@
 use borrow.Author.Needs.{needs}
 use Rattle.writer.specs.Writer.{refusalOfCounts}
-use Rattle.fields.proofs.Ladder.{ladder}
+use Rattle.rules.proofs.Ladder.{ladder}
 use Rattle.writer.proofs.refusal_of_counts.Statement.{statement}
 use Rattle.writer.proofs.refusal_of_counts.Tie as tie
 

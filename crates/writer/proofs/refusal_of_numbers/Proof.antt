@@ -3,7 +3,7 @@ use mathlib.Core.Bool.{not}
 use borrow.Author.Needs.{needs}
 use borrow.Author.Tests.{lt-ltb, le-ltb}
 use Rattle.writer.specs.Writer.{refusalOfNumbers}
-use Rattle.fields.proofs.Ladder.{refuse-here, refuse-next}
+use Rattle.rules.proofs.Ladder.{refuse-here, refuse-next}
 use Rattle.writer.proofs.refusal_of_numbers.Statement.{statement}
 use Rattle.writer.proofs.refusal_of_numbers.Tie as tie
 

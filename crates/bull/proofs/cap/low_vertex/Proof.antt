@@ -1,5 +1,5 @@
 use mathlib.Core.Path.{_≡_}
-use Rattle.numbers.proofs.Branches.{and-on, and-off, bool-called}
+use Rattle.rules.proofs.Branches.{and-on, and-off, bool-called}
 use Rattle.bull.specs.Inside.{lowVertex}
 use Rattle.bull.proofs.cap.low_vertex.Statement.{statement}
 use Rattle.bull.proofs.cap.low_vertex.Tie as tie

@@ -1,5 +1,5 @@
 use mathlib.Core.Path.{_≡_, refl}
-use Rattle.numbers.proofs.Branches.{taken, left}
+use Rattle.rules.proofs.Branches.{taken, left}
 use Rattle.bull.specs.Inside.{overOf}
 use Rattle.bull.proofs.cap.over.Statement.{statement}
 use Rattle.bull.proofs.cap.over.Tie as tie

@@ -1,5 +1,5 @@
 use mathlib.Core.Path.{_≡_, refl, sym, ap, _∙_}
-use Rattle.numbers.proofs.Branches.{taken, left, bool-called}
+use Rattle.rules.proofs.Branches.{taken, left, bool-called}
 use Rattle.section.specs.Inside.{lowEdge}
 use Rattle.section.proofs.low.skips.Statement.{statement}
 use Rattle.section.proofs.low.skips.Tie as tie

@@ -2,9 +2,10 @@
 use Prim.Native.Nat.{_-_}
 use mathlib.Core.Path.{_≡_, refl}
 use native.Mathlib.Omega.{arith}
-use Rattle.query.specs.Usable.{every, rowUsable, cellsUsable}
+use Rattle.rules.specs.Every.{every}
+use Rattle.query.specs.Usable.{rowUsable, cellsUsable}
 use Rattle.setup.specs.Answer.{memberUsable}
-use Rattle.query.proofs.Testing.{every-stops, every-goes, every-ends, failed, passed, in-rows}
+use Rattle.rules.proofs.Testing.{every-stops, every-goes, every-ends, failed, passed, in-rows}
 use Rattle.setup.proofs.usable.cells_usable.Statement.{statement}
 use Rattle.setup.proofs.usable.cells_usable.Tie as tie
 

@@ -1,5 +1,5 @@
 use borrow.Author.Needs.{needs}
-use Rattle.numbers.proofs.Branches.{branches, bool-called}
+use Rattle.rules.proofs.Branches.{branches, bool-called}
 use Rattle.setup.proofs.Heads.{ranges-are}
 use Rattle.setup.proofs.usable.in_ranges.Statement.{statement}
 use Rattle.setup.proofs.usable.in_ranges.Tie as tie

@@ -1,6 +1,6 @@
 use borrow.Author.Needs.{needs}
-use Rattle.numbers.proofs.Branches.{branches, bool-called}
-use Rattle.cells.specs.Cover.{isFrom}
+use Rattle.rules.proofs.Branches.{branches, bool-called}
+use Rattle.rules.specs.Every.{isFrom}
 use Rattle.setup.proofs.usable.is_from.Statement.{statement}
 use Rattle.setup.proofs.usable.is_from.Tie as tie
 

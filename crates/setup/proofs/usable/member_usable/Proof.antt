@@ -1,6 +1,6 @@
 -- `setup::usable::member_usable` meets its contract: a test for each conjunct.
 use borrow.Author.Needs.{needs}
-use Rattle.numbers.proofs.Branches.{bool-called, branches}
+use Rattle.rules.proofs.Branches.{bool-called, branches}
 use Rattle.setup.specs.Answer.{memberUsable}
 use Rattle.setup.proofs.usable.member_usable.Statement.{statement}
 use Rattle.setup.proofs.usable.member_usable.Tie as tie

@@ -4,9 +4,9 @@ use mathlib.Core.Path.{_≡_}
 use native.Mathlib.Omega.{arith}
 use borrow.Author.Needs.{needs}
 use lib.ListN.{length, drop}
-use Rattle.query.specs.Usable.{each}
+use Rattle.rules.specs.Every.{each}
 use Rattle.setup.specs.Answer.{memberUsable}
-use Rattle.query.proofs.Testing.{each-stops, each-goes, each-ends, failed, passed}
+use Rattle.rules.proofs.Testing.{each-stops, each-goes, each-ends, failed, passed}
 use Rattle.setup.proofs.usable.members_usable.Statement.{statement}
 use Rattle.setup.proofs.usable.members_usable.Tie as tie
 

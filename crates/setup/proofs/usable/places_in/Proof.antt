@@ -1,5 +1,5 @@
 use borrow.Author.Needs.{needs}
-use Rattle.numbers.proofs.Branches.{branches, bool-called}
+use Rattle.rules.proofs.Branches.{branches, bool-called}
 use Rattle.setup.specs.Inside.{placesIn}
 use Rattle.setup.proofs.usable.places_in.Statement.{statement}
 use Rattle.setup.proofs.usable.places_in.Tie as tie

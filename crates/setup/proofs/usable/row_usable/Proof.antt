@@ -2,9 +2,10 @@
 use Prim.Native.Nat.{_+_, _-_, _*_}
 use mathlib.Core.Path.{_≡_, refl}
 use native.Mathlib.Omega.{arith}
-use Rattle.query.specs.Usable.{every, cellUsable, rowUsable}
+use Rattle.rules.specs.Every.{every}
+use Rattle.query.specs.Usable.{cellUsable, rowUsable}
 use Rattle.setup.specs.Answer.{memberUsable}
-use Rattle.query.proofs.Testing.{every-stops, every-goes, every-ends, failed, passed}
+use Rattle.rules.proofs.Testing.{every-stops, every-goes, every-ends, failed, passed}
 use Rattle.setup.proofs.usable.row_usable.Statement.{statement}
 use Rattle.setup.proofs.usable.row_usable.Tie as tie
 

@@ -4,9 +4,9 @@ use mathlib.Core.Path.{_≡_, ap, _∙_}
 use native.Mathlib.Omega.{arith}
 use borrow.Author.Needs.{needs}
 use Rattle.micro.specs.Micro.{isCoordinate, numberAt}
-use Rattle.query.specs.Usable.{every}
+use Rattle.rules.specs.Every.{every}
 use Rattle.setup.specs.Answer.{triangleUsable}
-use Rattle.query.proofs.Testing.{every-stops, every-goes, every-ends, failed, passed}
+use Rattle.rules.proofs.Testing.{every-stops, every-goes, every-ends, failed, passed}
 use Rattle.setup.proofs.usable.triangle_usable.Statement.{statement}
 use Rattle.setup.proofs.usable.triangle_usable.Tie as tie
 

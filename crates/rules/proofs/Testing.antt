@@ -10,8 +10,8 @@ use native.Mathlib.Omega.{arith}
 use borrow.Author.Tests.{not-true, not-false}
 use lib.ListN.{length, getD, drop, drop-of-length-le}
 use lib.Seq.{drop-cons}
-use Rattle.numbers.proofs.Branches.{both-true}
-use Rattle.query.specs.Usable.{every, each}
+use Rattle.rules.proofs.Branches.{both-true}
+use Rattle.rules.specs.Every.{every, each}
 
 -- a test that a call made, whose answer was negated
 pub failed : (r t : Bool) → r ≡ t → not r ≡ true → t ≡ false

@@ -1,12 +1,12 @@
 -- Laws of a ladder of refusals: which rung answers, and what a rung that was passed says.
-use mathlib.Core.Bool.{Bool, true, false, not, cond}
+use mathlib.Core.Bool.{Bool, true, false, not}
 use mathlib.Core.Path.{_≡_, refl}
-use Prim.Native.Nat.{ℕ, _≤_, _<_}
+use Prim.Native.Nat.{ℕ, _<_}
 use native.Mathlib.Omega.{arith}
-use borrow.Author.Tests.{ltb-false, lt-ltb, le-ltb, eq-eqb, ne-eqb}
-use lib.Dec.{eqb, ltb}
-use Rattle.numbers.proofs.Branches.{taken, left, bool-called}
-use Rattle.fields.specs.Ladder.{refuse, tooMany}
+use borrow.Author.Tests.{lt-ltb, le-ltb, eq-eqb, ne-eqb, not-true, not-false}
+use lib.Dec.{eqb}
+use Rattle.rules.proofs.Branches.{taken, left, bool-called}
+use Rattle.rules.specs.Ladder.{refuse, demand}
 
 module _ (b : Bool) (k next : ℕ) where
   pub refuse-here : (r : ℕ) → b ≡ true → r ≡ k → r ≡ refuse b k next
@@ -16,6 +16,14 @@ module _ (b : Bool) (k next : ℕ) where
   pub refuse-next : (r : ℕ) → b ≡ false → r ≡ next → r ≡ refuse b k next
   unfolding refuse
   refuse-next r e p = left _ _ _ _ e p
+
+  pub demand-here : (r : ℕ) → b ≡ false → r ≡ k → r ≡ demand b k next
+  unfolding demand
+  demand-here r e p = left _ _ _ _ e p
+
+  pub demand-next : (r : ℕ) → b ≡ true → r ≡ next → r ≡ demand b k next
+  unfolding demand
+  demand-next r e p = taken _ _ _ _ e p
 
 -- a rung that gave another number than its own was passed
 pub refused-other : (b : Bool) (k next r : ℕ) → (k ≡ r → ⊥) → refuse b k next ≡ r → (b ≡ false) × (next ≡ r)
@@ -29,6 +37,11 @@ module _ (b : Bool) (k next : ℕ) where
 
   pub refused-later : (r : ℕ) → k < r → refuse b k next ≡ r → (b ≡ false) × (next ≡ r)
   refused-later r p e = refused-other b k next r (λ (z : k ≡ r). omega arith) e
+
+pub demanded : (b : Bool) (k next : ℕ) → 0 < k → demand b k next ≡ 0 → (b ≡ true) × (next ≡ 0)
+unfolding demand
+demanded true k next p e = (refl, e)
+demanded false k next p e = absurd (omega arith)
 
 -- what stands below a rung matters only where it is passed
 pub refuse-same : (b : Bool) (k x y : ℕ) → (b ≡ false → x ≡ y) → refuse b k x ≡ refuse b k y
@@ -44,18 +57,4 @@ module _ (x v y : ℕ) (p : x ≡ v) where
   pub agrees : x ≡ y → not (eqb v y) ≡ false
   agrees h = rw (← p, eq-eqb x y h)
 
-pub ruleset ladder = (refuse-here, refuse-next, differs, agrees, bool-called, eq-eqb, ne-eqb, lt-ltb, le-ltb)
-
-no-either : (a b : Bool) → cond a true b ≡ false → (a ≡ false) × (b ≡ false)
-no-either false b e = (refl, e)
-no-either true b e = let z : _≡_ {A = ℕ} 0 1 = cc in absurd (omega arith)
-
--- a count that is not too many
-module _ (n room : ℕ) where
-  pub room-for : tooMany n room ≡ false → (n ≤ 65536) × (n ≤ room)
-  unfolding tooMany
-  room-for e = let p = no-either (ltb 65536 n) (ltb room n) e in (ltb-false 65536 n (p .0), ltb-false room n (p .1))
-
-  pub room-enough : n ≤ 65536 → n ≤ room → tooMany n room ≡ false
-  unfolding tooMany
-  room-enough h l = rw (le-ltb 65536 n h) (le-ltb room n l)
+pub ruleset ladder = (refuse-here, refuse-next, demand-here, demand-next, differs, agrees, bool-called, not-true, not-false, eq-eqb, ne-eqb, lt-ltb, le-ltb)

@@ -1,0 +1,4 @@
+pub mod Branches
+pub mod Ladder
+pub mod Testing
+pub mod Times
