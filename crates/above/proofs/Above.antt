@@ -10,7 +10,7 @@ use lib.IntN.{ℤ}
 use lib.Ieee.{Float, nan, inf, fin, up, down, lt, le, eq, div, isNan, ofBits}
 use lib.Ieee.Fits.{down-pos}
 use Rattle.rules.proofs.Branches.{by-test, no}
-use Rattle.numbers.proofs.Strict.{lt-goes-on, lt-number, le-not-lt}
+use Rattle.order.proofs.Strict.{lt-goes-on, lt-number, le-not-lt}
 use Rattle.numbers.specs.Reals.{_⊘_, f0}
 use Rattle.plane.specs.declared.Touch.{Touch}
 use Rattle.plane.specs.declared.Contact.{Contact}

@@ -5,15 +5,14 @@ use mathlib.Core.Path.{_≡_, refl, ap, sym, _∙_}
 use lib.Dec.{T}
 use lib.Ieee.{Float, nan, inf, fin, binary64, add, sub, neg, lt, le, eq, fits, isNan}
 use lib.Ieee.Scale.{finite}
-use Rattle.numbers.specs.Reals.{_⊖_, f0, minOf}
+use Rattle.numbers.specs.Reals.{_⊖_, f0, minOf, f0-is}
 use Rattle.roots.specs.Hypot.{infinite, hypotOf}
 use Rattle.rules.proofs.Branches.{either, by-test, no, holds}
-use Rattle.numbers.proofs.Strict.{lt-never-same}
-use Rattle.spans.proofs.Ranges.{sub-mono}
-use Rattle.spans.proofs.Sizes.{f0-is}
-use Rattle.bound.proofs.Order.{O, le-trans, sub-turns}
-use Rattle.bound.proofs.Roots.{distance-low}
-use Rattle.bound.proofs.Held.{not-above}
+use Rattle.order.proofs.Strict.{lt-never-same}
+use Rattle.order.proofs.Ranges.{sub-mono}
+use Rattle.order.proofs.Order.{O, le-trans, sub-turns}
+use Rattle.order.proofs.Roots.{distance-low}
+use Rattle.order.proofs.Extremes.{not-above}
 use Rattle.bound.proofs.Small.{M}
 use Rattle.caps.proofs.Places.{not-less, number-of}
 use Rattle.caps.proofs.Bracket.{less-none}

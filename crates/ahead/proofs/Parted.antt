@@ -6,13 +6,13 @@ use lib.Ieee.{Float, binary64, lt, le, fits, isNan}
 use lib.Ieee.Bits.{is-true}
 use Rattle.numbers.specs.Reals.{_⊖_, f0, maxOf}
 use Rattle.rules.proofs.Branches.{by-test, both-true, holds}
-use Rattle.numbers.proofs.Strict.{lt-goes-on, lt-number, le-not-lt}
+use Rattle.order.proofs.Strict.{lt-goes-on, lt-number, le-not-lt}
 use Rattle.plane.specs.declared.Triangle.{Triangle}
 use Rattle.plane.specs.Contacts.{exceedsOf}
 use Rattle.touch.specs.declared.Edge.{Edge}
 use Rattle.touch.specs.Touch.{edgeAb, edgeBc, edgeCa, facingOf}
 use Rattle.above.specs.Above.{offerOf, soFar}
-use Rattle.bound.proofs.Order.{le-trans}
+use Rattle.order.proofs.Order.{le-trans}
 use Rattle.caps.proofs.Places.{not-less}
 use Rattle.tops.specs.Inside.{margin, isLow, liesLow, isApart, liesApart, isParted}
 use Rattle.bull.specs.declared.Bull.{Bull}

@@ -11,18 +11,19 @@ use lib.Ieee.{Float, nan, inf, fin, binary64, add, mul, div, neg, sum, round, lt
 use lib.Ieee.Fits.{add-fits}
 use lib.Ieee.Positive.{den, den-pos, num, positive}
 use lib.Ieee.Scale.{finite}
-use Rattle.numbers.specs.Reals.{_⊕_, _⊖_, _⊗_, _⊘_, f0, f1, noSlope}
+use Rattle.numbers.specs.Reals.{_⊕_, _⊖_, _⊗_, _⊘_, f0, f1, noSlope, million-is}
 use Rattle.roots.specs.Root.{rootOf, rootOfUnits, nearestRoot, wholeRoot}
 use Rattle.rules.proofs.Branches.{either, no}
 use Rattle.touch.specs.declared.Gradient.{Gradient}
 use Rattle.touch.specs.declared.Rest.{Rest}
 use Rattle.touch.specs.Touch.{restOf}
-use Rattle.spans.proofs.Signed.{upper, lower, le→parts, is-le, is-div}
-use Rattle.spans.proofs.Ranges.{Coordinate, extent-finite, extent-positive, finite-between, num-pos, zero-is, million-is}
-use Rattle.spans.proofs.Sizes.{above-finite, le-self}
-use Rattle.bound.proofs.Order.{O, le-trans, add-right, no-lower, own}
+use Rattle.order.proofs.Signed.{upper, lower, le→parts, is-le, is-div}
+use Rattle.spans.proofs.Ranges.{Coordinate, extent-finite, extent-positive}
+use Rattle.order.proofs.Ranges.{finite-between, num-pos, zero-is}
+use Rattle.order.proofs.Extremes.{above-finite, le-self}
+use Rattle.order.proofs.Order.{O, le-trans, add-right, no-lower, own}
 use Rattle.bound.proofs.Along.{add-parts}
-use Rattle.bound.proofs.Roots.{root-le}
+use Rattle.order.proofs.Roots.{root-le}
 use Rattle.bound.proofs.Small.{M, small-up, square-nonneg}
 use Rattle.bull.specs.declared.Bull.{Bull}
 use Rattle.bull.specs.Bull.{bullSloped, bullRest}

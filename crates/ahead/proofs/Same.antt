@@ -18,8 +18,8 @@ use Rattle.touch.specs.Touch.{edgeAb, edgeBc, edgeCa, facingOf}
 use Rattle.above.specs.Above.{offerOf, soFar}
 use Rattle.above.specs.Inside.{limitOf}
 use Rattle.above.proofs.Above.{passes, takes, waits, offers}
-use Rattle.spans.proofs.Sizes.{either-of}
-use Rattle.bound.proofs.Order.{le-trans}
+use Rattle.order.proofs.Extremes.{either-of}
+use Rattle.order.proofs.Order.{le-trans}
 use Rattle.caps.proofs.Places.{not-less, number-of}
 use Rattle.bull.specs.declared.Bull.{Bull}
 use Rattle.bull.specs.Bull.{bestSoFar, tooLow, bullEdge, bullEdges, bullVertices, bullFacet, bullContactAbove}

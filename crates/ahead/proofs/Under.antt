@@ -6,7 +6,7 @@ use lib.Dec.{T}
 use lib.Ieee.{Float, nan, inf, fin, binary64, sub, add, neg, sum, round, lt, le, eq, fits, isNan, ofBits}
 use lib.Ieee.Fits.{add-fits, sub-fits}
 use lib.Ieee.Scale.{finite}
-use Rattle.numbers.specs.Reals.{_⊕_, _⊖_, _⊗_, _⊘_, f0, f1, tiny, minusSlack, minusSlack-is, absOf, minOf}
+use Rattle.numbers.specs.Reals.{_⊕_, _⊖_, _⊗_, _⊘_, f0, f1, tiny, minusSlack, minusSlack-is, absOf, minOf, f1-is}
 use Rattle.roots.specs.Hypot.{hypotOf}
 use Rattle.rules.proofs.Branches.{either, both-true, holds}
 use Rattle.plane.specs.declared.Touch.{Touch}
@@ -24,9 +24,9 @@ use Rattle.touch.specs.declared.Rest.{Rest}
 use Rattle.touch.specs.Touch.{along, distanceAt, reachedOf, weighedOf, spotHeight, facetHeight}
 use Rattle.above.specs.Above.{offerOf, soFar}
 use Rattle.above.proofs.Above.{waits, offers}
-use Rattle.spans.proofs.Ranges.{finite-between, sub-mono}
-use Rattle.spans.proofs.Sizes.{f1-is, le-self}
-use Rattle.bound.proofs.Order.{le-trans}
+use Rattle.order.proofs.Ranges.{finite-between, sub-mono}
+use Rattle.order.proofs.Extremes.{le-self}
+use Rattle.order.proofs.Order.{le-trans}
 use Rattle.bound.proofs.Unit.{Unit}
 use Rattle.bound.proofs.Held.{max-under}
 use Rattle.caps.proofs.Places.{reached-all, number-of}

@@ -10,17 +10,14 @@ use lib.Ieee.Fits.{mul-fits}
 use lib.Ieee.Bits.{is-true}
 use lib.Ieee.Scale.{finite}
 use lib.Ieee.Positive.{den, den-pos}
-use Rattle.numbers.specs.Reals.{_⊕_, _⊖_, _⊗_, f0, f1, minOf, maxOf, absOf, clampUnit}
+use Rattle.numbers.specs.Reals.{_⊕_, _⊖_, _⊗_, f0, f1, minOf, maxOf, absOf, clampUnit, f0-is}
 use Rattle.rules.proofs.Branches.{either, by-test, no}
 use Rattle.plane.specs.Distance.{nearestT, dist2ToSegment}
-use Rattle.spans.proofs.Signed.{upper, lower, is-le, is-sub}
-use Rattle.spans.proofs.Ranges.{finite-between, sub-mono, zero-is}
-use Rattle.spans.proofs.Sizes.{either-of, le-self, not-below, max-least, f0-is}
-use Rattle.spans.proofs.Extremes.{min-either, max-first}
-use Rattle.bound.proofs.Order.{O, le-trans, neg-finite, neg-upper, sub-turns, add-is, add-left, add-right, is-mul, own, square-up, square-down}
-use Rattle.bound.proofs.Roots.{lt-le, min-first, min-second, min-up, max-up}
+use Rattle.order.proofs.Signed.{upper, lower, is-le, is-sub}
+use Rattle.order.proofs.Ranges.{finite-between, sub-mono, zero-is}
+use Rattle.order.proofs.Extremes.{either-of, le-self, not-below, max-least, min-either, max-first, lt-le, min-first, min-second, min-up, max-up, not-above}
+use Rattle.order.proofs.Order.{O, le-trans, neg-finite, neg-upper, sub-turns, add-is, add-left, add-right, is-mul, own, square-up, square-down}
 use Rattle.bound.proofs.Unit.{I}
-use Rattle.bound.proofs.Held.{not-above}
 use Rattle.bound.proofs.Along.{Between, add-parts, mul-part, along-on}
 use Rattle.bound.proofs.Small.{square-nonneg}
 use Rattle.apart.specs.Inside.{at, lowOn, highOn, lowestOn, highestOn, Ahead, Behind, Fine, Beyond, WayBeyond, Apart}

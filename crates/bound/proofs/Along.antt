@@ -1,22 +1,31 @@
 -- A coordinate between its values at 0 and 1, and what small numbers make.
 use mathlib.Core.Bool.{Bool, true, false, not, cond}
-use mathlib.Core.Path.{_≡_, refl, ap, sym, _∙_}
-use Prim.Native.Nat.{ℕ, _+_, _*_, _≤_, _<_}
-use native.Mathlib.Omega.{arith}
+use mathlib.Core.Path.{refl}
+use Prim.Native.Nat.{_≤_}
 use lib.Dec.{T, eqb}
 use lib.IntN.{pos}
-use lib.Ieee.{Float, nan, inf, fin, binary64, unlike, sum, round, add, sub, mul, neg, lt, le, fits, ofBits}
+use lib.Ieee.{Float, nan, inf, fin, binary64, unlike, add, sub, mul, neg, lt, le, ofBits}
 use lib.Ieee.Scale.{finite}
-use Rattle.numbers.specs.Reals.{_⊕_, _⊖_, _⊗_, f0, f1, million, minOf, maxOf}
+use Rattle.order.proofs.Roots.{no-count, count-rises, count-falls}
+use Rattle.numbers.specs.Reals.{_⊕_, _⊖_, _⊗_, f0, minOf, maxOf, f0-is}
 use Rattle.roots.specs.Hypot.{countOf}
 use Rattle.rules.proofs.Branches.{either, by-test}
-use Rattle.spans.proofs.Ranges.{finite-between, sub-mono}
-use Rattle.spans.proofs.Sizes.{either-of, le-self, not-below, max-least}
-use Rattle.spans.proofs.Extremes.{min-either, max-first}
+use Rattle.order.proofs.Ranges.{finite-between, sub-mono}
+use Rattle.order.proofs.Extremes.{either-of, not-below, max-least, min-either, max-first, lt-le, min-first, min-second}
 use Rattle.bound.specs.Inside.{nearerOf}
-use Rattle.bound.proofs.Order.{O, le-trans, sub-turns, add-left, add-right, mul-up, mul-down, no-lower, no-upper, square-up, square-down}
-use Rattle.bound.proofs.Roots.{lt-le, min-first, min-second, nearest-count}
+use Rattle.order.proofs.Order.{O, le-trans, add-right, mul-up, mul-down, no-lower, no-upper}
 use Rattle.bound.proofs.Unit.{I, Unit, unit-finite}
+
+-- ---- the number nearest to 0, by counts of smallest f64s
+pub nearest-count : (low high x : Float) → T (finite low) → T (finite high) → T (finite x) → T (le low x) → T (le x high) → countOf (nearerOf low high) ≤ countOf x
+unfolding nearerOf
+nearest-count low high x p q r h k =
+    by-test (lt f0 low)
+    (λ e. rw e (count-rises low x p r (rw f0-is at (lt-le f0 low e)) h))
+    (λ e.
+    by-test (lt high f0)
+    (λ g. rw (e, g) (count-falls x high r q (rw f0-is at (lt-le high f0 g)) k))
+    (λ g. rw (e, g, f0-is) (no-count false 0 (pos 0) _ refl)))
 
 -- ---- what a finite result tells of its parts
 pub add-parts : (x y : Float) → T (finite (add binary64 x y)) → T (finite x) × T (finite y)

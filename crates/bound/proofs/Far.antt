@@ -21,12 +21,12 @@ use Rattle.roots.proofs.Scales.{square-power}
 use Rattle.numbers.proofs.Signs.{under-of-le}
 use Rattle.roots.proofs.Squares.{square-twice}
 use Rattle.spans.specs.Mesh.{isRadius}
-use Rattle.spans.proofs.Signed.{parts→le}
-use Rattle.spans.proofs.Ranges.{finite-between}
+use Rattle.order.proofs.Signed.{parts→le}
+use Rattle.order.proofs.Ranges.{finite-between}
 use Rattle.bound.specs.Inside.{Beyond}
-use Rattle.bound.proofs.Order.{O, le-trans as le-on, mul-up, neg-turns}
+use Rattle.order.proofs.Order.{O, le-trans as le-on, mul-up, neg-turns}
 use Rattle.bound.proofs.Small.{M, Small, small-finite, small-up, small-radius, square-small, square-limit, square-finite, square-nonneg, sum-finite}
-use Rattle.bound.proofs.Rounded.{not-less, not-more}
+use Rattle.order.proofs.Rounded.{not-less, not-more}
 use Rattle.bound.proofs.Near.{least, leastBits, least-is, plus, square-value, square-more, squared, sum-is, product-is}
 
 -- ---- a distance of at most w is that of numbers of at most w

@@ -1,17 +1,12 @@
 -- A search on a bracket within 0..1 looks at the objective at numbers from 0 to 1 alone. So what no value there exceeds its maximum does not exceed either.
-use mathlib.Core.Bool.{Bool, true, false, cond}
-use mathlib.Core.Path.{_≡_, refl, ap, sym, _∙_}
-use Prim.Native.Nat.{ℕ, zero, suc, _+_, _*_, _≤_, _<_}
-use native.Mathlib.Nat.{zero-mul}
-use native.Mathlib.Omega.{arith}
-use borrow.Author.Tests.{le-ltb}
-use lib.Dec.{T}
-use lib.Ieee.{Float, nan, inf, fin, up, down, lt, le, eq, isNan}
+use mathlib.Core.Bool.{Bool, true, false}
+use mathlib.Core.Path.{_≡_, refl, ap, _∙_}
+use Prim.Native.Nat.{ℕ, zero, suc}
+use lib.Ieee.{Float, lt}
 use Rattle.numbers.specs.Reals.{maxOf}
 use Rattle.golden.specs.declared.Golden.{Golden}
 use Rattle.golden.specs.Search.{rises, probeOf, narrowedOf, startOf, goldenStart, goldenStep, goldenAt, bestOf, goldenMax}
-use Rattle.spans.proofs.Signed.{le→parts}
-use Rattle.spans.proofs.Sizes.{either-of}
+use Rattle.order.proofs.Extremes.{either-of}
 use Rattle.bound.proofs.Unit.{Unit, upper-stays, lower-stays}
 
 pub record Held (f : Float → Float) (g : Golden) : Type 0 where
@@ -47,39 +42,3 @@ module _ (f : Float → Float) where
       (either-of (λ z. lt b z ≡ false) (f lo) (f hi) (k lo u) (k hi v))
       (ap (lt b) (h .f1) ∙ k (g .x1) (h .x1)))
       (ap (lt b) (h .f2) ∙ k (g .x2) (h .x2))
-
--- what is at most b is not above it
-pub not-above : (v b : Float) → T (le v b) → lt b v ≡ false
-unfolding le lt eq
-not-above nan b h = absurd h
-not-above (inf true) nan h = refl
-not-above (inf true) (inf true) h = refl
-not-above (inf true) (inf false) h = refl
-not-above (inf true) (fin t n d) h = refl
-not-above (inf false) nan h = refl
-not-above (inf false) (inf true) h = absurd h
-not-above (inf false) (inf false) h = refl
-not-above (inf false) (fin t n d) h = absurd h
-not-above (fin s m e) nan h = refl
-not-above (fin s m e) (inf true) h = absurd h
-not-above (fin s m e) (inf false) h = refl
-not-above (fin false m e) (fin false n d) h =
-    le-ltb (n * up d * down e) (m * up e * down d) (omega (arith, le→parts (fin false m e) (fin false n d) tt tt h, zero-mul (down d), zero-mul (down e)))
-not-above (fin true m e) (fin false n d) h = refl
-not-above (fin false m e) (fin true n d) h =
-    le-ltb 0 (n * up d * down e + m * up e * down d) (omega (arith, le→parts (fin false m e) (fin true n d) tt tt h, zero-mul (down d), zero-mul (down e)))
-not-above (fin true m e) (fin true n d) h =
-    le-ltb (m * up e * down d) (n * up d * down e) (omega (arith, le→parts (fin true m e) (fin true n d) tt tt h, zero-mul (down d), zero-mul (down e)))
-
--- so the best so far stays beside it
-pub max-stays : (b v : Float) → isNan b ≡ false → lt b v ≡ false → maxOf b v ≡ b
-unfolding maxOf
-max-stays b v e l = rw (e, l)
-
-pub le-not-nan : (v b : Float) → T (le v b) → isNan b ≡ false
-unfolding le lt eq isNan
-le-not-nan nan nan h = absurd h
-le-not-nan (inf s) nan h = absurd h
-le-not-nan (fin s m e) nan h = absurd h
-le-not-nan v (inf s) h = refl
-le-not-nan v (fin s m e) h = refl

@@ -1,10 +1,6 @@
-pub mod Order
-pub mod Roots
 pub mod Unit
 pub mod Held
 pub mod Along
 pub mod Small
-pub mod Rounded
 pub mod Near
 pub mod Far
-pub mod Whole

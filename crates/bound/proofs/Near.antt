@@ -1,30 +1,29 @@
 -- A distance by its squares: where their sum, each operation rounded, is at most w * w * (1 - 2 ^ -50), rounded too, the distance is at most w. Four roundings go at most a part in 2 ^ 52
 -- each the wrong way, which 2 ^ -50 outweighs; a w of 2 ^ -300 or more outweighs what they lose among the smallest f64s.
-use mathlib.Core.Bool.{Bool, true, false, cond}
+use mathlib.Core.Bool.{Bool, true, false}
 use mathlib.Core.Path.{_≡_, refl, sym, ap, _∙_, subst}
 use Prim.Native.Nat.{ℕ, _+_, _-_, _*_, _/_, _^_, _≤_, _<_}
-use native.Mathlib.Nat.{mul-assoc, mul-comm, mul-left-comm, mul-right-comm, mul-one, add-mul, mul-add, mul-pos, mul-le-mul, mul-le-mul-right, mul-le-mul-left, le-trans, le-of-eq, lt-irrefl, le-of-mul-le-mul-right, le-of-mul-le-mul-left, div-mul-le-self, mul-mul-mul-comm}
+use native.Mathlib.Nat.{mul-assoc, mul-comm, mul-left-comm, mul-right-comm, add-mul, mul-add, mul-pos, mul-le-mul, mul-le-mul-right, mul-le-mul-left, le-trans, le-of-eq, lt-irrefl, le-of-mul-le-mul-right, le-of-mul-le-mul-left, div-mul-le-self, mul-mul-mul-comm}
 use native.Mathlib.Omega.{arith}
 use lib.Dec.{T, lit<, lit≤}
-use lib.IntN.{pos, negsuc}
+use lib.IntN.{negsuc}
 use lib.Pow.{pow-pos}
-use lib.Ieee.{Float, nan, inf, fin, binary64, up, down, sum, round, add, mul, lt, le, eq, fits, isNan, ofBits}
+use lib.Ieee.{Float, nan, inf, fin, binary64, up, down, sum, round, add, mul, lt, le, eq, fits, ofBits}
 use lib.Ieee.Exact.{HasValue}
 use lib.Ieee.Fits.{down-pos}
 use lib.Ieee.Scale.{finite, grid, round-same, round-val, round-under}
-use Rattle.numbers.specs.Reals.{_⊕_, _⊗_, minus1, absOf, minOf}
+use Rattle.numbers.specs.Reals.{_⊕_, _⊗_, minus1, absOf, f0-is}
 use Rattle.roots.specs.Hypot.{countOf, hypotOf}
-use Rattle.rules.proofs.Branches.{either, no, holds}
+use Rattle.rules.proofs.Branches.{no, holds}
 use Rattle.roots.proofs.Distances.{count-is, hypot-under}
 use Rattle.numbers.proofs.Signs.{under-of-le}
 use Rattle.spans.specs.Mesh.{isRadius}
-use Rattle.spans.proofs.Ranges.{finite-between}
-use Rattle.spans.proofs.Sizes.{f0-is}
+use Rattle.order.proofs.Ranges.{finite-between}
 use Rattle.bound.specs.Inside.{Within}
-use Rattle.bound.proofs.Order.{O, le-trans as le-on, mul-up}
-use Rattle.bound.proofs.Roots.{lt-le, distance-low}
+use Rattle.order.proofs.Order.{O, le-trans as le-on, mul-up}
+use Rattle.order.proofs.Roots.{distance-low}
 use Rattle.bound.proofs.Small.{M, Small, small-finite, small-up, small-radius, square-small, square-limit, square-finite, square-nonneg, sum-nonneg}
-use Rattle.bound.proofs.Rounded.{not-less, not-more}
+use Rattle.order.proofs.Rounded.{not-less, not-more}
 
 none-left : (w f : Float) → T (finite f) → T (le (add binary64 (inf false) w) f) → ⊥
 unfolding add le lt eq
@@ -341,16 +340,3 @@ below x y h = absurd (le-on O (x ⊗ x ⊕ y ⊗ y) minus1 (sum-fine x y minus1 
 
 pub near-none : (w : Float) → Within w minus1
 near-none w = record { low = λ x y h. absurd (below x y (holds _ h)); near = λ x y h. absurd (below x y (holds _ h)) }
-
--- the smaller of such a distance and any number
-never-nan : (h r : Float) → T (le h r) → isNan h ≡ true → ⊥
-unfolding le lt eq isNan
-never-nan nan r k e = absurd k
-never-nan (inf s) r k e = no e
-never-nan (fin s m c) r k e = no e
-
-pub min-under : (h z r : Float) → T (le h r) → T (le (minOf h z) r)
-unfolding minOf
-min-under h z r k =
-    either (λ v. T (le v r)) (isNan h) z (cond (lt z h) z h) (λ e. absurd (never-nan h r k e))
-    (λ e. either (λ v. T (le v r)) (lt z h) z h (λ l. le-on z h r (lt-le z h l) k) (λ l. k))

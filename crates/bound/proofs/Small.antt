@@ -1,22 +1,25 @@
 -- Numbers of at most 1e6 in size: their squares, and sums of two of these, are finite and not below 0.
-use mathlib.Core.Bool.{Bool, true, false, cond, _&&_}
-use mathlib.Core.Path.{_≡_, refl, ap, sym, _∙_}
-use Prim.Native.Nat.{ℕ, _≤_}
+use mathlib.Core.Bool.{true, false}
+use mathlib.Core.Path.{_≡_, refl}
+use Prim.Native.Nat.{_≤_}
+use native.Mathlib.Omega.{arith}
 use lib.Dec.{T}
 use lib.IntN.{pos}
-use lib.Ieee.{Float, nan, inf, fin, binary64, size, odd, units, sum, round, add, sub, mul, neg, lt, le, isNan, ofBits}
+use lib.Ieee.{Float, fin, binary64, size, odd, units, sum, round, add, mul, neg, lt, le, isNan, ofBits}
 use lib.Ieee.Scale.{finite}
-use Rattle.numbers.specs.Reals.{_⊕_, _⊖_, _⊗_, f0, million, minOf, maxOf}
+use Rattle.order.proofs.Whole.{sized, million-value, size-bounded, Bounded}
+use Rattle.numbers.specs.Reals.{_⊕_, _⊖_, _⊗_, f0, million, minOf, maxOf, million-is, f0-is}
 use Rattle.roots.specs.Root.{rootOf, rootOfUnits, nearestRoot, wholeRoot}
 use Rattle.roots.specs.Hypot.{infinite, countOf, evenRoot, hypotOfCount, hypotOf}
 use Rattle.roots.proofs.Distances.{hypot-counts}
 use Rattle.spans.specs.Mesh.{isCoordinate, isRadius}
-use Rattle.spans.proofs.Ranges.{finite-between, Coordinate, coordinate, million-is, two, minus-two, extent-finite, extent-high, extent-low}
-use Rattle.rules.proofs.Branches.{by-test}
-use Rattle.spans.proofs.Sizes.{either-of, le-self, not-below, Radius, radius, f0-is}
-use Rattle.spans.proofs.Extremes.{min-either}
-use Rattle.bound.proofs.Order.{O, le-trans, add-left, add-right, square-up, square-down}
-use Rattle.bound.proofs.Roots.{lt-le, count-rises, count-falls, distance-low}
+use Rattle.order.proofs.Ranges.{finite-between}
+use Rattle.spans.proofs.Ranges.{Coordinate, coordinate, two, minus-two, extent-finite, extent-high, extent-low}
+use Rattle.rules.proofs.Branches.{by-test, both-true}
+use Rattle.order.proofs.Extremes.{either-of, le-self, not-below, min-either, lt-le}
+use Rattle.spans.proofs.Sizes.{radius}
+use Rattle.order.proofs.Order.{O, le-trans, add-left, add-right, square-up, square-down, no-lower}
+use Rattle.order.proofs.Roots.{count-rises, count-falls, distance-low}
 use Rattle.bound.proofs.Along.{Between}
 
 -- 1e6 and -1e6
@@ -139,3 +142,17 @@ small-distance x y s t =
     let q = small-finite y t in
     let l = distance-low x y p q in
     (l, finite-between O (hypotOf x y) (hypotOf M M) tt distance-limit l (hypot-counts x y M M p q tt tt (small-count x s) (small-count y t)))
+
+-- ---- between whole numbers
+pub coordinate-bounded : (x : Float) → isCoordinate x ≡ true → Bounded 1000000 x
+unfolding isCoordinate
+coordinate-bounded x e = size-bounded x million 1000000 million-value e
+
+pub radius-bounded : (r : Float) → isRadius r ≡ true → Bounded 1000000 r
+unfolding isRadius
+radius-bounded r e =
+    let c = small-radius r e in
+    let f = finite-between O r M tt tt (c .0) (c .1) in
+    let z = no-lower r f (c .0) in
+    let h = sized r million 1000000 f z million-value (rw (both-true (le f0 r) (le r million) e .1) tt) in
+    record { fine = f; above = omega (arith, h); below = omega (arith, z) }

@@ -1,27 +1,27 @@
 -- The numbers from 0 to 1, and that both inner points of a bracket of such numbers lie there too, as they are computed.
-use mathlib.Core.Bool.{Bool, true, false}
-use mathlib.Core.Logic.{_⊎_, inl, inr}
-use mathlib.Core.Path.{_≡_, refl, ap, sym, _∙_, subst}
-use Prim.Native.Nat.{ℕ, zero, suc, _+_, _-_, _*_, _/_, _%_, _^_, _≤_, _<_}
-use native.Mathlib.Nat.{mul-sub, mul-right-comm, zero-mul, mul-zero, mul-one, one-mul, mul-comm, mul-assoc, mul-left-comm, add-mul, mul-add, mul-pos, mul-le-mul-right, mul-le-mul-left, div-add-mod', mod-lt, lt-of-mul-lt-mul-right, lt-of-lt-of-le}
+use mathlib.Core.Bool.{true, false}
+use mathlib.Core.Logic.{inl}
+use mathlib.Core.Path.{_≡_, refl, ap, sym, _∙_}
+use Prim.Native.Nat.{ℕ, _+_, _-_, _*_, _/_, _^_, _≤_, _<_}
+use native.Mathlib.Nat.{mul-sub, mul-right-comm, zero-mul, mul-zero, mul-one, one-mul, mul-comm, mul-assoc, mul-left-comm, add-mul, mul-add, mul-pos, mul-le-mul-right, div-add-mod', mod-lt, lt-of-mul-lt-mul-right, lt-of-lt-of-le}
 use native.Mathlib.Omega.{arith}
 use borrow.Author.Tests.{ltb-true, ltb-false}
 use lib.Dec.{T, ltb}
 use lib.IntN.{pos, negsuc}
 use lib.Pow.{pow-pos, pow-mono, shl-lt}
-use lib.Ieee.{Float, nan, inf, fin, binary64, up, down, round, sum, add, sub, mul, neg, le, fits, ofBits}
+use lib.Ieee.{Float, nan, inf, fin, binary64, round, sum, add, sub, neg, le, fits, ofBits}
 use lib.Ieee.Exact.{HasValue, round-exact}
 use lib.Ieee.Fits.{round-fits, add-fits, sub-fits, neg-fits}
 use lib.Ieee.Scale.{finite}
 use lib.Ieee.Positive.{den, den-pos}
-use Rattle.numbers.specs.Reals.{_⊕_, _⊖_, _⊗_, f0, f1}
+use Rattle.numbers.specs.Reals.{_⊕_, _⊖_, _⊗_}
 use Rattle.golden.specs.Phi.{phi}
 use Rattle.golden.specs.Search.{lower, upper}
-use Rattle.spans.proofs.Signed as signed
-use Rattle.spans.proofs.Signed.{le→parts, parts→le, Is, rounded, is-le, is-sub, round-neg}
-use Rattle.spans.proofs.Ranges.{finite-between, sub-mono, zero-is}
+use Rattle.order.proofs.Signed as signed
+use Rattle.order.proofs.Signed.{le→parts, Is, rounded, is-le, is-sub, round-neg}
+use Rattle.order.proofs.Ranges.{finite-between, sub-mono, zero-is}
 use Rattle.rules.proofs.Branches.{by-test}
-use Rattle.bound.proofs.Order.{O, le-trans, neg-finite, neg-neg, neg-upper, neg-turns, sub-turns, add-is, add-left, add-right, is-mul, mul-up, mul-swap, no-lower, no-upper, own, up-is, down-is}
+use Rattle.order.proofs.Order.{O, le-trans, neg-finite, neg-upper, neg-turns, sub-turns, add-is, add-right, is-mul, mul-up, mul-swap, no-lower, no-upper, own, up-is, down-is}
 
 -- 1, and phi
 abbrev pub I : Float

@@ -1,4 +1,5 @@
-// What a search can at most find. The laws in proofs/ are on the order of f64s: sums, products, roots and the points of a golden-section search keep it.
+// What a search can at most find. The laws in proofs/ say where the points of a golden-section search lie, what small numbers make, and what a sum of two
+// squares tells of a distance.
 ghost use mathlib.Core.Path.{_≡_};
 ghost use Rattle.bound.specs.Inside.{nearerOf, Within, Beyond};
 

@@ -19,10 +19,10 @@ use Rattle.above.specs.Above.{offerOf}
 use Rattle.above.specs.Inside.{limitOf}
 use Rattle.above.proofs.Above.{stays-under}
 use Rattle.spans.specs.Mesh.{isCoordinate, isRadius}
-use Rattle.spans.proofs.Ranges.{finite-between}
-use Rattle.spans.proofs.Extremes.{min-either}
-use Rattle.bound.proofs.Order.{O, le-trans}
-use Rattle.bound.proofs.Roots.{root-finite, root-le, min-first, min-second}
+use Rattle.order.proofs.Ranges.{finite-between}
+use Rattle.order.proofs.Extremes.{min-either, min-first, min-second}
+use Rattle.order.proofs.Order.{O, le-trans}
+use Rattle.order.proofs.Roots.{root-finite, root-le}
 use Rattle.bound.proofs.Small.{M, Small, small, small-finite, small-up, small-radius, small-sub, square-small, square-limit, square-finite, square-nonneg, root-limit, small-distance}
 use Rattle.caps.proofs.Places.{not-less}
 use Rattle.caps.proofs.Drops.{drop-nan, drop-more}

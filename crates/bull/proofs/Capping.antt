@@ -17,10 +17,9 @@ use Rattle.above.proofs.Above.{stays-under}
 use Rattle.golden.specs.Search.{goldenMax}
 use Rattle.touch.specs.declared.Edge.{Edge}
 use Rattle.touch.specs.Touch.{along, distanceAt}
-use Rattle.spans.proofs.Ranges.{finite-between, sub-mono}
-use Rattle.spans.proofs.Extremes.{min-either}
-use Rattle.bound.proofs.Order.{O, le-trans, sub-turns}
-use Rattle.bound.proofs.Roots.{min-second, min-up}
+use Rattle.order.proofs.Ranges.{finite-between, sub-mono}
+use Rattle.order.proofs.Extremes.{min-either, min-second, min-up}
+use Rattle.order.proofs.Order.{O, le-trans, sub-turns}
 use Rattle.bound.proofs.Along.{at}
 use Rattle.bound.proofs.Small.{M}
 use Rattle.caps.specs.Inside.{highOn, leastOn, tameOn}

@@ -10,17 +10,16 @@ use lib.Ieee.Scale.{finite}
 use lib.Ieee.Positive.{den, den-pos}
 use lib.Ieee.Bits.{is-true}
 use Rattle.rules.proofs.Branches.{holds}
-use Rattle.numbers.specs.Reals.{_⊕_, _⊖_, _⊗_, f0, minus1, minOf}
+use Rattle.numbers.specs.Reals.{_⊕_, _⊖_, _⊗_, f0, minus1, minOf, f0-is}
 use Rattle.roots.specs.Hypot.{hypotOf}
 use Rattle.spans.specs.Mesh.{isRadius}
-use Rattle.spans.proofs.Signed.{upper, lower, is-le, is-sub}
-use Rattle.spans.proofs.Ranges.{finite-between, sub-mono, zero-is}
-use Rattle.spans.proofs.Sizes.{f0-is}
-use Rattle.spans.proofs.Extremes.{min-either}
-use Rattle.bound.proofs.Order.{O, le-trans}
+use Rattle.order.proofs.Signed.{upper, lower, is-le, is-sub}
+use Rattle.order.proofs.Ranges.{finite-between, sub-mono, zero-is}
+use Rattle.order.proofs.Extremes.{min-either, min-under}
+use Rattle.order.proofs.Order.{O, le-trans}
 use Rattle.bound.proofs.Small.{small-up, small-finite, small-radius}
 use Rattle.bound.specs.Inside.{Within}
-use Rattle.bound.proofs.Near.{near-none, min-under}
+use Rattle.bound.proofs.Near.{near-none}
 use Rattle.bull.specs.declared.Bull.{Bull}
 use Rattle.bull.specs.declared.Way.{Way}
 use Rattle.bull.specs.Bull.{bullProfile}

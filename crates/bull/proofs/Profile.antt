@@ -12,10 +12,11 @@ use lib.Ieee.Bits.{is-true}
 use Rattle.numbers.specs.Reals.{_⊕_, _⊖_, _⊗_, f0, maxOf}
 use Rattle.roots.specs.Root.{rootOf}
 use Rattle.rules.proofs.Branches.{left, no, by-test}
-use Rattle.spans.proofs.Ranges.{finite-between, sub-mono, two, minus-two}
-use Rattle.spans.proofs.Sizes.{either-of, le-self, not-below, max-least}
-use Rattle.bound.proofs.Order.{O, le-trans, sub-turns, square-up}
-use Rattle.bound.proofs.Roots.{root-finite, root-le, max-up}
+use Rattle.order.proofs.Ranges.{finite-between, sub-mono}
+use Rattle.spans.proofs.Ranges.{two, minus-two}
+use Rattle.order.proofs.Extremes.{either-of, le-self, not-below, max-least, max-up}
+use Rattle.order.proofs.Order.{O, le-trans, sub-turns, square-up}
+use Rattle.order.proofs.Roots.{root-finite, root-le}
 use Rattle.bound.proofs.Small.{M, small-up, small-finite, small-sub, small-range, square-nonneg, square-small, square-limit, square-finite, root-limit}
 use Rattle.caps.proofs.Bracket.{less-none}
 use Rattle.bull.specs.Bull.{bullProfile}

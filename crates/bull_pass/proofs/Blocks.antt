@@ -11,21 +11,21 @@ use lib.Ieee.{Float, fin, binary64, sum, round, add, sub, mul, neg, lt, le, fits
 use lib.Ieee.Fits.{sub-fits, mul-fits}
 use lib.Ieee.Scale.{finite}
 use lib.Ieee.Positive.{den, den-pos}
-use Rattle.numbers.specs.Reals.{_⊕_, _⊖_, _⊗_, f0, minOf, maxOf}
+use Rattle.numbers.specs.Reals.{_⊕_, _⊖_, _⊗_, f0, minOf, maxOf, f0-is}
 use Rattle.roots.specs.Root.{rootOf}
 use Rattle.roots.specs.Hypot.{countOf, hypotOf}
 use Rattle.rules.proofs.Branches.{either, left, taken, no, both-true, by-test, holds}
 use Rattle.roots.proofs.Distances.{hypot-counts}
 use Rattle.spans.specs.Mesh.{isCoordinate}
-use Rattle.spans.proofs.Signed.{upper, lower, is-le, is-sub}
-use Rattle.spans.proofs.Ranges.{finite-between, sub-mono, zero-is, two, minus-two}
-use Rattle.spans.proofs.Sizes.{either-of, le-self, not-below, max-least, f0-is}
-use Rattle.spans.proofs.Extremes.{min-either}
+use Rattle.order.proofs.Signed.{upper, lower, is-le, is-sub}
+use Rattle.order.proofs.Ranges.{finite-between, sub-mono, zero-is}
+use Rattle.spans.proofs.Ranges.{two, minus-two}
+use Rattle.order.proofs.Extremes.{either-of, le-self, not-below, max-least, min-either, lt-le, min-second, min-up}
 use Rattle.bound.specs.Inside.{nearerOf}
-use Rattle.bound.proofs.Order.{O, le-trans, sub-turns, square-up, own}
-use Rattle.bound.proofs.Roots.{lt-le, root-finite, root-le, min-second, min-up, nearest-count, distance-low}
+use Rattle.order.proofs.Order.{O, le-trans, sub-turns, square-up, own}
+use Rattle.order.proofs.Roots.{root-finite, root-le, distance-low}
+use Rattle.bound.proofs.Along.{nearest-count, sub-parts}
 use Rattle.bound.proofs.Small.{M, Small, small, small-finite, small-up, small-sub, small-range, small-radius, small-distance, square-nonneg, square-finite}
-use Rattle.bound.proofs.Along.{sub-parts}
 use Rattle.bull.specs.Bull.{bullProfile}
 use Rattle.bull.proofs.Profile.{profile-finite, profile-finite′, profile-up}
 use Rattle.bull_pass.specs.declared.Strip.{Strip}

@@ -21,10 +21,9 @@ use Rattle.touch.specs.declared.Gradient.{Gradient}
 use Rattle.touch.specs.declared.Rest.{Rest}
 use Rattle.touch.specs.Touch.{weighedOf, spotHeight, facetHeight, restOf}
 use Rattle.spans.specs.Mesh.{isCoordinate}
-use Rattle.spans.proofs.Ranges.{finite-between, sub-mono}
-use Rattle.spans.proofs.Sizes.{either-of, not-below, above-finite}
-use Rattle.spans.proofs.Extremes.{min-either}
-use Rattle.bound.proofs.Order.{O, le-trans, sub-turns, add-left}
+use Rattle.order.proofs.Ranges.{finite-between, sub-mono}
+use Rattle.order.proofs.Extremes.{either-of, not-below, above-finite, min-either}
+use Rattle.order.proofs.Order.{O, le-trans, sub-turns, add-left}
 use Rattle.bound.proofs.Along.{Between, add-parts, sub-parts}
 use Rattle.bound.proofs.Small.{Small, small, small-finite, small-sub}
 use Rattle.bull.specs.declared.Bull.{Bull}

@@ -8,7 +8,7 @@ use lib.IntN.{pos}
 use lib.Ieee.{Float, nan, inf, fin, binary64, add, sub, mul, div, neg, lt, le, eq, fits, isNan, ofBits}
 use lib.Ieee.Fits.{div-fits}
 use lib.Ieee.Scale.{finite}
-use Rattle.numbers.specs.Reals.{_⊕_, _⊖_, _⊗_, _⊘_, f0, f1, f2, f4, minOf, maxOf}
+use Rattle.numbers.specs.Reals.{_⊕_, _⊖_, _⊗_, _⊘_, f0, f1, f2, f4, minOf, maxOf, f0-is, f1-is}
 use Rattle.roots.specs.Root.{rootOf}
 use Rattle.roots.specs.Hypot.{hypotOf}
 use Rattle.rules.proofs.Branches.{either, left, taken, no, both-true, by-test, holds}
@@ -28,13 +28,11 @@ use Rattle.touch.specs.declared.Gradient.{Gradient}
 use Rattle.above.specs.Above.{offerOf}
 use Rattle.touch.specs.Touch.{edgeAb, edgeBc, edgeCa, along, distanceAt, length2, crossedOf, reachedOf, facingOf, facetHeight}
 use Rattle.spans.specs.Mesh.{isCoordinate}
-use Rattle.spans.proofs.Ranges.{finite-between, sub-mono}
-use Rattle.spans.proofs.Sizes.{either-of, le-self, not-below, f0-is, f1-is}
-use Rattle.spans.proofs.Extremes.{min-either}
-use Rattle.bound.proofs.Order.{O, le-trans, sub-turns, add-left}
-use Rattle.bound.proofs.Roots.{lt-le}
+use Rattle.order.proofs.Ranges.{finite-between, sub-mono}
+use Rattle.order.proofs.Extremes.{either-of, le-self, not-below, min-either, lt-le, not-above, le-not-nan}
+use Rattle.order.proofs.Order.{O, le-trans, sub-turns, add-left}
 use Rattle.bound.proofs.Unit.{I, Unit, unit-finite}
-use Rattle.bound.proofs.Held.{max-under, not-above, le-not-nan}
+use Rattle.bound.proofs.Held.{max-under}
 use Rattle.bound.proofs.Along.{Between, sub-parts, add-parts}
 use Rattle.bound.proofs.Small.{Small, small, small-finite}
 use Rattle.bull.specs.declared.Bull.{Bull}

@@ -9,11 +9,9 @@ use lib.Ieee.Scale.{finite}
 use lib.Ieee.Positive.{positive}
 use Rattle.numbers.specs.Reals.{_⊕_, _⊖_, _⊗_, _⊘_, minOf, maxOf}
 use Rattle.rules.proofs.Branches.{no, by-test}
-use Rattle.spans.proofs.Ranges.{finite-between, sub-mono, div-up}
-use Rattle.spans.proofs.Sizes.{not-below}
-use Rattle.bound.proofs.Order.{O, le-trans, sub-turns, add-right, mul-up, mul-down, mul-swap, neg-finite, neg-turns, no-lower, no-upper}
-use Rattle.bound.proofs.Roots.{lt-le}
-use Rattle.bound.proofs.Held.{not-above}
+use Rattle.order.proofs.Ranges.{finite-between, sub-mono, div-up}
+use Rattle.order.proofs.Extremes.{not-below, lt-le, not-above}
+use Rattle.order.proofs.Order.{O, le-trans, sub-turns, add-right, mul-up, mul-down, mul-swap, neg-finite, neg-turns, no-lower, no-upper}
 use Rattle.bound.proofs.Along.{Between, at, add-parts, rising, falling}
 
 never : (b : Bool) (s : Bool) → T (finite (cond b nan (inf s))) → ⊥

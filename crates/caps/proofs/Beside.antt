@@ -14,9 +14,8 @@ use Rattle.above.specs.Inside.{limitOf}
 use Rattle.above.proofs.Above.{waits}
 use Rattle.golden.specs.declared.Golden.{Golden}
 use Rattle.golden.specs.Search.{rises, goldenAt, goldenMax}
-use Rattle.spans.proofs.Sizes.{either-of}
-use Rattle.bound.proofs.Order.{le-trans, add-left}
-use Rattle.bound.proofs.Held.{not-above, le-not-nan}
+use Rattle.order.proofs.Extremes.{either-of, not-above, le-not-nan}
+use Rattle.order.proofs.Order.{le-trans, add-left}
 use Rattle.caps.specs.Inside.{InnerOf, Alike}
 use Rattle.caps.proofs.Bracket.{In}
 use Rattle.caps.proofs.Inside.{largest-in}

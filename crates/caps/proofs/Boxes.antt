@@ -6,18 +6,18 @@ use lib.Dec.{T}
 use lib.IntN.{pos}
 use lib.Ieee.{Float, fin, binary64, lt, le, fits, ofBits}
 use lib.Ieee.Scale.{finite}
-use Rattle.numbers.specs.Reals.{_⊖_, f0, f1, minOf, maxOf}
+use Rattle.numbers.specs.Reals.{_⊖_, f0, f1, minOf, maxOf, f0-is, f1-is}
 use Rattle.roots.specs.Hypot.{countOf, hypotOf}
 use Rattle.rules.proofs.Branches.{both-true, holds}
 use Rattle.roots.proofs.Distances.{hypot-counts}
 use Rattle.touch.specs.declared.Edge.{Edge}
 use Rattle.touch.specs.Touch.{along, distanceAt}
 use Rattle.spans.specs.Mesh.{isCoordinate}
-use Rattle.spans.proofs.Ranges.{finite-between}
-use Rattle.spans.proofs.Sizes.{either-of, f0-is, f1-is}
+use Rattle.order.proofs.Ranges.{finite-between}
+use Rattle.order.proofs.Extremes.{either-of}
 use Rattle.bound.specs.Inside.{nearerOf}
-use Rattle.bound.proofs.Order.{O, le-trans}
-use Rattle.bound.proofs.Roots.{distance-low}
+use Rattle.order.proofs.Order.{O, le-trans}
+use Rattle.order.proofs.Roots.{distance-low}
 use Rattle.bound.proofs.Unit.{I, Unit, unit-finite}
 use Rattle.bound.proofs.Along.{Between, at, sub-parts, along-on, side-on, nearest-below, nearest-fine}
 use Rattle.bound.proofs.Small.{M, M′, Small, small, small-finite, small-between, small-distance}

@@ -20,14 +20,13 @@ use Rattle.roots.specs.Hypot.{countOf}
 use Rattle.golden.specs.Phi.{phi}
 use Rattle.roots.proofs.Distances.{count-is}
 use Rattle.golden.specs.Search as golden
-use Rattle.spans.proofs.Signed.{upper, lower, le→parts, Is, rounded, is-le, is-sub, round-neg}
-use Rattle.spans.proofs.Ranges.{finite-between, sub-mono, zero-is}
+use Rattle.order.proofs.Signed.{upper, lower, le→parts, Is, rounded, is-le, is-sub, round-neg}
+use Rattle.order.proofs.Ranges.{finite-between, sub-mono, zero-is}
 use Rattle.rules.proofs.Branches.{by-test}
-use Rattle.spans.proofs.Sizes.{not-below}
-use Rattle.bound.proofs.Order.{O, le-trans as le-on, neg-finite, neg-neg, neg-upper, sub-turns, add-is, add-right, is-mul, mul-up, mul-swap, no-lower, own}
-use Rattle.bound.proofs.Rounded.{not-more}
+use Rattle.order.proofs.Extremes.{not-below, lt-le}
+use Rattle.order.proofs.Order.{O, le-trans as le-on, neg-finite, neg-neg, neg-upper, sub-turns, add-is, add-right, is-mul, mul-up, mul-swap, no-lower, own}
+use Rattle.order.proofs.Rounded.{not-more}
 use Rattle.bound.proofs.Unit.{I, Φ, phi-is, Unit, unit-finite, less-up, upper-stays, lower-stays}
-use Rattle.bound.proofs.Roots.{lt-le}
 
 -- ---- a number from 0 on is so many smallest f64s
 record Counted (x : Float) (n : ℕ) : Type 0 where

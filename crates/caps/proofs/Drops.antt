@@ -7,7 +7,7 @@ use lib.Ieee.Scale.{finite}
 use lib.Ieee.Bits.{is-true}
 use Rattle.numbers.specs.Reals.{_⊕_, _⊖_}
 use Rattle.rules.proofs.Branches.{no, holds}
-use Rattle.bound.proofs.Order.{le-trans, sub-turns}
+use Rattle.order.proofs.Order.{le-trans, sub-turns}
 
 -- ---- a NaN leaves nothing out
 pub drop-nan : (z n b : Float) → isNan n ≡ true → le (z ⊖ n) b ≡ true → ⊥

@@ -7,10 +7,9 @@ use lib.Ieee.{Float, lt, le, isNan}
 use Rattle.numbers.specs.Reals.{maxOf}
 use Rattle.golden.specs.declared.Golden.{Golden}
 use Rattle.golden.specs.Search.{rises, probeOf, narrowedOf, startOf, goldenStart, goldenStep, goldenAt, bestOf, goldenMax}
-use Rattle.spans.proofs.Sizes.{either-of, le-self}
-use Rattle.bound.proofs.Order.{le-trans}
+use Rattle.order.proofs.Extremes.{either-of, le-self, not-above, max-stays, le-not-nan}
+use Rattle.order.proofs.Order.{le-trans}
 use Rattle.bound.proofs.Unit.{Unit, unit-finite}
-use Rattle.bound.proofs.Held.{not-above, max-stays, le-not-nan}
 use Rattle.caps.proofs.Bracket.{In, upper-in, lower-in}
 
 -- where a search stands: all places that it has still to do with lie from lo to hi

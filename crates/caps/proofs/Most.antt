@@ -8,8 +8,8 @@ use lib.Ieee.Scale.{finite}
 use Rattle.numbers.specs.Reals.{f1}
 use Rattle.roots.specs.Root.{rootOf, rootOfUnits, nearestRoot, wholeRoot}
 use Rattle.rules.proofs.Branches.{either, holds}
-use Rattle.bound.proofs.Order.{O, le-trans}
-use Rattle.bound.proofs.Roots.{root-le}
+use Rattle.order.proofs.Order.{O, le-trans}
+use Rattle.order.proofs.Roots.{root-le}
 use Rattle.caps.specs.Inside.{rootMost, root6, root12, root22, square12, square22}
 
 -- 2 ^ 22

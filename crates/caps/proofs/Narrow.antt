@@ -10,8 +10,8 @@ use Rattle.numbers.specs.Reals.{maxOf}
 use Rattle.rules.proofs.Branches.{by-test, holds}
 use Rattle.golden.specs.declared.Golden.{Golden}
 use Rattle.golden.specs.Search.{rises, probeOf, narrowedOf, startOf, goldenStart, goldenStep, goldenAt, bestOf, goldenMax}
-use Rattle.bound.proofs.Order.{O, le-trans}
-use Rattle.bound.proofs.Roots.{lt-le}
+use Rattle.order.proofs.Order.{O, le-trans}
+use Rattle.order.proofs.Extremes.{lt-le}
 use Rattle.bound.proofs.Unit.{I, Unit}
 use Rattle.caps.specs.Inside.{InnerOf}
 use Rattle.caps.proofs.Bracket.{In}

@@ -5,16 +5,15 @@ use lib.Dec.{T}
 use lib.Ieee.{Float, nan, inf, fin, binary64, neg, lt, le, eq, fits, isNan, ofBits}
 use lib.Ieee.Fits.{div-fits}
 use lib.Ieee.Scale.{finite}
-use Rattle.numbers.specs.Reals.{_⊕_, _⊖_, _⊗_, _⊘_, f0, f1, f2, f4, maxOf, minOf}
+use Rattle.numbers.specs.Reals.{_⊕_, _⊖_, _⊗_, _⊘_, f0, f1, f2, f4, maxOf, minOf, f0-is, f1-is}
 use Rattle.roots.specs.Root.{rootOf}
 use Rattle.rules.proofs.Branches.{either, by-test, no}
 use Rattle.touch.specs.declared.Edge.{Edge}
 use Rattle.touch.specs.declared.Stretch.{Stretch}
 use Rattle.touch.specs.declared.Stretch.the-variants.{Nowhere, Between}
 use Rattle.touch.specs.Touch.{length2, crossedOf, reachedOf}
-use Rattle.spans.proofs.Sizes.{either-of, not-below, f0-is, f1-is}
-use Rattle.bound.proofs.Order.{O, le-trans}
-use Rattle.bound.proofs.Roots.{lt-le}
+use Rattle.order.proofs.Extremes.{either-of, not-below, lt-le}
+use Rattle.order.proofs.Order.{O, le-trans}
 use Rattle.bound.proofs.Unit.{I, Unit}
 
 -- ---- what is not below another, of two numbers

@@ -14,11 +14,9 @@ use Rattle.numbers.specs.Reals.{_⊕_, _⊖_, _⊗_, _⊘_, f0, f1, f2, f4, min
 use Rattle.roots.specs.Root.{wholeRoot, rootOf}
 use Rattle.roots.specs.Hypot.{infinite, countOf, evenRoot, hypotOfCount, hypotOf}
 use Rattle.rules.proofs.Branches.{by-test, both-true, no}
-use Rattle.spans.proofs.Ranges.{finite-between}
-use Rattle.spans.proofs.Sizes.{not-below, max-least}
-use Rattle.spans.proofs.Extremes.{max-first}
-use Rattle.bound.proofs.Order.{O, le-trans, add-right, mul-up, mul-down, no-lower, no-upper}
-use Rattle.bound.proofs.Roots.{lt-le}
+use Rattle.order.proofs.Ranges.{finite-between}
+use Rattle.order.proofs.Extremes.{not-below, max-least, max-first, lt-le}
+use Rattle.order.proofs.Order.{O, le-trans, add-right, mul-up, mul-down, no-lower, no-upper}
 use Rattle.bound.proofs.Unit.{I}
 use Rattle.bound.proofs.Along.{add-parts, mul-part}
 use Rattle.plane.specs.declared.Touch.{Touch}

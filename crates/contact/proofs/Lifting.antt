@@ -10,7 +10,7 @@ use lib.ListN.{length}
 use lib.Ieee.Bits.{is-true}
 use Rattle.numbers.specs.Reals.{_⊘_, f0, f1}
 use Rattle.rules.proofs.Branches.{either, by-test, no}
-use Rattle.numbers.proofs.Strict.{le-not-lt}
+use Rattle.order.proofs.Strict.{le-not-lt}
 use Rattle.plane.specs.declared.Triangle.{Triangle}
 use Rattle.plane.specs.declared.Contact.{Contact}
 use Rattle.plane.specs.declared.Contact.the-variants.{Nothing, Height}
@@ -18,7 +18,7 @@ use Rattle.plane.specs.Contacts.{exceedsOf}
 use Rattle.plane.proofs.Higher.{same-waits}
 use Rattle.above.specs.Above.{soFar}
 use Rattle.above.proofs.Above.{passes, rises}
-use Rattle.spans.proofs.Sizes.{le-self}
+use Rattle.order.proofs.Extremes.{le-self}
 use Rattle.tops.specs.Inside.{isParted}
 use Rattle.bull.specs.declared.Bull.{Bull}
 use Rattle.bull.specs.Bull.{bullContactAbove}

@@ -9,7 +9,7 @@ use lib.Ieee.{Float, binary64, le, fits}
 use lib.ListN.{length}
 use Rattle.numbers.specs.Reals.{f0}
 use Rattle.rules.proofs.Branches.{both-true, holds}
-use Rattle.bound.proofs.Held.{not-above}
+use Rattle.order.proofs.Extremes.{not-above}
 use Rattle.tops.specs.Inside.{isStart}
 use Rattle.bull.specs.declared.Bull.{Bull}
 use Rattle.bull.specs.Inside.{baseOf}

@@ -10,7 +10,7 @@ use lib.Dec.{eqb}
 use lib.Ieee.{Float, nan, inf, fin, lt, le, eq, isNan}
 use Rattle.numbers.specs.Reals.{absOf}
 use Rattle.rules.proofs.Branches.{by-test, no}
-use Rattle.numbers.proofs.Strict.{lt-goes-on, lt-never-same, lt-number, le-not-lt}
+use Rattle.order.proofs.Strict.{lt-goes-on, lt-never-same, lt-number, le-not-lt}
 use Rattle.spans.specs.Mesh.{isCoordinate}
 use Rattle.rules.specs.Every.{times}
 use Rattle.plane.specs.declared.Touch.{Touch}

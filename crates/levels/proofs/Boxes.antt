@@ -11,8 +11,7 @@ use Rattle.plane.specs.Mesh.{triangleOf}
 use Rattle.plane.specs.declared.Bounds.{Bounds}
 use Rattle.plane.specs.declared.Triangle.{Triangle}
 use Rattle.spans.specs.Mesh.{isCoordinate}
-use Rattle.spans.proofs.Sizes.{either-of}
-use Rattle.spans.proofs.Extremes.{min-either}
+use Rattle.order.proofs.Extremes.{either-of, min-either}
 use Rattle.grid.specs.Boxes.{boxAt}
 use Rattle.fives.specs.Groups.{grouping, grouped, Each}
 use Rattle.fives.proofs.Grouping.{each-append}

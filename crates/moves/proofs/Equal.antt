@@ -9,9 +9,9 @@ use lib.Ieee.Scale.{finite}
 use lib.Ieee.Bits.{is-true}
 use Rattle.numbers.specs.Reals.{maxOf}
 use Rattle.rules.proofs.Branches.{by-test, no, both-true}
-use Rattle.numbers.proofs.Strict.{le-not-lt}
-use Rattle.spans.proofs.Sizes.{le-self}
-use Rattle.bound.proofs.Order.{le-trans}
+use Rattle.order.proofs.Strict.{le-not-lt}
+use Rattle.order.proofs.Extremes.{le-self}
+use Rattle.order.proofs.Order.{le-trans}
 use Rattle.moves.specs.declared.Point.{Point}
 use Rattle.moves.specs.Phases.{sameOf}
 

@@ -12,8 +12,8 @@ use lib.Ieee.{Float, le, eq}
 use lib.Ieee.Scale.{finite}
 use Rattle.numbers.specs.Reals.{maxOf}
 use Rattle.rules.proofs.Branches.{by-test, either, no}
-use Rattle.spans.proofs.Sizes.{le-self}
-use Rattle.bound.proofs.Order.{le-trans}
+use Rattle.order.proofs.Extremes.{le-self}
+use Rattle.order.proofs.Order.{le-trans}
 use Rattle.fives.specs.Tables.{roomOf}
 use Rattle.runs.specs.declared.Run.{Run}
 use Rattle.join.specs.Join.{runIn, runsIn}

@@ -8,5 +8,4 @@ pub mod Places
 pub mod Computed
 pub mod Signs
 pub mod Largest
-pub mod Strict
 pub mod Casts

@@ -10,7 +10,7 @@ use Rattle.numbers.specs.Reals.{threeMillion}
 use Rattle.rules.proofs.Branches.{both-true}
 use Rattle.plane.specs.declared.Bounds.{Bounds}
 use Rattle.spans.specs.Mesh.{isCoordinate, isRadius}
-use Rattle.bound.proofs.Whole.{Bounded, bounded-size}
+use Rattle.order.proofs.Whole.{Bounded, bounded-size}
 use Rattle.grid.specs.Boxes.{boxAt}
 use Rattle.grid.specs.Index.{Index}
 use Rattle.query.specs.Asked.{isPoint}

@@ -6,7 +6,7 @@ use lib.Ieee.{Float, nan, inf, fin, lt, isNan}
 use lib.Ieee.Bits.{is-true, is-false}
 use Rattle.numbers.specs.Reals.{maxOf}
 use Rattle.rules.proofs.Branches.{either, by-test, no}
-use Rattle.numbers.proofs.Strict.{lt-goes-on, lt-never-same, lt-number}
+use Rattle.order.proofs.Strict.{lt-goes-on, lt-never-same, lt-number}
 use Rattle.plane.specs.declared.Touch.{Touch}
 use Rattle.plane.specs.declared.Contact.{Contact}
 use Rattle.plane.specs.declared.Contact.the-variants.{Nothing, Height}

@@ -12,11 +12,10 @@ use lib.Ieee.Bits.{is-true}
 use lib.Ieee.Scale.{finite}
 use Rattle.numbers.specs.Reals.{_⊕_, _⊖_, absOf, threeMillion}
 use Rattle.rules.proofs.Branches.{by-test, no}
-use Rattle.numbers.proofs.Strict.{le-not-lt}
-use Rattle.spans.proofs.Ranges.{sub-mono}
-use Rattle.spans.proofs.Sizes.{le-self}
-use Rattle.bound.proofs.Order.{le-trans}
-use Rattle.bound.proofs.Roots.{lt-le}
+use Rattle.order.proofs.Strict.{le-not-lt}
+use Rattle.order.proofs.Ranges.{sub-mono}
+use Rattle.order.proofs.Extremes.{le-self, lt-le}
+use Rattle.order.proofs.Order.{le-trans}
 use Rattle.bound.proofs.Along.{sub-parts}
 use Rattle.height.proofs.Halting.{none-above}
 use Rattle.runs.specs.declared.Run.{Run}

@@ -12,13 +12,13 @@ use lib.Ieee.Fits.{up-pos, down-pos, add-fits, mul-fits}
 use lib.Ieee.Order.{le-of-values, round-mono}
 use lib.Ieee.Scale.{finite}
 use lib.Ieee.Bits.{is-true}
-use Rattle.numbers.specs.Reals.{num, _⊕_, _⊗_, absOf, million}
+use Rattle.numbers.specs.Reals.{num, _⊕_, _⊗_, absOf, million, million-is}
 use Rattle.grid.specs.Boxes.{boxAt}
 use Rattle.numbers.proofs.Counts.{round-self}
 use Rattle.cells.proofs.Sets.{by-lt}
 use Rattle.spans.specs.Mesh.{isCoordinate}
-use Rattle.spans.proofs.Signed.{upSigned, round-up}
-use Rattle.spans.proofs.Ranges.{million-is, finite-between, le-trans-finite}
+use Rattle.order.proofs.Signed.{upSigned, round-up}
+use Rattle.order.proofs.Ranges.{finite-between, le-trans-finite}
 use Rattle.rules.specs.Every.{every}
 use Rattle.query.specs.Usable.{cornersUsable, areCoordinates, boxUsable, triangleUsable}
 use Rattle.query.specs.Inside.{sevenSquares}

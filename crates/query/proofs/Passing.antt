@@ -11,8 +11,7 @@ use lib.ListN.{length, getD}
 use Rattle.numbers.specs.Reals.{num}
 use Rattle.plane.specs.Mesh.{triangleOf, lowest, highest, topOf, boundsOf}
 use Rattle.spans.specs.Mesh.{isCoordinate, boxOf}
-use Rattle.spans.proofs.Extremes.{min-either}
-use Rattle.spans.proofs.Sizes.{either-of}
+use Rattle.order.proofs.Extremes.{min-either, either-of}
 use Rattle.walk.specs.Walk.{cell}
 use Rattle.grid.specs.Boxes.{isBoxed}
 use Rattle.grid.specs.Index.{Index, SoundIndex}

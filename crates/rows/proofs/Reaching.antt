@@ -11,13 +11,14 @@ use lib.Dec.{ltb}
 use lib.IntN.{pos}
 use lib.Ieee.{Float, nan, inf, fin, lt, isNan, toUnsigned, ofBits}
 use lib.ListN.{length}
-use Rattle.numbers.specs.Reals.{_⊕_, _⊖_, _⊗_, _⊘_, f1, maxOf}
+use Rattle.numbers.specs.Reals.{_⊕_, _⊖_, _⊗_, _⊘_, f1, maxOf, f1-is}
 use Rattle.numbers.specs.Rounding.{roundUpOf}
 use Rattle.rules.proofs.Branches.{either, by-test, no}
 use Rattle.spans.specs.Mesh.{isRadius}
-use Rattle.spans.proofs.Ranges.{cut-up}
-use Rattle.spans.proofs.Sizes.{f1-is, not-below}
-use Rattle.bound.proofs.Whole.{Within, Bounded, within-more, bounded-add, bounded-sub, within-mul, within-times, within-div, ahead, back, ahead-few, back-few, width-within, further, coordinate-bounded, radius-bounded}
+use Rattle.order.proofs.Ranges.{cut-up}
+use Rattle.order.proofs.Extremes.{not-below}
+use Rattle.order.proofs.Whole.{Within, Bounded, within-more, bounded-add, bounded-sub, within-mul, within-times, within-div, ahead, back, ahead-few, back-few, width-within, further}
+use Rattle.bound.proofs.Small.{coordinate-bounded, radius-bounded}
 use Rattle.fives.specs.Groups.{Each}
 use Rattle.fives.proofs.Grouping.{each-append}
 use Rattle.levels.specs.declared.Level.{Level}

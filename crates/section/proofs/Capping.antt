@@ -12,7 +12,7 @@ use lib.Ieee.Fits.{add-fits}
 use lib.Ieee.Positive.{den, den-pos}
 use lib.Ieee.Scale.{finite}
 use lib.Ieee.Bits.{is-true}
-use Rattle.numbers.specs.Reals.{_⊕_, _⊖_, _⊗_, f0, f1, million, billion, minOf, maxOf, absOf}
+use Rattle.numbers.specs.Reals.{_⊕_, _⊖_, _⊗_, f0, f1, million, billion, minOf, maxOf, absOf, million-is, f0-is}
 use Rattle.golden.specs.Phi.{phi60}
 use Rattle.roots.specs.Root.{rootOf}
 use Rattle.rules.proofs.Branches.{either, by-test, both-true, no, holds}
@@ -28,11 +28,12 @@ use Rattle.touch.specs.declared.Stretch.{Stretch}
 use Rattle.touch.specs.declared.Stretch.the-variants.{Nowhere, Between}
 use Rattle.touch.specs.Touch.{along, distanceAt, length2, reachedOf}
 use Rattle.spans.specs.Mesh.{isCoordinate}
-use Rattle.spans.proofs.Signed.{upper, lower, parts→le, is-le, is-sub}
-use Rattle.spans.proofs.Ranges.{finite-between, sub-mono, two, minus-two, zero-is, million-is}
-use Rattle.spans.proofs.Sizes.{either-of, le-self, not-below, f0-is, max-least}
-use Rattle.bound.proofs.Order.{O, le-trans, sub-turns, add-left, add-right, mul-up, mul-down, mul-swap, no-lower, no-upper, is-mul, own}
-use Rattle.bound.proofs.Roots.{lt-le, root-finite}
+use Rattle.order.proofs.Signed.{upper, lower, parts→le, is-le, is-sub}
+use Rattle.order.proofs.Ranges.{finite-between, sub-mono, zero-is}
+use Rattle.spans.proofs.Ranges.{two, minus-two}
+use Rattle.order.proofs.Extremes.{either-of, le-self, not-below, max-least, lt-le}
+use Rattle.order.proofs.Order.{O, le-trans, sub-turns, add-left, add-right, mul-up, mul-down, mul-swap, no-lower, no-upper, is-mul, own}
+use Rattle.order.proofs.Roots.{root-finite}
 use Rattle.bound.proofs.Unit.{I, Unit, unit-finite}
 use Rattle.bound.proofs.Along.{at, along-between, Between as Lies}
 use Rattle.bound.proofs.Small.{M, M′, Small, sum-nonneg, small, small-finite, small-up, small-sub, small-range, small-between}

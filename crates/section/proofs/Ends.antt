@@ -13,9 +13,9 @@ use Rattle.rules.proofs.Branches.{by-test, no, holds}
 use Rattle.golden.specs.Search.{goldenMax}
 use Rattle.touch.specs.declared.Edge.{Edge}
 use Rattle.touch.specs.Touch.{along, distanceAt}
-use Rattle.spans.proofs.Ranges.{sub-mono}
-use Rattle.bound.proofs.Order.{O, le-trans, sub-turns, add-right, mul-up, no-lower}
-use Rattle.bound.proofs.Roots.{min-up}
+use Rattle.order.proofs.Ranges.{sub-mono}
+use Rattle.order.proofs.Order.{O, le-trans, sub-turns, add-right, mul-up, no-lower}
+use Rattle.order.proofs.Extremes.{min-up}
 use Rattle.bound.proofs.Along.{at}
 use Rattle.bound.proofs.Small.{M, small-finite}
 use Rattle.caps.specs.Inside.{highOn, leastOn, tameOn}

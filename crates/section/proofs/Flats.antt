@@ -8,7 +8,7 @@ use Rattle.numbers.specs.Reals.{_⊕_, _⊖_, _⊗_, minOf}
 use Rattle.roots.specs.Hypot.{hypotOf}
 use Rattle.touch.specs.declared.Edge.{Edge}
 use Rattle.touch.specs.Touch.{along, distanceAt}
-use Rattle.bound.proofs.Near.{min-under}
+use Rattle.order.proofs.Extremes.{min-under}
 use Rattle.section.specs.declared.Section.{Section}
 use Rattle.section.specs.declared.Surface.the-variants.{Beyond, Over}
 use Rattle.section.specs.Section.{profileOf, heightOver, sectionAt}

@@ -12,7 +12,7 @@ use Rattle.rules.proofs.Branches.{by-test, no, holds}
 use Rattle.plane.specs.declared.Contact.{Contact}
 use Rattle.above.specs.Above.{offerOf}
 use Rattle.bound.specs.Inside.{Beyond as Outside}
-use Rattle.bound.proofs.Order.{le-trans}
+use Rattle.order.proofs.Order.{le-trans}
 use Rattle.section.specs.declared.Section.{Section}
 use Rattle.section.specs.declared.Surface.the-variants.{Beyond}
 use Rattle.section.specs.Section.{profileOf, sectionUnder, sectionVertex}

@@ -9,14 +9,15 @@ use lib.Ieee.{Float, nan, inf, fin, binary64, sum, round, add, sub, mul, neg, lt
 use lib.Ieee.Fits.{sub-fits, mul-fits}
 use lib.Ieee.Positive.{den, den-pos}
 use lib.Ieee.Scale.{finite}
-use Rattle.numbers.specs.Reals.{_⊖_, _⊗_, f0, million, maxOf}
+use Rattle.numbers.specs.Reals.{_⊖_, _⊗_, f0, million, maxOf, million-is, f0-is}
 use Rattle.roots.specs.Root.{rootOf}
 use Rattle.rules.proofs.Branches.{no, by-test}
-use Rattle.spans.proofs.Signed.{upper, lower, is-le, is-sub}
-use Rattle.spans.proofs.Ranges.{finite-between, sub-mono, Coordinate, million-is, extent-positive, two}
-use Rattle.spans.proofs.Sizes.{either-of, le-self, not-below, max-least, f0-is}
-use Rattle.bound.proofs.Order.{O, le-trans, sub-turns, square-up, no-lower, own}
-use Rattle.bound.proofs.Roots.{root-finite, root-le, lt-le}
+use Rattle.order.proofs.Signed.{upper, lower, is-le, is-sub}
+use Rattle.order.proofs.Ranges.{finite-between, sub-mono}
+use Rattle.spans.proofs.Ranges.{Coordinate, extent-positive, two}
+use Rattle.order.proofs.Extremes.{either-of, le-self, not-below, max-least, lt-le}
+use Rattle.order.proofs.Order.{O, le-trans, sub-turns, square-up, no-lower, own}
+use Rattle.order.proofs.Roots.{root-finite, root-le}
 use Rattle.bound.proofs.Small.{M, M′, Small, small-up, small-finite, small-sub, small-range, square-nonneg, square-finite}
 use Rattle.bull.specs.Bull.{bullProfile}
 

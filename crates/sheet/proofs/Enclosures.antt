@@ -7,16 +7,14 @@ use lib.Ieee.{Float, binary64, mul, round, fits, lt, le}
 use lib.Ieee.Fits.{mul-fits, div-fits}
 use lib.Ieee.Scale.{finite}
 use lib.ListN.{length}
-use Rattle.numbers.specs.Reals.{_⊗_, f0, f2, million}
+use Rattle.numbers.specs.Reals.{_⊗_, f0, f2, million, million-is, f0-is}
 use Rattle.roots.specs.Root.{rootOf}
 use Rattle.rules.proofs.Branches.{no, both-true, by-test, holds}
 use Rattle.section.specs.declared.Section.{Section}
 use Rattle.section.specs.Section.{within, positiveReach, validSection, profileOf, heightOver}
 use Rattle.flatten.specs.Flat.{flatOf}
-use Rattle.spans.proofs.Ranges.{million-is}
-use Rattle.spans.proofs.Sizes.{f0-is}
-use Rattle.bound.proofs.Order.{O, le-trans, square-up}
-use Rattle.bound.proofs.Roots.{root-le}
+use Rattle.order.proofs.Order.{O, le-trans, square-up}
+use Rattle.order.proofs.Roots.{root-le}
 use Rattle.bound.proofs.Small.{M, small-up, small-finite, square-nonneg, square-finite}
 use Rattle.tool.specs.Tool.{sectionOf}
 use Rattle.sheet.specs.declared.Shape.{Shape}

@@ -1,7 +1,7 @@
 -- `cut` at its two ends: below 1 it gives 0, from 2^64 on the largest u64.
-use mathlib.Core.Bool.{Bool, true, false, not, _&&_, _||_}
+use mathlib.Core.Bool.{Bool, true, false, _&&_, _||_}
 use mathlib.Core.Path.{_≡_, refl, sym}
-use Prim.Native.Nat.{ℕ, zero, _+_, _-_, _*_, _/_, _^_, _≤_, _<_, min}
+use Prim.Native.Nat.{ℕ, _+_, _-_, _*_, _/_, _^_, _≤_, _<_, min}
 use native.Mathlib.Nat.{one-mul, mul-one, div-eq-of-lt, le-div-iff-mul-le}
 use native.Mathlib.Omega.{arith}
 use borrow.Author.Tests.{ltb-false, eqb-true, eqb-false}
@@ -9,16 +9,11 @@ use lib.Dec.{T, ltb, eqb, lt→ltb}
 use lib.IntN.{ℤ, pos}
 use lib.Ieee.{Float, nan, inf, fin, binary64, ofBits, up, down, lt, le, eq, toUnsigned}
 use lib.Ieee.Fits.{down-pos}
-use Rattle.numbers.specs.Reals.{f1}
-use Rattle.rules.proofs.Branches.{no, holds}
+use Rattle.rules.proofs.Branches.{no}
 
 -- 2 ^ 64
 abbrev pub past64 : Float
 past64 = ofBits binary64 0x43f0_0000_0000_0000
-
-pub f1-is : f1 ≡ fin false 1 (pos 0)
-unfolding ofBits
-f1-is = refl
 
 pub past64-is : past64 ≡ fin false 1 (pos 64)
 unfolding ofBits

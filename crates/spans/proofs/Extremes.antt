@@ -9,47 +9,16 @@ use lib.Dec.{T, ltb}
 use lib.ListN.{length}
 use lib.Ieee.{Float, nan, inf, fin, lt, le, isNan}
 use lib.Ieee.Scale.{finite}
-use Rattle.numbers.specs.Reals.{_⊖_, _⊘_, num, maxOf, minOf}
+use Rattle.numbers.specs.Reals.{_⊖_, _⊘_, num, maxOf, minOf, f0-is}
 use Rattle.plane.specs.Mesh.{triangleOf, lowest, highest, boundsOf}
 use Rattle.spans.specs.Mesh.{isCoordinate, boxOf, widened, extentOf}
 use Rattle.spans.specs.Axis.{cellAt, cellsAlong, stretchOf}
 use Rattle.spans.specs.Inside.{Near}
 use Rattle.spans.proofs.Rounding.{round-down-cuts}
-use Rattle.spans.proofs.Ranges.{Coordinate, coordinate, coordinate-finite, le-trans-finite}
-use Rattle.spans.proofs.Sizes.{Size, f0-is, either-of, le-self, not-below, quotient-low, cells-few, cells-mono}
-use Rattle.rules.proofs.Branches.{by-test}
-
--- ---- the smaller and the larger of two finite numbers
-lt-le : (x y : Float) → lt x y ≡ true → T (le x y)
-unfolding le
-lt-le x y e = rw e tt
-
-pub min-either : (P : Float → Type 0) (x y : Float) → P x → P y → P (minOf x y)
-unfolding minOf
-min-either P x y p q = by-test (isNan x) (λ e. rw e q) (λ e. by-test (lt y x) (λ f. rw (e, f) q) (λ f. rw (e, f) p))
-
-not-nan : (x : Float) → T (finite x) → isNan x ≡ false
-unfolding isNan
-not-nan nan p = absurd p
-not-nan (inf s) p = absurd p
-not-nan (fin s m e) p = refl
-
-module _ (x y : Float) (p : T (finite x)) (q : T (finite y)) where
-  min-first : T (le (minOf x y) x)
-  unfolding minOf
-  min-first = rw (not-nan x p) (by-test (lt y x) (λ f. rw f (lt-le y x f)) (λ f. rw f (le-self x p)))
-
-  min-second : T (le (minOf x y) y)
-  unfolding minOf
-  min-second = rw (not-nan x p) (by-test (lt y x) (λ f. rw f (le-self y q)) (λ f. rw f (not-below y x q p f)))
-
-  pub max-first : T (le x (maxOf x y))
-  unfolding maxOf
-  max-first = rw (not-nan x p) (by-test (lt x y) (λ f. rw f (lt-le x y f)) (λ f. rw f (le-self x p)))
-
-  max-second : T (le y (maxOf x y))
-  unfolding maxOf
-  max-second = rw (not-nan x p) (by-test (lt x y) (λ f. rw f (le-self y q)) (λ f. rw f (not-below x y p q f)))
+use Rattle.spans.proofs.Ranges.{Coordinate, coordinate, coordinate-finite}
+use Rattle.order.proofs.Ranges.{le-trans-finite}
+use Rattle.spans.proofs.Sizes.{Size, quotient-low, cells-few, cells-mono}
+use Rattle.order.proofs.Extremes.{either-of, le-self, min-either, max-least, max-first, min-first, min-second}
 
 -- beside the infinities that the extremes start from
 min-start : (y : Float) → T (finite y) → minOf (inf false) y ≡ y
@@ -121,7 +90,7 @@ module _ (f : ℕ → Float) where
       let b = g (suc n) (omega arith) in
       last-or i (suc n) h
       (λ l. le-trans-finite _ (most f (suc n)) _ (g i h) a (most-finite (suc n) g) (le-most n (λ i h. g i (omega arith)) i l) (max-first _ _ a b))
-      (λ e. rw e (max-second _ _ a b))
+      (λ e. rw e (max-least _ _ a b))
 
 -- ---- on one axis: the boxes' ends, of which each is a coordinate
 good-finite : (x : Float) → isCoordinate x ≡ true → T (finite x)
@@ -161,7 +130,7 @@ three a b c p q r =
     let high = either-of (λ v. isCoordinate v ≡ true) a b p q in
     let l = min-either (λ v. isCoordinate v ≡ true) _ c low r in
     let h = either-of (λ v. isCoordinate v ≡ true) _ c high r in
-    (l, h, le-trans-finite _ c _ (good-finite _ l) (good-finite c r) (good-finite _ h) (min-second _ c (good-finite _ low) (good-finite c r)) (max-second _ c (good-finite _ high) (good-finite c r)))
+    (l, h, le-trans-finite _ c _ (good-finite _ l) (good-finite c r) (good-finite _ h) (min-second _ c (good-finite _ low) (good-finite c r)) (max-least _ c (good-finite _ high) (good-finite c r)))
 
 -- ---- of a mesh
 module _ (mesh : List Float) where

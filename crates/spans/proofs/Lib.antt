@@ -2,7 +2,6 @@ pub mod Cutting
 pub mod Searching
 pub mod Folding
 pub mod Rounding
-pub mod Signed
 pub mod Ranges
 pub mod Sizes
 pub mod Extremes

@@ -15,10 +15,9 @@ use lib.Ieee.Order.{round-mono}
 use lib.Ieee.Exact.{HasValue}
 use lib.Ieee.Back.{round-whole, unsigned-back}
 use lib.Ieee.Positive.{num, den, positive, own-value, between, positive-of-value, values-of-le}
-use Rattle.numbers.specs.Reals.{_⊕_, _⊖_, f0}
-use Rattle.spans.proofs.Signed.{le→parts}
+use Rattle.numbers.specs.Reals.{_⊕_, _⊖_, f0, f0-is}
+use Rattle.order.proofs.Signed.{le→parts}
 use Rattle.rules.proofs.Branches.{by-test}
-use Rattle.spans.proofs.Sizes.{f0-is}
 
 -- 2 ^ 52
 abbrev shift : Float

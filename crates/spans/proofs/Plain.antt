@@ -10,15 +10,14 @@ use lib.IntN.{ℤ, pos}
 use lib.ListN.{length}
 use lib.Ieee.{Float, nan, inf, fin, binary64, ofBits, up, down, neg, lt, le, isNan}
 use lib.Ieee.Bits.{is-true}
-use Rattle.numbers.specs.Reals.{f0, million, maxOf, minOf, absOf}
+use Rattle.numbers.specs.Reals.{f0, million, maxOf, absOf, million-is}
 use Rattle.rules.proofs.Branches.{no, by-test}
 use Rattle.plane.specs.Mesh.{triangleOf}
 use Rattle.spans.specs.Mesh.{isCoordinate, widened, extentOf, farther}
 use Rattle.spans.specs.Inside.{Good, AllGood, Corners, Ends, notNegative}
-use Rattle.spans.proofs.Signed.{le-apart}
-use Rattle.spans.proofs.Ranges.{million-is}
-use Rattle.spans.proofs.Sizes.{either-of}
-use Rattle.spans.proofs.Extremes.{min-either, box-x, box-y}
+use Rattle.order.proofs.Signed.{le-apart}
+use Rattle.order.proofs.Extremes.{either-of, max-not-nan, min-not-nan}
+use Rattle.spans.proofs.Extremes.{box-x, box-y}
 
 -- ---- a coordinate lies from -1e6 to 1e6
 abbrev pub minusMillion : Float
@@ -61,12 +60,6 @@ unfolding isCoordinate absOf isNan le
 good-not-nan nan e = sym e
 good-not-nan (inf s) e = refl
 good-not-nan (fin s m k) e = refl
-
-pub min-not-nan : (x y : Float) → isNan x ≡ false → isNan y ≡ false → isNan (minOf x y) ≡ false
-min-not-nan x y p q = min-either (λ v. isNan v ≡ false) x y p q
-
-pub max-not-nan : (x y : Float) → isNan x ≡ false → isNan y ≡ false → isNan (maxOf x y) ≡ false
-max-not-nan x y p q = either-of (λ v. isNan v ≡ false) x y p q
 
 -- ---- magnitudes
 notNegative-not-nan : (m : Float) → notNegative m ≡ true → isNan m ≡ false

@@ -1,5 +1,5 @@
 -- The eps of a mesh of coordinates: above 0 and at most 2e-6.
-use mathlib.Core.Bool.{Bool, true, false}
+use mathlib.Core.Bool.{true, false}
 use mathlib.Core.List.{List}
 use mathlib.Core.Path.{_≡_, refl, subst}
 use Prim.Native.Nat.{ℕ, zero, suc, _+_, _*_, _≤_, _<_}
@@ -8,17 +8,18 @@ use native.Mathlib.Omega.{arith}
 use lib.Dec.{T, ltb→lt}
 use lib.IntN.{pos, negsuc}
 use lib.ListN.{length}
-use lib.Ieee.{Float, nan, inf, fin, binary64, ofBits, up, down, mul, round, lt, le}
+use lib.Ieee.{Float, nan, inf, fin, binary64, up, down, mul, round, lt, le}
 use lib.Ieee.Fits.{up-pos}
 use lib.Ieee.Positive.{positive, positive-finite, between, mul-mono}
 use lib.Ieee.Scale.{finite}
 use lib.Ieee.Bits.{is-true}
-use Rattle.numbers.specs.Reals.{_⊗_, f0, f1, slack, million, twoMillionths, num, maxOf, absOf}
+use Rattle.numbers.specs.Reals.{_⊗_, f0, f1, million, twoMillionths, num, maxOf, absOf, million-is, f1-is, f0-is, slack-is, twoMillionths-is}
 use Rattle.plane.specs.Mesh.{triangleOf}
 use Rattle.spans.specs.Mesh.{isCoordinate, farther, farthestOf, scaleOf, epsOf}
-use Rattle.spans.proofs.Signed.{parts→lt}
-use Rattle.spans.proofs.Ranges.{million-is, absolute-finite, le-trans-finite}
-use Rattle.spans.proofs.Sizes.{either-of, max-least, above-finite, f1-is}
+use Rattle.order.proofs.Signed.{parts→lt}
+use Rattle.spans.proofs.Ranges.{absolute-finite}
+use Rattle.order.proofs.Ranges.{le-trans-finite}
+use Rattle.order.proofs.Extremes.{either-of, max-least, above-finite}
 
 -- 1e6, 1e-12
 abbrev largest : Float
@@ -26,18 +27,6 @@ largest = fin false 15625 (pos 6)
 
 abbrev slight : Float
 slight = fin false 4951760157141521 (negsuc 91)
-
-slack-is : slack ≡ slight
-unfolding ofBits
-slack-is = refl
-
-f0-is : f0 ≡ fin false 0 (pos 0)
-unfolding ofBits
-f0-is = refl
-
-bound-is : twoMillionths ≡ fin false 4722366482869645 (negsuc 70)
-unfolding ofBits
-bound-is = refl
 
 positive-lt : (x : Float) → T (positive x) → T (lt (fin false 0 (pos 0)) x)
 positive-lt nan p = absurd p
@@ -114,4 +103,4 @@ module _ (mesh : List Float) (good : (k : ℕ) → k < length mesh → isCoordin
 
     pub eps-under : le (epsOf mesh n) twoMillionths ≡ true
     unfolding epsOf scale
-    eps-under = rw (bound-is, slack-is) (is-true _ eps-high)
+    eps-under = rw (twoMillionths-is, slack-is) (is-true _ eps-high)

@@ -1,26 +1,26 @@
 -- The size of a cell lies from 1e-6 to 2e6, so a coordinate's cell is at most number 2e12, and larger coordinates lie in no lower cell.
-use mathlib.Core.Bool.{Bool, true, false, not, _&&_}
+use mathlib.Core.Bool.{Bool, true, false, _&&_}
 use mathlib.Core.Path.{_≡_, refl, subst}
-use Prim.Native.Nat.{ℕ, _+_, _*_, _≤_, _<_}
+use Prim.Native.Nat.{ℕ, _*_, _≤_, _<_}
 use native.Mathlib.Nat.{zero-mul, mul-one, mul-pos, mul-le-mul-right}
 use native.Mathlib.Omega.{arith}
-use borrow.Author.Tests.{ltb-false}
 use lib.Dec.{T}
 use lib.IntN.{pos, negsuc}
-use lib.Ieee.{Float, nan, inf, fin, binary64, up, down, div, lt, le, toUnsigned, ofInt, fits, size, units, odd, ofBits, isNan, round}
+use lib.Ieee.{Float, fin, binary64, div, le, toUnsigned, ofInt, fits, size, units, odd, round}
 use lib.Ieee.Fits.{ofInt-fits}
 use lib.Ieee.Order.{round-mono}
 use lib.Ieee.Scale.{finite}
-use lib.Ieee.Positive.{num, den, den-pos, positive, above, above-of-le, between, le→cross}
-use Rattle.rules.proofs.Branches.{by-test}
-use Rattle.numbers.specs.Reals.{_⊖_, _⊘_, million, millionth, f0, f1, f4, maxOf}
+use lib.Ieee.Positive.{num, den, den-pos, positive, between, le→cross}
+use Rattle.order.proofs.Extremes.{above-finite, either-of, max-least}
+use Rattle.numbers.specs.Reals.{_⊖_, _⊘_, million, millionth, f0, f1, f4, maxOf, millionth-is, million-is, f0-is, f1-is, f4-is}
 use Rattle.roots.specs.Root.{rootOf, rootOfUnits, nearestRoot, wholeRoot}
 use Rattle.roots.proofs.Monotone.{root-mono}
 use Rattle.spans.specs.Mesh.{isRadius}
 use Rattle.spans.specs.Axis.{spanOf, sizeOf, truncated, cellAt}
 use Rattle.spans.specs.declared.Extent.{Extent}
-use Rattle.spans.proofs.Signed.{upper, lower, le→parts, parts→le, is-le, is-div}
-use Rattle.spans.proofs.Ranges.{Coordinate, coordinate-finite, two, zero-is, extent-high, extent-finite, extent-positive, millionth-is, million-is, finite-between, le-trans-finite, num-pos, sub-mono, div-up, div-both, cut-up}
+use Rattle.order.proofs.Signed.{upper, lower, le→parts, is-le, is-div}
+use Rattle.spans.proofs.Ranges.{Coordinate, coordinate-finite, two, extent-high, extent-finite, extent-positive}
+use Rattle.order.proofs.Ranges.{zero-is, finite-between, le-trans-finite, num-pos, sub-mono, div-up, div-both, cut-up}
 
 -- 1e-6
 abbrev tiny : Float
@@ -68,53 +68,6 @@ cells-mono lo x y s cl cx cy z h k =
     let fy = coordinate-finite y cy in
     cut-up 64 _ _ (quotient-finite lo x s cl cx z h) (quotient-finite lo y s cl cy z (le-trans-finite lo x y fl fx fy h k))
     (div-up binary64 (x ⊖ lo) (y ⊖ lo) s (extent-finite x lo cx cl) (extent-finite y lo cy cl) (size-positive s z) (sub-mono binary64 x y lo fx fy fl k))
-
--- ---- maxima
-pub either-of : (P : Float → Type 0) (x y : Float) → P x → P y → P (maxOf x y)
-unfolding maxOf
-either-of P x y p q = by-test (isNan x) (λ e. rw e q) (λ e. by-test (lt x y) (λ f. rw (e, f) q) (λ f. rw (e, f) p))
-
-pub le-self : (y : Float) → T (finite y) → T (le y y)
-le-self y p = parts→le y y p p (omega arith)
-
--- not below is at least
-pub not-below : (x y : Float) → T (finite x) → T (finite y) → lt x y ≡ false → T (le y x)
-unfolding lt
-not-below nan y p q e = absurd p
-not-below (inf s) y p q e = absurd p
-not-below (fin s m k) nan p q e = absurd q
-not-below (fin s m k) (inf t) p q e = absurd q
-not-below (fin false m k) (fin false n d) p q e = parts→le (fin false n d) (fin false m k) tt tt (omega (arith, ltb-false (m * up k * down d) (n * up d * down k) e, zero-mul (down k), zero-mul (down d)))
-not-below (fin false m k) (fin true n d) p q e = parts→le (fin true n d) (fin false m k) tt tt (omega (arith, zero-mul (down k), zero-mul (down d)))
-not-below (fin true m k) (fin false n d) p q e =
-    parts→le (fin false n d) (fin true m k) tt tt (omega (arith, ltb-false 0 (m * up k * down d + n * up d * down k) e, zero-mul (down k), zero-mul (down d)))
-not-below (fin true m k) (fin true n d) p q e = parts→le (fin true n d) (fin true m k) tt tt (omega (arith, ltb-false (n * up d * down k) (m * up k * down d) e, zero-mul (down k), zero-mul (down d)))
-
--- a maximum is at least its second number
-pub max-least : (x y : Float) → T (finite x) → T (finite y) → T (le y (maxOf x y))
-unfolding maxOf
-max-least x y p q = by-test (isNan x) (λ e. rw e (le-self y q)) (λ e. by-test (lt x y) (λ f. rw (e, f) (le-self y q)) (λ f. rw (e, f) (not-below x y p q f)))
-
-pub above-finite : (a x : Float) → T (positive a) → T (le a x) → T (finite x) → T (positive x)
-above-finite a x p h f = go x f (above-of-le a x p h)
-  where
-    go : (x : Float) → T (finite x) → T (above x) → T (positive x)
-    go nan f t = absurd f
-    go (inf s) f t = absurd f
-    go (fin true m e) f t = absurd t
-    go (fin false m e) f t = t
-
-pub f0-is : f0 ≡ fin false 0 (pos 0)
-unfolding ofBits
-f0-is = refl
-
-pub f1-is : f1 ≡ fin false 1 (pos 0)
-unfolding ofBits
-f1-is = refl
-
-f4-is : f4 ≡ fin false 1 (pos 2)
-unfolding ofBits
-f4-is = refl
 
 million-under : (r : Float) → T (finite r) → T (le r million) → T (le r two)
 million-under r p h = le-trans-finite r (fin false 15625 (pos 6)) two p tt tt (rw million-is at h) (unfold le in tt)

@@ -8,8 +8,8 @@ use lib.Ieee.{Float, fin, lt, le, eq, ne, ofBits}
 use Rattle.numbers.specs.Reals.{_⊕_, _⊖_, _⊗_, _⊘_, f0, f1, f2, f4, tiny, minusSlack, minusSlack-is, pastOne, clampUnit, absOf}
 use Rattle.roots.specs.Root.{rootOf}
 use Rattle.rules.proofs.Branches.{either, both-true, by-test}
-use Rattle.spans.proofs.Ranges.{finite-between}
-use Rattle.spans.proofs.Sizes.{not-below}
+use Rattle.order.proofs.Ranges.{finite-between}
+use Rattle.order.proofs.Extremes.{not-below}
 use Rattle.plane.specs.declared.Touch.{Touch}
 use Rattle.plane.specs.declared.Triangle.{Triangle}
 use Rattle.plane.specs.declared.Spot.the-variants.{Nowhere, At}

@@ -9,8 +9,8 @@ use lib.Ieee.{Float, nan, inf, fin, binary64, sub, add, neg, lt, le, eq}
 use lib.Ieee.Scale.{finite}
 use Rattle.numbers.specs.Reals.{_⊕_, _⊖_, absOf, threeMillion}
 use Rattle.rules.proofs.Branches.{no, both-true}
-use Rattle.spans.proofs.Ranges.{sub-mono}
-use Rattle.bound.proofs.Order.{neg-finite, neg-neg, neg-turns}
+use Rattle.order.proofs.Ranges.{sub-mono}
+use Rattle.order.proofs.Order.{neg-finite, neg-neg, neg-turns}
 use Rattle.bound.proofs.Along.{sub-parts}
 use Rattle.tops.specs.Inside.{lowestStart, highestStart, isStart}
 use Rattle.grid.specs.declared.Header.{Header}

@@ -10,10 +10,10 @@ use lib.Ieee.Bits.{is-true}
 use lib.ListN.{replicate}
 use Rattle.numbers.specs.Reals.{_⊖_}
 use Rattle.rules.proofs.Branches.{either, by-test, no}
-use Rattle.numbers.proofs.Strict.{le-not-lt, lt-number}
-use Rattle.spans.proofs.Ranges.{finite-between}
-use Rattle.spans.proofs.Sizes.{le-self, not-below}
-use Rattle.bound.proofs.Order.{le-trans}
+use Rattle.order.proofs.Strict.{le-not-lt, lt-number}
+use Rattle.order.proofs.Ranges.{finite-between}
+use Rattle.order.proofs.Extremes.{le-self, not-below}
+use Rattle.order.proofs.Order.{le-trans}
 use Rattle.plane.specs.declared.Touch.{Touch}
 use Rattle.plane.specs.declared.Contact.{Contact}
 use Rattle.plane.specs.declared.Contact.the-variants.{Nothing, Height}

@@ -14,9 +14,9 @@ use lib.Ieee.Exact.{HasValue, round-exact}
 use lib.Ieee.Positive.{den, den-pos}
 use lib.Ieee.Scale.{finite}
 use Rattle.rules.proofs.Branches.{no, by-test}
-use Rattle.spans.proofs.Signed.{upper, lower, le→parts, Is, rounded, is-le, is-sub}
-use Rattle.spans.proofs.Ranges.{finite-between}
-use Rattle.bound.proofs.Order.{neg-finite, neg-upper, add-is, is-mul}
+use Rattle.order.proofs.Signed.{upper, lower, le→parts, Is, rounded, is-le, is-sub}
+use Rattle.order.proofs.Ranges.{finite-between}
+use Rattle.order.proofs.Order.{neg-finite, neg-upper, add-is, is-mul}
 
 -- (i - j) / h <= x <= (k - o) / h
 pub record Held (h k o i j : ℕ) (x : Float) : Type 0 where

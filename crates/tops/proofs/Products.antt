@@ -10,8 +10,8 @@ use lib.Dec.{T}
 use lib.Ieee.{Float, nan, inf, fin, binary64, up, down, add, mul}
 use lib.Ieee.Positive.{den, den-pos}
 use lib.Ieee.Scale.{finite}
-use Rattle.spans.proofs.Signed.{upper, lower}
-use Rattle.bound.proofs.Order.{is-mul}
+use Rattle.order.proofs.Signed.{upper, lower}
+use Rattle.order.proofs.Order.{is-mul}
 use Rattle.tops.proofs.Fractions.{Held, held-of, held-add}
 
 -- ---- the product of (r - 2) / g + x and (t - m) / h - y, in whole numbers

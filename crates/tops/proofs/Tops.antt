@@ -10,8 +10,8 @@ use lib.Ieee.{Float, nan, inf, fin, down, le}
 use lib.Ieee.Positive.{den, den-pos}
 use lib.Ieee.Scale.{finite}
 use Rattle.numbers.specs.Reals.{_⊕_, _⊖_, _⊗_}
-use Rattle.spans.proofs.Signed.{upper, lower, le→parts, parts→le}
-use Rattle.spans.proofs.Ranges.{finite-between}
+use Rattle.order.proofs.Signed.{upper, lower, le→parts, parts→le}
+use Rattle.order.proofs.Ranges.{finite-between}
 use Rattle.tops.proofs.Fractions.{Held, held-more, held-add, held-sub, held-part, floor, held-floor}
 use Rattle.tops.proofs.Products.{G, H}
 use Rattle.tops.proofs.Weights.{S, I, facet}

@@ -10,12 +10,11 @@ use lib.Ieee.{Float, nan, inf, fin, binary64, sum, round, add, sub, neg, lt, le,
 use lib.Ieee.Positive.{den, den-pos}
 use lib.Ieee.Scale.{finite}
 use Rattle.numbers.specs.Reals.{_⊕_, _⊖_, _⊗_}
-use Rattle.spans.proofs.Signed.{upper, lower, le→parts}
-use Rattle.spans.proofs.Ranges.{finite-between, sub-mono}
+use Rattle.order.proofs.Signed.{upper, lower, le→parts}
+use Rattle.order.proofs.Ranges.{finite-between, sub-mono}
 use Rattle.rules.proofs.Branches.{by-test}
-use Rattle.spans.proofs.Sizes.{not-below}
-use Rattle.bound.proofs.Order.{le-trans, sub-turns}
-use Rattle.bound.proofs.Roots.{lt-le}
+use Rattle.order.proofs.Extremes.{not-below, lt-le}
+use Rattle.order.proofs.Order.{le-trans, sub-turns}
 use Rattle.tops.proofs.Fractions.{Held, held-more, held-sub, floor, held-floor}
 use Rattle.tops.proofs.Products.{G, H, summed, hardly}
 

@@ -3,7 +3,8 @@ use mathlib.Core.Bool.{false}
 use mathlib.Core.Path.{_≡_, subst⁻¹}
 use lib.Ieee.{Float, isNan}
 use Rattle.plane.specs.Mesh.{highest}
-use Rattle.spans.proofs.Plain.{good-not-nan, max-not-nan}
+use Rattle.spans.proofs.Plain.{good-not-nan}
+use Rattle.order.proofs.Extremes.{max-not-nan}
 use Rattle.spans.proofs.high.Statement.{statement}
 use Rattle.spans.proofs.high.Tie as tie
 

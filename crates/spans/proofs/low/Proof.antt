@@ -3,7 +3,8 @@ use mathlib.Core.Bool.{false}
 use mathlib.Core.Path.{_≡_, subst⁻¹}
 use lib.Ieee.{Float, isNan}
 use Rattle.plane.specs.Mesh.{lowest}
-use Rattle.spans.proofs.Plain.{good-not-nan, min-not-nan}
+use Rattle.spans.proofs.Plain.{good-not-nan}
+use Rattle.order.proofs.Extremes.{min-not-nan}
 use Rattle.spans.proofs.low.Statement.{statement}
 use Rattle.spans.proofs.low.Tie as tie
 

@@ -1,21 +1,20 @@
 -- The order of f64s, and that differences, sums and products keep it.
-use mathlib.Core.Bool.{Bool, true, false, not, cond, _&&_, _||_}
-use mathlib.Core.Logic.{_⊎_, inl, inr}
+use mathlib.Core.Bool.{Bool, true, false}
+use mathlib.Core.Logic.{inl, inr}
 use mathlib.Core.Path.{_≡_, refl, ap, sym, _∙_, subst}
-use Prim.Native.Nat.{ℕ, zero, suc, _+_, _-_, _*_, _^_, _≤_, _<_}
+use Prim.Native.Nat.{ℕ, zero, suc, _+_, _-_, _*_, _≤_, _<_}
 use native.Mathlib.Nat.{zero-mul, mul-zero, mul-comm, mul-assoc, mul-left-comm, add-mul, mul-add, mul-pos, mul-le-mul-right}
 use native.Mathlib.Omega.{arith}
 use borrow.Author.Tests.{le-leb, lt-leb}
-use lib.Dec.{T, ltb, leb}
+use lib.Dec.{T}
 use lib.IntN.{pos}
-use lib.Ieee.{Float, nan, inf, fin, Format, binary64, up, down, unlike, round, add, sub, mul, neg, lt, eq, le, fits}
+use lib.Ieee.{Float, nan, inf, fin, Format, binary64, up, down, round, add, sub, mul, neg, lt, eq, le, fits}
 use lib.Ieee.Fits.{down-pos}
 use lib.Ieee.Scale.{finite, round-same}
 use lib.Ieee.Positive.{den, den-pos}
 use Rattle.numbers.proofs.Counts.{round-self}
-use Rattle.spans.proofs.Signed.{upper, lower, le→parts, parts→le, Is, rounded, is-le, is-sub, round-neg}
-use Rattle.spans.proofs.Ranges.{le-trans-finite, sub-mono, zero-is}
-use Rattle.rules.proofs.Branches.{by-test}
+use Rattle.order.proofs.Signed.{upper, lower, le→parts, parts→le, Is, rounded, is-le, is-sub, round-neg}
+use Rattle.order.proofs.Ranges.{le-trans-finite, sub-mono}
 
 -- ---- `le` goes on, on all f64s
 pub le-trans : (x y z : Float) → T (le x y) → T (le y z) → T (le x z)

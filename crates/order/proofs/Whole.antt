@@ -4,23 +4,21 @@ use mathlib.Core.Bool.{Bool, true, false}
 use mathlib.Core.Path.{_≡_, refl, sym}
 use Prim.Native.Nat.{ℕ, _+_, _-_, _*_, _/_, _^_, _≤_, _<_}
 use native.Mathlib.Nat.{zero-mul, mul-zero, mul-one, one-mul, mul-comm, mul-assoc, mul-left-comm, add-mul, mul-add, mul-pos}
-use native.Mathlib.Nat.{mul-le-mul, mul-le-mul-right, le-of-mul-le-mul-right, div-mul-le-self, lt-div-mul-add}
+use native.Mathlib.Nat.{mul-le-mul-right, le-of-mul-le-mul-right, div-mul-le-self, lt-div-mul-add}
 use native.Mathlib.Omega.{arith}
 use lib.Dec.{T}
 use lib.IntN.{pos}
 use lib.Ieee.{Float, nan, inf, fin, binary64, up, down, unlike, round, add, sub, mul, div, neg, lt, le, eq, ofInt, ofBits}
 use lib.Ieee.Back.{round-whole}
 use lib.Ieee.Exact.{HasValue}
-use lib.Ieee.Positive.{num, den, den-pos, positive, positive-of-value, value→cross}
+use lib.Ieee.Positive.{num, den, den-pos, positive-of-value, value→cross}
 use lib.Ieee.Scale.{finite}
 use lib.Ieee.Bits.{is-true}
-use Rattle.numbers.specs.Reals.{f0, million, absOf}
-use Rattle.rules.proofs.Branches.{no, both-true}
-use Rattle.spans.specs.Mesh.{isCoordinate, isRadius}
-use Rattle.spans.proofs.Signed.{upper, lower, le→parts, parts→le, Is, is-le, is-sub, is-div}
-use Rattle.spans.proofs.Ranges.{finite-between, num-pos}
-use Rattle.bound.proofs.Small.{M, small-radius}
-use Rattle.bound.proofs.Order.{O, neg-finite, neg-upper, add-is, up-is, down-is, is-mul, no-lower}
+use Rattle.numbers.specs.Reals.{million, absOf}
+use Rattle.rules.proofs.Branches.{no}
+use Rattle.order.proofs.Signed.{upper, lower, le→parts, parts→le, Is, is-le, is-sub, is-div}
+use Rattle.order.proofs.Ranges.{finite-between, num-pos}
+use Rattle.order.proofs.Order.{neg-finite, neg-upper, add-is, up-is, down-is, is-mul}
 
 -- -i <= x <= k
 pub record Within (i k : ℕ) (x : Float) : Type 0 where
@@ -264,14 +262,14 @@ module _ (a b : Float) (k : ℕ) (A : Bounded k a) (B : Bounded k b) where
             (lower t) (upper t) (den t) j (u .below),
       ))
 
--- ---- what the tests of a magnitude and of a radius say
+-- ---- what the test of a magnitude says
 not-inf : (b : Float) (k : ℕ) → HasValue b false k 1 → le (inf false) b ≡ true → ⊥
 unfolding le lt eq
 not-inf nan k v e = absurd v
 not-inf (inf s) k v e = absurd v
 not-inf (fin s m c) k v e = no e
 
-sized : (x b : Float) (k : ℕ) → T (finite x) → lower x ≡ 0 → HasValue b false k 1 → T (le x b) → upper x ≤ k * den x + 0
+pub sized : (x b : Float) (k : ℕ) → T (finite x) → lower x ≡ 0 → HasValue b false k 1 → T (le x b) → upper x ≤ k * den x + 0
 sized x b k f z v h =
     let p = plus-is b k v in
     unscaled (upper x) 0 (den x) k (den b) (den-pos b) (omega (arith, zero-mul (den x), zero-mul (den b), rw (p .1, p .2, z) at (le→parts x b f (p .0) h)))
@@ -306,19 +304,6 @@ bounded-size (inf s) b k v c = absurd (c .fine)
 bounded-size (fin false m e) b k v c = within (fin false m e) b k tt refl v (c .above)
 bounded-size (fin true m e) b k v c = within (fin false m e) b k tt refl v (c .below)
 
-million-value : HasValue million false 1000000 1
+pub million-value : HasValue million false 1000000 1
 unfolding ofBits
 million-value = (refl, refl)
-
-pub coordinate-bounded : (x : Float) → isCoordinate x ≡ true → Bounded 1000000 x
-unfolding isCoordinate
-coordinate-bounded x e = size-bounded x million 1000000 million-value e
-
-pub radius-bounded : (r : Float) → isRadius r ≡ true → Bounded 1000000 r
-unfolding isRadius
-radius-bounded r e =
-    let c = small-radius r e in
-    let f = finite-between O r M tt tt (c .0) (c .1) in
-    let z = no-lower r f (c .0) in
-    let h = sized r million 1000000 f z million-value (rw (both-true (le f0 r) (le r million) e .1) tt) in
-    record { fine = f; above = omega (arith, h); below = omega (arith, z) }

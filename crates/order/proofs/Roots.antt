@@ -1,29 +1,22 @@
--- Roots, minima and maxima keep the order; and what is between low and high is no smaller in size than the number of them that is nearest to 0.
-use mathlib.Core.Bool.{Bool, true, false, cond}
-use mathlib.Core.Path.{_≡_, refl, ap, sym, _∙_, subst}
+-- Roots keep the order, and so do counts of smallest f64s.
+use mathlib.Core.Bool.{Bool, true, false}
+use mathlib.Core.Path.{_≡_, refl, ap}
 use Prim.Native.Nat.{ℕ, zero, suc, _+_, _*_, _^_, _≤_, _<_}
 use native.Mathlib.Nat.{zero-mul, zero-div, mul-pos}
 use native.Mathlib.Omega.{arith}
 use lib.Dec.{T, lt→ltb}
-use lib.IntN.{pos}
-use lib.Ieee.{Float, nan, inf, fin, binary64, up, down, size, odd, units, lt, le, fits, isNan}
+use lib.Ieee.{Float, nan, inf, fin, binary64, up, down, size, odd, units, lt, le, fits}
 use lib.Ieee.Exact.{HasValue}
 use lib.Ieee.Fits.{up-pos, down-pos}
 use lib.Ieee.Scale.{finite}
-use lib.Ieee.Positive.{positive}
-use Rattle.numbers.specs.Reals.{f0, minOf, maxOf}
 use Rattle.roots.specs.Root.{wholeRoot, rootOf}
 use Rattle.roots.specs.Hypot.{countOf, evenRoot, hypotOfCount, hypotOf}
 use Rattle.roots.proofs.Between.{root-nearest}
 use Rattle.roots.proofs.Monotone.{root-mono}
 use Rattle.roots.proofs.Distances.{count-le, counts-mono, hypot-finite}
 use Rattle.numbers.proofs.Signs.{le→under}
-use Rattle.spans.proofs.Signed.{le→parts, parts→le}
-use Rattle.rules.proofs.Branches.{by-test}
-use Rattle.spans.proofs.Sizes.{either-of, le-self, not-below, max-least, f0-is}
-use Rattle.spans.proofs.Extremes.{min-either, max-first}
-use Rattle.bound.specs.Inside.{nearerOf}
-use Rattle.bound.proofs.Order.{O, le-trans, no-lower, no-upper}
+use Rattle.order.proofs.Signed.{le→parts, parts→le}
+use Rattle.order.proofs.Order.{O, le-trans, no-lower, no-upper}
 
 -- ---- roots
 of-value : (w : Float) (a c : ℕ) → HasValue w false a c → T (le O w) × T (finite w)
@@ -69,36 +62,8 @@ root-le (fin false (suc m) e) (fin false zero d) f g p q h k =
 root-le (fin false (suc m) e) (fin false (suc n) d) f g p q h k =
     root-mono (fin false (suc m) e) (fin false (suc n) d) f g (lt→ltb 0 (suc m) (omega arith)) (lt→ltb 0 (suc n) (omega arith)) k
 
--- ---- minima and maxima
-pub lt-le : (x y : Float) → lt x y ≡ true → T (le x y)
-unfolding le
-lt-le x y e = rw e tt
-
-not-nan : (x : Float) → T (finite x) → isNan x ≡ false
-unfolding isNan
-not-nan nan p = absurd p
-not-nan (inf s) p = absurd p
-not-nan (fin s m e) p = refl
-
-module _ (x y : Float) (p : T (finite x)) (q : T (finite y)) where
-  pub min-first : T (le (minOf x y) x)
-  unfolding minOf
-  min-first = rw (not-nan x p) (by-test (lt y x) (λ f. rw f (lt-le y x f)) (λ f. rw f (le-self x p)))
-
-  pub min-second : T (le (minOf x y) y)
-  unfolding minOf
-  min-second = rw (not-nan x p) (by-test (lt y x) (λ f. rw f (le-self y q)) (λ f. rw f (not-below y x q p f)))
-
-pub min-up : (x y z : Float) → T (finite x) → T (finite z) → T (le x y) → T (le (minOf x z) (minOf y z))
-min-up x y z p r h =
-    min-either (λ v. T (le (minOf x z) v)) y z (le-trans (minOf x z) x y (min-first x z p r) h) (min-second x z p r)
-
-pub max-up : (x y z : Float) → T (finite y) → T (finite z) → T (le x y) → T (le (maxOf x z) (maxOf y z))
-max-up x y z q r h =
-    either-of (λ v. T (le v (maxOf y z))) x z (le-trans x y (maxOf y z) h (max-first y z q r)) (max-least y z q r)
-
--- ---- the number nearest to 0, by counts of smallest f64s
-no-count : (s : Bool) (m : ℕ) (e : _) (n : ℕ) → m * up e ≡ 0 → countOf (fin s m e) ≤ n
+-- ---- counts of smallest f64s
+pub no-count : (s : Bool) (m : ℕ) (e : _) (n : ℕ) → m * up e ≡ 0 → countOf (fin s m e) ≤ n
 unfolding countOf
 no-count s m e n z = rw (z, zero-mul (2 ^ 1074), zero-div (down e)) (omega arith)
 
@@ -120,16 +85,6 @@ count-falls (fin s m e) (inf t) p q h k = absurd q
 count-falls (fin s m e) (fin false n d) p q h k = no-count false n d _ (no-upper (fin false n d) tt h)
 count-falls (fin true m e) (fin true n d) p q h k = count-le true n d true m e (le→under true m e true n d k)
 count-falls (fin false m e) (fin true n d) p q h k = no-count true n d _ (le→under false m e true n d k .1)
-
-pub nearest-count : (low high x : Float) → T (finite low) → T (finite high) → T (finite x) → T (le low x) → T (le x high) → countOf (nearerOf low high) ≤ countOf x
-unfolding nearerOf
-nearest-count low high x p q r h k =
-    by-test (lt f0 low)
-    (λ e. rw e (count-rises low x p r (rw f0-is at (lt-le f0 low e)) h))
-    (λ e.
-    by-test (lt high f0)
-    (λ g. rw (e, g) (count-falls x high r q (rw f0-is at (lt-le high f0 g)) k))
-    (λ g. rw (e, g, f0-is) (no-count false 0 (pos 0) _ refl)))
 
 -- ---- a distance is not below 0
 no-distance : hypotOfCount 0 ≡ O

@@ -1,13 +1,13 @@
 -- How far rounding goes: a / c rounded, counted in smallest f64s (`grid`), lies within a part in 2 ^ 52 of a / c, or within one smallest f64.
-use mathlib.Core.Path.{_≡_, refl, sym, ap, _∙_, subst}
+use mathlib.Core.Path.{_≡_, sym, ap, _∙_}
 use mathlib.Core.Bool.{Bool, true, false, not}
 use mathlib.Core.Logic.{_⊎_, inl, inr}
 use Prim.Native.Nat.{ℕ, suc, _+_, _-_, _*_, _/_, _%_, _^_, _≤_, _<_, compare}
-use native.Mathlib.Nat.{mul-assoc, mul-comm, mul-left-comm, mul-right-comm, mul-one, one-mul, add-mul, mul-pos, mul-le-mul-right, mul-le-mul-left, le-trans, le-of-eq, lt-of-lt-of-le, div-mul-le-self, lt-div-mul-add, le-div-iff-mul-le}
+use native.Mathlib.Nat.{mul-assoc, mul-comm, one-mul, add-mul, mul-pos, mul-le-mul-right, le-trans, le-of-eq, div-mul-le-self, lt-div-mul-add, le-div-iff-mul-le}
 use native.Mathlib.Omega.{arith}
 use lib.Dec.{T, leb, leb→le, nleb→lt}
 use lib.Pow.{pow-add, pow-pos}
-use lib.Ieee.{binary64, size, nearest}
+use lib.Ieee.{binary64, size}
 use lib.Ieee.Digits.{size-reaches}
 use lib.Ieee.Fits.{nearest-le}
 use lib.Ieee.Nearest.{nearest-ge}

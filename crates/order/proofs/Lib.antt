@@ -1,0 +1,8 @@
+pub mod Signed
+pub mod Ranges
+pub mod Order
+pub mod Extremes
+pub mod Strict
+pub mod Roots
+pub mod Rounded
+pub mod Whole
