@@ -18,7 +18,7 @@ use Rattle.touch.specs.declared.Gradient.{Gradient}
 use Rattle.touch.specs.declared.Rest.{Rest}
 use Rattle.touch.specs.Touch.{restOf}
 use Rattle.order.proofs.Signed.{upper, lower, le→parts, is-le, is-div}
-use Rattle.spans.proofs.Ranges.{Coordinate, extent-finite, extent-positive}
+use Rattle.plane.proofs.Ranges.{Coordinate, extent-finite, extent-positive}
 use Rattle.order.proofs.Ranges.{finite-between, num-pos, zero-is}
 use Rattle.order.proofs.Extremes.{above-finite, le-self}
 use Rattle.order.proofs.Order.{O, le-trans, add-right, no-lower, own}

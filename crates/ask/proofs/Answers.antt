@@ -9,7 +9,7 @@ use lib.Dec.{eqb, leb, lit<}
 use lib.Ieee.{Float}
 use lib.ListN.{length, replicate, length-replicate}
 use Rattle.rules.proofs.Branches.{either, taken, left, both-true}
-use Rattle.walk.specs.declared.Best.{Best}
+use Rattle.plane.specs.declared.Best.{Best}
 use Rattle.walk.specs.Walk.{Walk, nextStamp, readyMarks, fold, walked, chased}
 use Rattle.walk.specs.Inside.{Below, Room, Walkable, seen, judged, look, strike}
 use Rattle.walk.specs.declared.Seen.{Seen}

@@ -9,7 +9,7 @@ use lib.Dec.{eqb}
 use lib.Ieee.{Float}
 use lib.ListN.{length}
 use Rattle.rules.proofs.Branches.{by-test}
-use Rattle.walk.specs.declared.Best.{Best}
+use Rattle.plane.specs.declared.Best.{Best}
 use Rattle.walk.specs.Walk.{Walk, walked, nextStamp}
 use Rattle.grid.specs.Index.{Index, BuiltFrom}
 use Rattle.grid.proofs.Indexing.{index-sound}

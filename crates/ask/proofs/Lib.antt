@@ -1,4 +1,2 @@
-pub mod Raises
 pub mod Answers
 pub mod Demands
-pub mod Beside

@@ -5,11 +5,7 @@ use Prim.Native.Nat.{ℕ}
 use lib.Dec.{eqb}
 use lib.Ieee.{Float, le}
 use Rattle.numbers.specs.Reals.{f0}
-use Rattle.plane.specs.declared.Touch.{Touch}
-use Rattle.plane.specs.declared.Contact.{Contact}
-use Rattle.plane.specs.declared.Contact.the-variants.{Nothing, Height}
-use Rattle.plane.specs.Contacts.{exceedsOf}
-use Rattle.walk.specs.declared.Best.{Best}
+use Rattle.plane.specs.declared.Best.{Best}
 use Rattle.walk.specs.Walk.{Walk, nextStamp, readyMarks, walked, chased}
 use Rattle.grid.specs.Boxes.{isBoxed}
 use Rattle.grid.specs.Index.{Index}
@@ -41,16 +37,6 @@ refusalOf numbers tool ix marks stamp p =
 -- The floor, which no triangle has raised.
 abbrev pub atFloor : Float → Best
 atFloor z = record { height = z; triangle = 0; kind = 0; which = 0 }
-
--- The best so far, with the height z of triangle i, which touches t: only a strictly higher one raises it, and is named from then on.
-unfoldable pub raisedTo : Float → Touch → ℕ → Best → Best
-raisedTo z t i best =
-    cond (exceedsOf z (best .height)) (record { height = z; triangle = i; kind = t .kind; which = t .which }) best
-
--- The same with the contact of triangle i.
-unfoldable pub raisedBy : Contact → ℕ → Best → Best
-raisedBy Nothing i best = best
-raisedBy (Height z t) i best = raisedTo z t i best
 
 -- Where a walk begins: with the next stamp's marks, no triangle looked at, and v.
 abbrev pub begun : {A : Type 0} → List ℕ → ℕ → A → Walk A

@@ -2,13 +2,10 @@
 ghost use mathlib.Core.Path.{_≡_};
 ghost use Prim.Native.Nat.{_≤_};
 ghost use Rattle.grid.specs.Index.{indexOf};
-ghost use Rattle.ask.specs.Ask.{isCorner, refusalOf, raisedTo, raisedBy, findingNumber};
+ghost use Rattle.ask.specs.Ask.{isCorner, refusalOf, findingNumber};
 ghost use Rattle.ask.specs.Demand.{GoodAccepted};
 use grid::Header;
-use plane::Contact;
-use plane::Touch;
 use query::Patch;
-use walk::Best;
 
 // A height question's answer: its refusal or 0, the height, how many triangles were looked at, and the stamp; then the triangle that last raised the
 // height and what of it is touched, its kind and which of three, all 0 for the floor.
@@ -80,31 +77,6 @@ pub fn is_corner(r: f64, rc: f64) -> bool
     ensures { λ b. ⌜ b ≡ isCorner r rc ⌝ }
 {
     if 0.0 <= rc { rc <= r } else { false }
-}
-
-// The best so far with the contact of triangle i.
-pub fn raise_by(c: Contact, i: u32, best: Best) -> Best
-    ensures { λ r. ⌜ r ≡ raisedBy c i best ⌝ }
-{
-    match c {
-        Contact::Nothing => best,
-        Contact::Height(z, t) => raise_to(z, t, i, best),
-    }
-}
-
-// The same with a height.
-fn raise_to(z: f64, t: Touch, i: u32, best: Best) -> Best
-    ensures { λ r. ⌜ r ≡ raisedTo z t i best ⌝ }
-{
-    if plane::exceeds(z, best.height) {
-        return Best {
-            height: z,
-            triangle: i,
-            kind: t.kind,
-            which: t.which,
-        };
-    }
-    best
 }
 
 // The number of a verdict.

@@ -20,7 +20,7 @@ use Rattle.roots.proofs.Packing.{count-of-value}
 use Rattle.roots.proofs.Scales.{square-power}
 use Rattle.numbers.proofs.Signs.{under-of-le}
 use Rattle.roots.proofs.Squares.{square-twice}
-use Rattle.spans.specs.Mesh.{isRadius}
+use Rattle.plane.specs.Ranges.{isRadius}
 use Rattle.order.proofs.Signed.{parts→le}
 use Rattle.order.proofs.Ranges.{finite-between}
 use Rattle.bound.specs.Inside.{Beyond}

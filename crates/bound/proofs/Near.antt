@@ -17,7 +17,7 @@ use Rattle.roots.specs.Hypot.{countOf, hypotOf}
 use Rattle.rules.proofs.Branches.{no, holds}
 use Rattle.roots.proofs.Distances.{count-is, hypot-under}
 use Rattle.numbers.proofs.Signs.{under-of-le}
-use Rattle.spans.specs.Mesh.{isRadius}
+use Rattle.plane.specs.Ranges.{isRadius}
 use Rattle.order.proofs.Ranges.{finite-between}
 use Rattle.bound.specs.Inside.{Within}
 use Rattle.order.proofs.Order.{O, le-trans as le-on, mul-up}

@@ -12,12 +12,11 @@ use Rattle.numbers.specs.Reals.{_⊕_, _⊖_, _⊗_, f0, million, minOf, maxOf,
 use Rattle.roots.specs.Root.{rootOf, rootOfUnits, nearestRoot, wholeRoot}
 use Rattle.roots.specs.Hypot.{infinite, countOf, evenRoot, hypotOfCount, hypotOf}
 use Rattle.roots.proofs.Distances.{hypot-counts}
-use Rattle.spans.specs.Mesh.{isCoordinate, isRadius}
+use Rattle.plane.specs.Ranges.{isCoordinate, isRadius}
 use Rattle.order.proofs.Ranges.{finite-between}
-use Rattle.spans.proofs.Ranges.{Coordinate, coordinate, two, minus-two, extent-finite, extent-high, extent-low}
+use Rattle.plane.proofs.Ranges.{Coordinate, coordinate, two, minus-two, extent-finite, extent-high, extent-low, radius}
 use Rattle.rules.proofs.Branches.{by-test, both-true}
 use Rattle.order.proofs.Extremes.{either-of, le-self, not-below, min-either, lt-le}
-use Rattle.spans.proofs.Sizes.{radius}
 use Rattle.order.proofs.Order.{O, le-trans, add-left, add-right, square-up, square-down, no-lower}
 use Rattle.order.proofs.Roots.{count-rises, count-falls, distance-low}
 use Rattle.bound.proofs.Along.{Between}

@@ -19,7 +19,7 @@ const MINUS_ONE: f64 = -1.0;
 pub fn within(w: f64) -> f64
     ensures { λ f. ⌜ Within w f ⌝ }
 {
-    if !spans::is_radius(w) {
+    if !plane::is_radius(w) {
         return MINUS_ONE;
     }
     if w >= LEAST {
@@ -33,7 +33,7 @@ pub fn within(w: f64) -> f64
 pub fn beyond(w: f64) -> f64
     ensures { λ f. ⌜ Beyond w f ⌝ }
 {
-    if !spans::is_radius(w) {
+    if !plane::is_radius(w) {
         return 0.0 / 0.0;
     }
     if LEAST <= w {

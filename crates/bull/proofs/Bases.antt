@@ -18,7 +18,7 @@ use Rattle.plane.specs.Contacts.{corner, takeOf}
 use Rattle.above.specs.Above.{offerOf}
 use Rattle.above.specs.Inside.{limitOf}
 use Rattle.above.proofs.Above.{stays-under}
-use Rattle.spans.specs.Mesh.{isCoordinate, isRadius}
+use Rattle.plane.specs.Ranges.{isCoordinate, isRadius}
 use Rattle.order.proofs.Ranges.{finite-between}
 use Rattle.order.proofs.Extremes.{min-either, min-first, min-second}
 use Rattle.order.proofs.Order.{O, le-trans}

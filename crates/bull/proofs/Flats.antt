@@ -12,7 +12,7 @@ use lib.Ieee.Bits.{is-true}
 use Rattle.rules.proofs.Branches.{holds}
 use Rattle.numbers.specs.Reals.{_⊕_, _⊖_, _⊗_, f0, minus1, minOf, f0-is}
 use Rattle.roots.specs.Hypot.{hypotOf}
-use Rattle.spans.specs.Mesh.{isRadius}
+use Rattle.plane.specs.Ranges.{isRadius}
 use Rattle.order.proofs.Signed.{upper, lower, is-le, is-sub}
 use Rattle.order.proofs.Ranges.{finite-between, sub-mono, zero-is}
 use Rattle.order.proofs.Extremes.{min-either, min-under}

@@ -13,7 +13,7 @@ use Rattle.numbers.specs.Reals.{_⊕_, _⊖_, _⊗_, f0, maxOf}
 use Rattle.roots.specs.Root.{rootOf}
 use Rattle.rules.proofs.Branches.{left, no, by-test}
 use Rattle.order.proofs.Ranges.{finite-between, sub-mono}
-use Rattle.spans.proofs.Ranges.{two, minus-two}
+use Rattle.plane.proofs.Ranges.{two, minus-two}
 use Rattle.order.proofs.Extremes.{either-of, le-self, not-below, max-least, max-up}
 use Rattle.order.proofs.Order.{O, le-trans, sub-turns, square-up}
 use Rattle.order.proofs.Roots.{root-finite, root-le}

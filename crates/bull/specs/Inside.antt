@@ -4,7 +4,7 @@ use lib.Ieee.{Float, le}
 use Rattle.numbers.specs.Reals.{_⊕_, _⊖_, _⊗_, _⊘_, f0, minOf, maxOf}
 use Rattle.roots.specs.Root.{rootOf}
 use Rattle.touch.specs.declared.Edge.{Edge}
-use Rattle.spans.specs.Mesh.{isCoordinate, isRadius}
+use Rattle.plane.specs.Ranges.{isCoordinate, isRadius}
 use Rattle.caps.specs.Inside.{highOn, leastOn, tameOn}
 use Rattle.bull.specs.declared.Bull.{Bull}
 use Rattle.bull.specs.Bull.{bullProfile}

@@ -10,10 +10,10 @@ pub fn base_of(k: Bull) -> f64
 {
     let r = k.r;
     let rc = k.rc;
-    if !spans::is_radius(r) {
+    if !plane::is_radius(r) {
         return 0.0 / 0.0;
     }
-    if !spans::is_radius(rc) {
+    if !plane::is_radius(rc) {
         return 0.0 / 0.0;
     }
     numbers::min(rc - roots::root(rc * rc), 0.0)
@@ -23,7 +23,7 @@ pub fn base_of(k: Bull) -> f64
 pub fn low_vertex(base: f64, z: f64, dx: f64, dy: f64, b: f64) -> bool
     ensures { λ r. ⌜ r ≡ lowVertex base z dx dy b ⌝ }
 {
-    z - base <= b && (spans::is_coordinate(dx) && spans::is_coordinate(dy))
+    z - base <= b && (plane::is_coordinate(dx) && plane::is_coordinate(dy))
 }
 
 // What the tip's height over an edge from lo to hi is at most.

@@ -220,10 +220,10 @@ fn flat_of(k: Bull) -> f64
 {
     let r = k.r;
     let part = r - k.rc;
-    if !spans::is_radius(r) {
+    if !plane::is_radius(r) {
         return MINUS_ONE;
     }
-    if !spans::is_radius(part) {
+    if !plane::is_radius(part) {
         return MINUS_ONE;
     }
     bound::within(part)

@@ -16,10 +16,10 @@ use Rattle.roots.specs.Root.{rootOf}
 use Rattle.roots.specs.Hypot.{countOf, hypotOf}
 use Rattle.rules.proofs.Branches.{either, left, taken, no, both-true, by-test, holds}
 use Rattle.roots.proofs.Distances.{hypot-counts}
-use Rattle.spans.specs.Mesh.{isCoordinate}
+use Rattle.plane.specs.Ranges.{isCoordinate}
 use Rattle.order.proofs.Signed.{upper, lower, is-le, is-sub}
 use Rattle.order.proofs.Ranges.{finite-between, sub-mono, zero-is}
-use Rattle.spans.proofs.Ranges.{two, minus-two}
+use Rattle.plane.proofs.Ranges.{two, minus-two}
 use Rattle.order.proofs.Extremes.{either-of, le-self, not-below, max-least, min-either, lt-le, min-second, min-up}
 use Rattle.bound.specs.Inside.{nearerOf}
 use Rattle.order.proofs.Order.{O, le-trans, sub-turns, square-up, own}

@@ -20,7 +20,7 @@ use Rattle.plane.specs.Distance.{baryOf, atLeast}
 use Rattle.touch.specs.declared.Gradient.{Gradient}
 use Rattle.touch.specs.declared.Rest.{Rest}
 use Rattle.touch.specs.Touch.{weighedOf, spotHeight, facetHeight, restOf}
-use Rattle.spans.specs.Mesh.{isCoordinate}
+use Rattle.plane.specs.Ranges.{isCoordinate}
 use Rattle.order.proofs.Ranges.{finite-between, sub-mono}
 use Rattle.order.proofs.Extremes.{either-of, not-below, above-finite, min-either}
 use Rattle.order.proofs.Order.{O, le-trans, sub-turns, add-left}

@@ -27,7 +27,7 @@ use Rattle.touch.specs.declared.Facing.the-variants.{Upright, Leaning}
 use Rattle.touch.specs.declared.Gradient.{Gradient}
 use Rattle.above.specs.Above.{offerOf}
 use Rattle.touch.specs.Touch.{edgeAb, edgeBc, edgeCa, along, distanceAt, length2, crossedOf, reachedOf, facingOf, facetHeight}
-use Rattle.spans.specs.Mesh.{isCoordinate}
+use Rattle.plane.specs.Ranges.{isCoordinate}
 use Rattle.order.proofs.Ranges.{finite-between, sub-mono}
 use Rattle.order.proofs.Extremes.{either-of, le-self, not-below, min-either, lt-le, not-above, le-not-nan}
 use Rattle.order.proofs.Order.{O, le-trans, sub-turns, add-left}

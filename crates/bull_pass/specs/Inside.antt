@@ -13,7 +13,7 @@ use Rattle.touch.specs.declared.Facing.{Facing}
 use Rattle.touch.specs.declared.Facing.the-variants.{Upright, Leaning}
 use Rattle.touch.specs.declared.Rest.{Rest}
 use Rattle.touch.specs.Touch.{edgeAb, edgeBc, edgeCa, along, facingOf}
-use Rattle.spans.specs.Mesh.{isCoordinate, isRadius}
+use Rattle.plane.specs.Ranges.{isCoordinate, isRadius}
 use Rattle.bound.specs.Inside.{nearerOf}
 use Rattle.bull.specs.Bull.{bullProfile, bullRest}
 use Rattle.reach.specs.declared.Chord.{Chord}

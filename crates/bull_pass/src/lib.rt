@@ -3,7 +3,7 @@ ghost use mathlib.Core.Path.{_≡_};
 ghost use mathlib.Core.Bool.{_&&_};
 ghost use lib.Ieee.{le};
 ghost use Rattle.numbers.specs.Reals.{_⊕_, _⊖_, f0};
-ghost use Rattle.spans.specs.Mesh.{isCoordinate};
+ghost use Rattle.plane.specs.Ranges.{isCoordinate};
 ghost use Rattle.touch.specs.Touch.{facingOf};
 ghost use Rattle.bull_pass.specs.Inside.{stripOf, axisFair, tipKept, tipFair, cutterFair, fairOf, sideTame, tameOf, leastOf, loweredOf, underOf, pointBlock, edgeBlock, cornersPass, edgeFair, pieceUnder, marchStep, edgePasses, edgesPass, rangeOf, weightOf, plainProducts, plainRange, outsideOf, rangesMiss, productsMiss, missesOf, restsMiss, facetPasses, passesOf};
 use bull::Bull;
@@ -114,14 +114,14 @@ fn height_fair(m: Chord, lo: f64, hi: f64) -> bool
 fn cutter_fair(r: f64, rc: f64) -> bool
     ensures { λ b. ⌜ b ≡ cutterFair r rc ⌝ }
 {
-    spans::is_radius(r) && (spans::is_radius(rc) && roots::root(rc * rc) <= rc)
+    plane::is_radius(r) && (plane::is_radius(rc) && roots::root(rc * rc) <= rc)
 }
 
 // Two coordinates.
 fn axis_fair(a: f64, b: f64, lo: f64, hi: f64) -> bool
     ensures { λ f. ⌜ f ≡ axisFair a b lo hi ⌝ }
 {
-    spans::is_coordinate(a + lo * (b - a)) && spans::is_coordinate(a + hi * (b - a))
+    plane::is_coordinate(a + lo * (b - a)) && plane::is_coordinate(a + hi * (b - a))
 }
 
 // Whether the lower tip less the lift, lifted, is not above the lower tip.
@@ -137,21 +137,21 @@ fn tip_fair(m: Chord, lo: f64, hi: f64) -> bool
 fn tip_kept(low: f64, lift: f64) -> bool
     ensures { λ b. ⌜ b ≡ tipKept low lift ⌝ }
 {
-    spans::is_coordinate(lift) && (spans::is_coordinate(low - lift) && tip_back(low, lift))
+    plane::is_coordinate(lift) && (plane::is_coordinate(low - lift) && tip_back(low, lift))
 }
 
 fn tip_back(low: f64, lift: f64) -> bool
     ensures { λ b. ⌜ b ≡ (isCoordinate (low ⊖ lift ⊕ lift) && le (low ⊖ lift ⊕ lift ⊖ low) f0) ⌝ }
 {
     let back = low - lift + lift;
-    spans::is_coordinate(back) && back - low <= 0.0
+    plane::is_coordinate(back) && back - low <= 0.0
 }
 
 // Whether a side of a block lies a coordinate from the strip's.
 fn side_tame(low: f64, high: f64, a: f64, b: f64) -> bool
     ensures { λ f. ⌜ f ≡ sideTame low high a b ⌝ }
 {
-    spans::is_coordinate(low - b) && spans::is_coordinate(high - a)
+    plane::is_coordinate(low - b) && plane::is_coordinate(high - a)
 }
 
 fn tame(k: Strip, b: Block) -> bool
@@ -163,7 +163,7 @@ fn tame(k: Strip, b: Block) -> bool
     let first = k.low_y;
     let last = k.high_y;
     side_tame(b.low_x, b.high_x, k.low_x, k.high_x)
-        && (side_tame(low, high, first, last) && spans::is_coordinate(z))
+        && (side_tame(low, high, first, last) && plane::is_coordinate(z))
 }
 
 // The least distance of a block from the strip.
@@ -338,15 +338,15 @@ fn plain_products(p: Products) -> bool
     let b = p.b;
     let c = p.c;
     let d = p.d;
-    spans::is_coordinate(p.a)
-        && (spans::is_coordinate(b) && (spans::is_coordinate(c) && spans::is_coordinate(d)))
+    plane::is_coordinate(p.a)
+        && (plane::is_coordinate(b) && (plane::is_coordinate(c) && plane::is_coordinate(d)))
 }
 
 fn plain(r: Range) -> bool
     ensures { λ b. ⌜ b ≡ plainRange r ⌝ }
 {
     let high = r.high;
-    spans::is_coordinate(r.low) && spans::is_coordinate(high)
+    plane::is_coordinate(r.low) && plane::is_coordinate(high)
 }
 
 const SLACK: f64 = -1e-12;
@@ -401,7 +401,7 @@ fn misses(t: Triangle, p: Rest, q: Rest) -> bool
         c: dx * by,
         d: gx * by,
     };
-    spans::is_coordinate(det) && products_miss(v, w, det)
+    plane::is_coordinate(det) && products_miss(v, w, det)
 }
 
 // Whether the cutter's places of rest miss the facet.

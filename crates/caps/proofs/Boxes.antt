@@ -12,7 +12,7 @@ use Rattle.rules.proofs.Branches.{both-true, holds}
 use Rattle.roots.proofs.Distances.{hypot-counts}
 use Rattle.touch.specs.declared.Edge.{Edge}
 use Rattle.touch.specs.Touch.{along, distanceAt}
-use Rattle.spans.specs.Mesh.{isCoordinate}
+use Rattle.plane.specs.Ranges.{isCoordinate}
 use Rattle.order.proofs.Ranges.{finite-between}
 use Rattle.order.proofs.Extremes.{either-of}
 use Rattle.bound.specs.Inside.{nearerOf}

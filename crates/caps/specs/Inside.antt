@@ -12,7 +12,7 @@ use Rattle.above.specs.Inside.{limitOf}
 use Rattle.golden.specs.declared.Golden.{Golden}
 use Rattle.touch.specs.declared.Edge.{Edge}
 use Rattle.touch.specs.Touch.{along, length2}
-use Rattle.spans.specs.Mesh.{isCoordinate}
+use Rattle.plane.specs.Ranges.{isCoordinate}
 use Rattle.bound.specs.Inside.{nearerOf}
 
 -- 2^6, 2^12, 2^22 and their squares

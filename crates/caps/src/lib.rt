@@ -87,7 +87,7 @@ fn side_tame(a: f64, b: f64, x: f64, lo: f64, hi: f64) -> bool
 {
     let p = a + lo * (b - a) - x;
     let q = a + hi * (b - a) - x;
-    spans::is_coordinate(p) && spans::is_coordinate(q)
+    plane::is_coordinate(p) && plane::is_coordinate(q)
 }
 
 // Whether an edge's heights, its rise and its length are of ordinary size.
@@ -99,8 +99,8 @@ pub fn tame_rise(e: Edge) -> bool
     let ez = e.bz - e.az;
     let p = e.az + 0.0 * ez;
     let q = e.az + 1.0 * ez;
-    spans::is_coordinate(p)
-        && (spans::is_coordinate(q) && (spans::is_coordinate(ez) && ex * ex + ey * ey <= SQUARE_22))
+    plane::is_coordinate(p)
+        && (plane::is_coordinate(q) && (plane::is_coordinate(ez) && ex * ex + ey * ey <= SQUARE_22))
 }
 
 // Whether two points lie in a bracket.

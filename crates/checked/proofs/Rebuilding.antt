@@ -10,7 +10,8 @@ use lib.Ieee.{Float}
 use lib.ListN.{length, drop, length-append, length-drop}
 use lib.Seq.{drop-at}
 use Rattle.rules.proofs.Branches.{no, by-test}
-use Rattle.spans.specs.Mesh.{isCoordinate, isRadius, firstBad}
+use Rattle.plane.specs.Ranges.{isCoordinate, isRadius}
+use Rattle.spans.specs.Mesh.{firstBad}
 use Rattle.cells.specs.Cover.{Cover, listed, startOf, entries, startsOf, membersTable}
 use Rattle.cells.proofs.Building.{entries-length}
 use Rattle.grid.specs.declared.Grid.{Grid}

@@ -7,10 +7,9 @@ use Rattle.numbers.specs.Reals.{_⊕_, _⊖_, minOf}
 use Rattle.plane.specs.declared.Triangle.{Triangle}
 use Rattle.plane.specs.declared.Bounds.{Bounds}
 use Rattle.plane.specs.Mesh.{triangleOf}
-use Rattle.spans.specs.Mesh.{isCoordinate, isRadius}
+use Rattle.plane.specs.Ranges.{isCoordinate, isRadius, isPoint}
 use Rattle.grid.specs.Boxes.{boxAt}
 use Rattle.grid.specs.Index.{Index}
-use Rattle.query.specs.Asked.{isPoint}
 use Rattle.query.specs.Patch.{patchOf}
 use Rattle.reach.specs.declared.Chord.{Chord}
 use Rattle.bull_gap.specs.Blocks.{bullBlocks}

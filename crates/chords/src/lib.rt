@@ -228,7 +228,7 @@ fn finding_of(clear: bool) -> Finding
 pub fn is_end(x: f64, y: f64, z: f64) -> bool
     ensures { λ b. ⌜ b ≡ isEnd x y z ⌝ }
 {
-    query::is_point(x) && (query::is_point(y) && query::is_point(z))
+    plane::is_point(x) && (plane::is_point(y) && plane::is_point(z))
 }
 
 // Whether a chord's numbers are in their ranges.
@@ -239,14 +239,14 @@ fn is_chord(m: Chord) -> bool
     let by = m.by;
     let bz = m.bz;
     let lift = m.lift;
-    is_end(m.ax, m.ay, m.az) && (is_end(bx, by, bz) && spans::is_coordinate(lift))
+    is_end(m.ax, m.ay, m.az) && (is_end(bx, by, bz) && plane::is_coordinate(lift))
 }
 
 // The same with a radius.
 fn is_ride(m: Chord, r: f64) -> bool
     ensures { λ b. ⌜ b ≡ isRide m r ⌝ }
 {
-    is_chord(m) && spans::is_radius(r)
+    is_chord(m) && plane::is_radius(r)
 }
 
 // Whether a chord's lower end is under floor + lift.

@@ -12,7 +12,7 @@ use lib.Seq.{getD-set-same, getD-set-other}
 use Rattle.rules.proofs.Branches.{either, by-test}
 use Rattle.rules.specs.Every.{times, weight}
 use Rattle.walk.specs.Walk.{Walk, fold}
-use Rattle.walk.specs.declared.Best.{Best}
+use Rattle.plane.specs.declared.Best.{Best}
 use Rattle.walk.specs.declared.Seen.{Seen}
 use Rattle.walk.specs.Inside.{seen, look, struck}
 use Rattle.contact.specs.Inside.{Fresh, Besides}

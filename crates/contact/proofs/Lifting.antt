@@ -14,7 +14,7 @@ use Rattle.order.proofs.Strict.{le-not-lt}
 use Rattle.plane.specs.declared.Triangle.{Triangle}
 use Rattle.plane.specs.declared.Contact.{Contact}
 use Rattle.plane.specs.declared.Contact.the-variants.{Nothing, Height}
-use Rattle.plane.specs.Contacts.{exceedsOf}
+use Rattle.plane.specs.Contacts.{exceedsOf, raisedTo, raisedBy}
 use Rattle.plane.proofs.Higher.{same-waits}
 use Rattle.above.specs.Above.{soFar}
 use Rattle.above.proofs.Above.{passes, rises}
@@ -26,13 +26,13 @@ use Rattle.bull.specs.Inside.{baseOf}
 use Rattle.ahead.proofs.Under.{Begun, ff, number}
 use Rattle.ahead.proofs.Same.{under-from}
 use Rattle.ahead.proofs.Parted.{parted-under, parted-same}
-use Rattle.walk.specs.declared.Best.{Best}
+use Rattle.plane.specs.declared.Best.{Best}
 use Rattle.walk.specs.declared.Seen.{Seen}
 use Rattle.walk.specs.Walk.{Walk, looked, marked, fold, walked}
 use Rattle.walk.specs.Inside.{seen, look}
 use Rattle.walk.proofs.Lists.{walk-is}
-use Rattle.ask.specs.Ask.{atFloor, raisedTo, raisedBy}
-use Rattle.ask.proofs.Beside.{raised-beside}
+use Rattle.ask.specs.Ask.{atFloor}
+use Rattle.above.proofs.Beside.{raised-beside}
 use Rattle.contact.specs.declared.Sight.{Sight}
 use Rattle.contact.specs.Contact.{bullRaised, bullStep}
 use Rattle.contact.specs.Inside.{lost, firstRaised, fromRaised, fromStep}

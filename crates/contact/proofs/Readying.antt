@@ -8,7 +8,7 @@ use lib.Dec.{eqb}
 use lib.ListN.{length, getD, getD-replicate}
 use Rattle.numbers.specs.Reals.{f0}
 use Rattle.rules.proofs.Branches.{by-test}
-use Rattle.walk.specs.declared.Best.{Best}
+use Rattle.plane.specs.declared.Best.{Best}
 use Rattle.walk.specs.Walk.{cell, row, nextStamp, readyMarks}
 use Rattle.grid.specs.Index.{Index}
 use Rattle.query.specs.declared.Patch.{Patch}

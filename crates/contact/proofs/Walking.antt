@@ -14,7 +14,7 @@ use Rattle.tops.specs.Inside.{isStart}
 use Rattle.bull.specs.declared.Bull.{Bull}
 use Rattle.bull.specs.Inside.{baseOf}
 use Rattle.ahead.proofs.Under.{begun, number, not-exceeds}
-use Rattle.walk.specs.declared.Best.{Best}
+use Rattle.plane.specs.declared.Best.{Best}
 use Rattle.walk.specs.declared.Seen.{Seen}
 use Rattle.walk.specs.Walk.{fold}
 use Rattle.walk.specs.Inside.{seen, look, Room, Walkable}

@@ -6,16 +6,16 @@ use lib.Ieee.{Float, le}
 use Rattle.numbers.specs.Reals.{_⊖_}
 use Rattle.plane.specs.declared.Triangle.{Triangle}
 use Rattle.plane.specs.Mesh.{triangleOf}
-use Rattle.spans.specs.Mesh.{isRadius}
+use Rattle.plane.specs.Ranges.{isRadius, isPoint}
 use Rattle.bull.specs.declared.Bull.{Bull}
 use Rattle.bull.specs.Bull.{bullContactAbove}
-use Rattle.walk.specs.declared.Best.{Best}
+use Rattle.plane.specs.declared.Best.{Best}
 use Rattle.grid.specs.Boxes.{boxAt}
 use Rattle.grid.specs.Index.{Index}
-use Rattle.query.specs.Asked.{isPoint}
 use Rattle.query.specs.Patch.{patchOf}
 use Rattle.ask.specs.declared.Answer.{Answer}
-use Rattle.ask.specs.Ask.{isCorner, raisedBy, Outcome, askedHeight}
+use Rattle.ask.specs.Ask.{isCorner, Outcome, askedHeight}
+use Rattle.plane.specs.Contacts.{raisedBy}
 use Rattle.ask.specs.Demand.{HeightPromise}
 use Rattle.tool.specs.Tool.{sectionsIn, isTool, widestOf, lowestOf, raisedOver}
 use Rattle.contact.specs.declared.Axis.{Axis}

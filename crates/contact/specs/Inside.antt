@@ -13,7 +13,7 @@ use Rattle.tops.specs.Inside.{isStart, isParted}
 use Rattle.bull.specs.declared.Bull.{Bull}
 use Rattle.bull.specs.Inside.{baseOf}
 use Rattle.ahead.specs.Inside.{sightedOf}
-use Rattle.walk.specs.declared.Best.{Best}
+use Rattle.plane.specs.declared.Best.{Best}
 use Rattle.walk.specs.Walk.{block}
 use Rattle.walk.specs.Inside.{Walkable}
 use Rattle.grid.specs.Boxes.{boxAt}

@@ -13,9 +13,9 @@ ghost use Rattle.contact.specs.Inside.{shapeStep, cornersRaised, corners
 use ask::Answer;
 use bull::Bull;
 use grid::Header;
+use plane::Best;
 use plane::Triangle;
 use query::Patch;
-use walk::Best;
 use walk::Seen;
 
 // 2^-10: how far under the highest tip over a vertex a walk begins. Nearer to it more triangles could have their contact on either side of that.
@@ -211,14 +211,14 @@ pub fn max_sections(
 fn is_stand(x: f64, y: f64, r: f64) -> bool
     ensures { λ b. ⌜ b ≡ isStand x y r ⌝ }
 {
-    query::is_point(x) && (query::is_point(y) && spans::is_radius(r))
+    plane::is_point(x) && (plane::is_point(y) && plane::is_radius(r))
 }
 
 // Whether a tool's axis is a point.
 fn is_place(x: f64, y: f64) -> bool
     ensures { λ b. ⌜ b ≡ isPlace x y ⌝ }
 {
-    query::is_point(x) && query::is_point(y)
+    plane::is_point(x) && plane::is_point(y)
 }
 
 // The best so far with triangle i, whose top is given.
@@ -228,7 +228,7 @@ fn raise_bull_on(t: Triangle, top: f64, i: u32, k: Bull, best: Best) -> Best
     if top <= best.height {
         return best;
     }
-    ask::raise_by(bull::bull_contact_on(t, k, best.height), i, best)
+    plane::raise_by(bull::bull_contact_on(t, k, best.height), i, best)
 }
 
 // The best so far of a cutter with triangle i.

@@ -10,7 +10,8 @@ use lib.Dec.{lit<}
 use lib.Ieee.{Float}
 use lib.ListN.{length}
 use Rattle.rules.proofs.Branches.{taken, left, by-test}
-use Rattle.spans.specs.Mesh.{isCoordinate, isRadius, badFrom, firstBad}
+use Rattle.plane.specs.Ranges.{isCoordinate, isRadius}
+use Rattle.spans.specs.Mesh.{badFrom, firstBad}
 use Rattle.spans.specs.Inside.{AllGood}
 use Rattle.spans.specs.declared.Place.{Place}
 use Rattle.spans.specs.declared.Place.the-variants.{Nowhere, At}

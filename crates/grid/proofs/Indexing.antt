@@ -11,10 +11,11 @@ use lib.Ieee.{Float, ofBits, le}
 use lib.Ieee.Bits.{is-true}
 use lib.ListN.{length}
 use Rattle.numbers.specs.Reals.{millionth, twoMillion}
-use Rattle.spans.specs.Mesh.{isCoordinate, extentOf, boxOf}
+use Rattle.plane.specs.Ranges.{isCoordinate}
+use Rattle.spans.specs.Mesh.{extentOf, boxOf}
 use Rattle.spans.specs.Axis.{cellsAlong}
-use Rattle.spans.proofs.Ranges.{coordinate, two}
-use Rattle.spans.proofs.Sizes.{Size, radius, size-range}
+use Rattle.plane.proofs.Ranges.{coordinate, two, radius}
+use Rattle.spans.proofs.Sizes.{Size, size-range}
 use Rattle.rules.proofs.Branches.{by-test}
 use Rattle.spans.proofs.Extremes.{Ordered, ordered-x, ordered-y, along-few, in-order, near-ends}
 use Rattle.spans.proofs.Scales.{eps-above, eps-under}

@@ -6,7 +6,8 @@ use lib.Dec.{ltb, eqb}
 use lib.ListN.{length}
 use lib.Ieee.{Float}
 use Rattle.numbers.specs.Reals.{f0}
-use Rattle.spans.specs.Mesh.{isCoordinate, isRadius, firstBad}
+use Rattle.plane.specs.Ranges.{isCoordinate, isRadius}
+use Rattle.spans.specs.Mesh.{firstBad}
 use Rattle.spans.specs.declared.Place.{Place}
 use Rattle.spans.specs.declared.Place.the-variants.{Nowhere, At}
 use Rattle.cells.specs.Cover.{startOf, startsOf, membersTable}

@@ -4,7 +4,8 @@ use mathlib.Core.List.{List}
 use Prim.Native.Nat.{ℕ, _*_}
 use lib.Ieee.{Float, lt, le}
 use Rattle.numbers.specs.Reals.{f0, millionth, twoMillion, twoMillionths}
-use Rattle.spans.specs.Mesh.{isCoordinate, isRadius, epsOf}
+use Rattle.plane.specs.Ranges.{isCoordinate, isRadius}
+use Rattle.spans.specs.Mesh.{epsOf}
 use Rattle.rules.specs.Every.{isFrom}
 use Rattle.grid.specs.declared.Grid.{Grid}
 use Rattle.grid.specs.declared.Header.{Header}

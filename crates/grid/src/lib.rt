@@ -156,13 +156,13 @@ pub fn refusal_of_numbers(mesh: &[f64], floor: f64, r: f64) -> Reason
     requires { ⌜ length (now mesh) ≤ 589824 ⌝ }
     ensures { λ w. ⌜ (w .refusal ≡ refusalOfNumbers (now (mesh .entry)) floor r) × (w .place ≡ toldWith (w .refusal) (now (mesh .entry))) ⌝ }
 {
-    if !spans::is_coordinate(floor) {
+    if !plane::is_coordinate(floor) {
         return Reason {
             refusal: 2,
             place: 0,
         };
     }
-    if !spans::is_radius(r) {
+    if !plane::is_radius(r) {
         return Reason {
             refusal: 2,
             place: 0,

@@ -7,7 +7,7 @@ use lib.Ieee.{Float, lt, le}
 use lib.ListN.{length}
 use Rattle.numbers.specs.Reals.{f0, millionth, twoMillion, twoMillionths}
 use Rattle.rules.specs.Every.{isFrom}
-use Rattle.spans.specs.Mesh.{isRadius}
+use Rattle.plane.specs.Ranges.{isRadius}
 use Rattle.grid.specs.declared.Header.{Header}
 use Rattle.grid.specs.Header.{inRanges}
 

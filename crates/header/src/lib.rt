@@ -5,7 +5,7 @@ ghost use Prim.Native.Nat.{_*_};
 ghost use lib.Ieee.{lt, le};
 ghost use Rattle.numbers.specs.Reals.{f0, millionth, twoMillion, twoMillionths};
 ghost use Rattle.rules.specs.Every.{isFrom};
-ghost use Rattle.spans.specs.Mesh.{isCoordinate, isRadius};
+ghost use Rattle.plane.specs.Ranges.{isCoordinate, isRadius};
 ghost use Rattle.grid.specs.Header.{inRanges};
 ghost use Rattle.header.specs.Head.{headUsable, sizesInRanges};
 use grid::Header;
@@ -48,7 +48,7 @@ pub fn is_from(a: usize, e: usize, k: usize) -> bool
 fn places_in_ranges(x: f64, y: f64, floor: f64) -> bool
     ensures { λ r. ⌜ r ≡ (isCoordinate x && (isCoordinate y && isCoordinate floor)) ⌝ }
 {
-    spans::is_coordinate(x) && (spans::is_coordinate(y) && spans::is_coordinate(floor))
+    plane::is_coordinate(x) && (plane::is_coordinate(y) && plane::is_coordinate(floor))
 }
 
 // Whether a grid has at least one cell, and columns, rows and cells are within refusal 5.
@@ -69,7 +69,7 @@ fn size_in_range(cell: f64) -> bool
 fn eps_in_range(eps: f64, r: f64) -> bool
     ensures { λ a. ⌜ a ≡ ((lt f0 eps && le eps twoMillionths) && isRadius r) ⌝ }
 {
-    0.0 < eps && (eps <= 2e-6 && spans::is_radius(r))
+    0.0 < eps && (eps <= 2e-6 && plane::is_radius(r))
 }
 
 // Whether cell size, columns, rows, eps and r are.

@@ -7,7 +7,7 @@ use Prim.Native.Nat.{ℕ, suc, _+_, _-_, _≤_, _<_}
 use native.Mathlib.Omega.{arith}
 use lib.Ieee.{Float, nan, inf, fin, lt}
 use Rattle.rules.proofs.Branches.{no}
-use Rattle.walk.specs.declared.Best.{Best}
+use Rattle.plane.specs.declared.Best.{Best}
 use Rattle.walk.specs.Walk.{Walk, over, fold}
 use Rattle.walk.proofs.Rings.{Kept, kept-same, kept-trans, fold-append}
 use Rattle.height.specs.Inside.{Halted}

@@ -11,17 +11,16 @@ use lib.Ieee.{Float, nan, inf, fin, lt, le, eq, isNan}
 use Rattle.numbers.specs.Reals.{absOf}
 use Rattle.rules.proofs.Branches.{by-test, no}
 use Rattle.order.proofs.Strict.{lt-goes-on, lt-never-same, lt-number, le-not-lt}
-use Rattle.spans.specs.Mesh.{isCoordinate}
+use Rattle.plane.specs.Ranges.{isCoordinate}
 use Rattle.rules.specs.Every.{times}
 use Rattle.plane.specs.declared.Touch.{Touch}
 use Rattle.plane.specs.declared.Contact.{Contact}
 use Rattle.plane.specs.declared.Contact.the-variants.{Nothing, Height}
-use Rattle.plane.specs.Contacts.{exceedsOf}
-use Rattle.walk.specs.declared.Best.{Best}
+use Rattle.plane.specs.Contacts.{exceedsOf, raisedTo, raisedBy}
+use Rattle.plane.specs.declared.Best.{Best}
 use Rattle.grid.specs.Boxes.{boxAt}
 use Rattle.walk.specs.Walk.{fold}
 use Rattle.capsule.specs.declared.Capsule.{Capsule}
-use Rattle.ask.specs.Ask.{raisedTo, raisedBy}
 use Rattle.height.specs.Sweep.{heightOf, diskStep}
 
 abbrev pub Real : Best → Type 0

@@ -11,11 +11,11 @@ use Rattle.plane.specs.declared.Contact.{Contact}
 use Rattle.plane.specs.Mesh.{triangleOf}
 use Rattle.capsule.specs.Candidates.{highestIn}
 use Rattle.capsule.specs.declared.Capsule.{Capsule}
-use Rattle.walk.specs.declared.Best.{Best}
+use Rattle.plane.specs.declared.Best.{Best}
 use Rattle.grid.specs.Boxes.{boxAt}
 use Rattle.capsule.specs.Inside.{onTop}
-use Rattle.ask.specs.Ask.{raisedBy}
-use Rattle.ask.proofs.Beside.{raised-beside}
+use Rattle.plane.specs.Contacts.{raisedBy}
+use Rattle.above.proofs.Beside.{raised-beside}
 use Rattle.height.specs.Sweep.{heightOf, diskStep}
 
 module _ (mesh boxes : List Float) (q : Capsule) (best : Best) (i : ℕ) (b : Bounds) (a : b ≡ boxAt boxes i) where

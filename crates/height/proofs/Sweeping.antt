@@ -5,7 +5,7 @@ use Prim.Native.Nat.{ℕ, _*_, _≤_}
 use native.Mathlib.Omega.{arith}
 use lib.Ieee.{Float}
 use lib.ListN.{length}
-use Rattle.walk.specs.declared.Best.{Best}
+use Rattle.plane.specs.declared.Best.{Best}
 use Rattle.walk.specs.Walk.{Walk, fold, nextStamp, readyMarks}
 use Rattle.walk.specs.Inside.{seen, look, Room}
 use Rattle.walk.proofs.Rings.{unmarked-length}

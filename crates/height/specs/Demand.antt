@@ -10,7 +10,7 @@ use Rattle.plane.specs.declared.Touch.{Touch}
 use Rattle.plane.specs.declared.Contact.the-variants.{Height}
 use Rattle.plane.specs.Mesh.{triangleOf, topOf}
 use Rattle.capsule.specs.declared.Capsule.{Capsule}
-use Rattle.walk.specs.declared.Best.{Best}
+use Rattle.plane.specs.declared.Best.{Best}
 use Rattle.grid.specs.Index.{Index, BuiltFrom}
 use Rattle.query.specs.declared.Patch.{Patch}
 use Rattle.query.specs.Looked.{Shares, LooksOnce, lookedIn}

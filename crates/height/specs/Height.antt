@@ -3,9 +3,8 @@ use mathlib.Core.Bool.{Bool, true, _&&_}
 use mathlib.Core.List.{List}
 use Prim.Native.Nat.{ℕ}
 use lib.Ieee.{Float}
-use Rattle.spans.specs.Mesh.{isRadius}
+use Rattle.plane.specs.Ranges.{isRadius, isPoint}
 use Rattle.grid.specs.Index.{Index}
-use Rattle.query.specs.Asked.{isPoint}
 use Rattle.ask.specs.declared.Answer.{Answer}
 use Rattle.ask.specs.Ask.{Outcome, askedHeight}
 use Rattle.height.specs.Sweep.{Sweep, patchFor, capsuleFor, diskStep}

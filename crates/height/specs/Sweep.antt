@@ -8,7 +8,7 @@ use Rattle.plane.specs.Mesh.{triangleOf}
 use Rattle.capsule.specs.declared.Capsule.{Capsule}
 use Rattle.capsule.specs.Region.{capsuleOf}
 use Rattle.capsule.specs.Candidates.{highestIn}
-use Rattle.walk.specs.declared.Best.{Best}
+use Rattle.plane.specs.declared.Best.{Best}
 use Rattle.walk.specs.Walk.{Walk, walked, nextStamp}
 use Rattle.grid.specs.declared.Header.{Header}
 use Rattle.grid.specs.Boxes.{boxAt}
@@ -16,7 +16,8 @@ use Rattle.grid.specs.Index.{Index}
 use Rattle.query.specs.declared.Patch.{Patch}
 use Rattle.query.specs.Patch.{patchOf}
 use Rattle.query.specs.Looked.{within}
-use Rattle.ask.specs.Ask.{atFloor, raisedBy, begun}
+use Rattle.ask.specs.Ask.{atFloor, begun}
+use Rattle.plane.specs.Contacts.{raisedBy}
 
 -- A sweep: a disk of radius r moved from p to q.
 pub record Sweep : Type 0 where

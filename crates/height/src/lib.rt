@@ -16,8 +16,8 @@ ghost use Rattle.height.specs.Height.{arePoints, isSweep, maxHeightOf};
 use ask::Answer;
 use capsule::Capsule;
 use grid::Header;
+use plane::Best;
 use query::Patch;
-use walk::Best;
 use walk::Seen;
 
 // What the walk of a sweep found, how many triangles it looked at, and its stamp.
@@ -187,14 +187,14 @@ fn no_limit() -> f64
 fn is_sweep(px: f64, py: f64, qx: f64, qy: f64, r: f64) -> bool
     ensures { λ a. ⌜ a ≡ isSweep (sweep px py qx qy r) ⌝ }
 {
-    are_points(px, py, qx, qy) && spans::is_radius(r)
+    are_points(px, py, qx, qy) && plane::is_radius(r)
 }
 
 // Whether the coordinates of its ends are.
 fn are_points(px: f64, py: f64, qx: f64, qy: f64) -> bool
     ensures { λ a. ⌜ a ≡ arePoints px py qx qy ⌝ }
 {
-    query::is_point(px) && (query::is_point(py) && (query::is_point(qx) && query::is_point(qy)))
+    plane::is_point(px) && (plane::is_point(py) && (plane::is_point(qx) && plane::is_point(qy)))
 }
 
 // The walk of a sweep over the cells p: it begins at the floor, with the next stamp, and is left once the best is above the limit.
@@ -260,7 +260,7 @@ fn raise(mesh: &[f64], boxes: &[f64], q: Capsule, best: Best, i: u32) -> Best
     if b.top <= best.height {
         return best;
     }
-    ask::raise_by(
+    plane::raise_by(
         capsule::highest_above(q, plane::triangle_at(mesh, i as usize), best.height),
         i,
         best,

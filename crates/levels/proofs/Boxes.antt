@@ -10,7 +10,7 @@ use Rattle.rules.proofs.Branches.{either}
 use Rattle.plane.specs.Mesh.{triangleOf}
 use Rattle.plane.specs.declared.Bounds.{Bounds}
 use Rattle.plane.specs.declared.Triangle.{Triangle}
-use Rattle.spans.specs.Mesh.{isCoordinate}
+use Rattle.plane.specs.Ranges.{isCoordinate}
 use Rattle.order.proofs.Extremes.{either-of, min-either}
 use Rattle.grid.specs.Boxes.{boxAt}
 use Rattle.fives.specs.Groups.{grouping, grouped, Each}

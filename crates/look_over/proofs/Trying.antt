@@ -8,12 +8,11 @@ use lib.Ieee.{Float, nan, inf, fin, binary64, ofBits, toBits, le, isNan}
 use lib.ListN.{length, replicate}
 use Rattle.numbers.specs.Reals.{_⊕_, f0, absOf, million}
 use Rattle.rules.proofs.Branches.{both-true, taken, left, no}
-use Rattle.spans.specs.Mesh.{isCoordinate}
-use Rattle.walk.specs.declared.Best.{Best}
+use Rattle.plane.specs.Ranges.{isCoordinate, isPoint}
+use Rattle.plane.specs.declared.Best.{Best}
 use Rattle.walk.specs.Walk.{Walk, nextStamp}
 use Rattle.grid.specs.Index.{Index}
 use Rattle.query.specs.declared.Patch.{Patch}
-use Rattle.query.specs.Asked.{isPoint}
 use Rattle.query.specs.Patch.{patchOf}
 use Rattle.query.proofs.Patches.{patch-inside}
 use Rattle.reach.specs.declared.Chord.{Chord}

@@ -8,7 +8,7 @@ ghost use lib.ListN.{length, replicate};
 ghost use Rattle.fields.specs.Little.{value};
 ghost use Rattle.grid.specs.Boxes.{isBoxed};
 ghost use Rattle.grid.specs.Index.{indexOf};
-ghost use Rattle.query.specs.Asked.{isPoint};
+ghost use Rattle.plane.specs.Ranges.{isPoint};
 ghost use Rattle.probe.specs.Inside.{Marked};
 ghost use Rattle.tool.specs.Tool.{sectionsIn, widestOf, lowestOf};
 ghost use Rattle.paths.specs.Layout.{count};

@@ -13,8 +13,8 @@ use lib.Ieee.Scale.{finite}
 use lib.ListN.{length}
 use Rattle.numbers.specs.Reals.{f0}
 use Rattle.rules.proofs.Branches.{by-test, both-true, no, holds}
-use Rattle.spans.specs.Mesh.{isCoordinate}
-use Rattle.spans.proofs.Ranges.{coordinate, coordinate-finite}
+use Rattle.plane.specs.Ranges.{isCoordinate}
+use Rattle.plane.proofs.Ranges.{coordinate, coordinate-finite}
 use Rattle.rules.specs.Ladder.{refuse, demand}
 use Rattle.rules.proofs.Ladder.{demanded}
 use Rattle.terms.specs.Terms.{areThree}

@@ -7,7 +7,7 @@ use lib.Ieee.{Float, le}
 use lib.ListN.{length}
 use Rattle.numbers.specs.Reals.{f0}
 use Rattle.fives.specs.Tables.{roomOf}
-use Rattle.spans.specs.Mesh.{isCoordinate}
+use Rattle.plane.specs.Ranges.{isCoordinate}
 use Rattle.rules.specs.Ladder.{demand}
 use Rattle.terms.specs.Terms.{areThree}
 use Rattle.runs.specs.declared.Run.{Run}

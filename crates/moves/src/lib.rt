@@ -196,7 +196,7 @@ fn is_run(feed: f64, r: Run) -> bool
     ensures { λ b. ⌜ b ≡ isRun feed r ⌝ }
 {
     terms::are_three(r.ax, r.ay, r.z)
-        && (spans::is_coordinate(r.bx) && (spans::is_coordinate(r.by) && r.z <= feed))
+        && (plane::is_coordinate(r.bx) && (plane::is_coordinate(r.by) && r.z <= feed))
 }
 
 // Whether the ids of n runs fit: the first is not 0, and the first and 7 * n + 1 more end within a u64.

@@ -9,3 +9,4 @@ pub mod Computed
 pub mod Signs
 pub mod Largest
 pub mod Casts
+pub mod Cutting

@@ -6,7 +6,7 @@ ghost use Prim.Native.Nat.{_+_, _*_, _/_, _^_, _<_};
 ghost use lib.Ieee.{binary64, ofBits};
 ghost use lib.Bits.{bitAnd};
 ghost use Rattle.numbers.specs.Reals.{maxOf, minOf, absOf, clampUnit};
-ghost use Rattle.numbers.specs.Rounding.{roundDownOf, roundUpOf};
+ghost use Rattle.numbers.specs.Rounding.{roundDownOf, roundUpOf, truncated};
 ghost use Rattle.numbers.specs.Order.{totalLess};
 
 pub mod laws;
@@ -77,6 +77,19 @@ pub fn round_up(x: f64) -> f64
     ensures { λ r. ⌜ r ≡ roundUpOf x ⌝ }
 {
     -round_down(-x)
+}
+
+// Rust's `x as u64`, which has an answer for every x.
+pub fn cut(x: f64) -> u64
+    ensures { λ k. ⌜ k ≡ truncated x ⌝ }
+{
+    if x >= 1.0 {
+        if x < 18446744073709551616.0 {
+            return std::num::truncating_f64_to_u64(x);
+        }
+        return 18446744073709551615;
+    }
+    0
 }
 
 // Whether x comes before y in the total order: -0.0 before +0.0, a NaN last.

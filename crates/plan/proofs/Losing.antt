@@ -11,7 +11,7 @@ use lib.ListN.{length, getD, replicate, length-replicate}
 use Rattle.numbers.specs.Reals.{_⊕_, f0, millionth, twoMillion, twoMillionths}
 use Rattle.rules.proofs.Branches.{both-true, by-test, no}
 use Rattle.rules.specs.Every.{isFrom, every, each}
-use Rattle.spans.specs.Mesh.{isCoordinate, isRadius}
+use Rattle.plane.specs.Ranges.{isCoordinate, isRadius}
 use Rattle.grid.specs.Index.{Index}
 use Rattle.grid.specs.Header.{inRanges}
 use Rattle.rules.specs.Ladder.{demand}

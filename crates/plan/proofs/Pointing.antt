@@ -9,11 +9,10 @@ use lib.Ieee.Exact.{HasValue}
 use Rattle.numbers.specs.Reals.{threeMillion}
 use Rattle.rules.proofs.Branches.{both-true}
 use Rattle.plane.specs.declared.Bounds.{Bounds}
-use Rattle.spans.specs.Mesh.{isCoordinate, isRadius}
+use Rattle.plane.specs.Ranges.{isCoordinate, isRadius, isPoint}
 use Rattle.order.proofs.Whole.{Bounded, bounded-size}
 use Rattle.grid.specs.Boxes.{boxAt}
 use Rattle.grid.specs.Index.{Index}
-use Rattle.query.specs.Asked.{isPoint}
 use Rattle.rules.specs.Every.{every}
 use Rattle.query.specs.Usable.{cornersUsable, areCoordinates, boxUsable, triangleUsable}
 use Rattle.rules.proofs.Testing.{every-at}

@@ -1,8 +1,8 @@
 -- The order in which heights take each other's place, on all floats: a height that was taken or passed over once is passed over ever after.
-use mathlib.Core.Bool.{Bool, true, false, cond}
-use mathlib.Core.Path.{_≡_, refl, sym, ap, _∙_, subst}
-use lib.Dec.{T, not-T}
-use lib.Ieee.{Float, nan, inf, fin, lt, isNan}
+use mathlib.Core.Bool.{true, false, cond}
+use mathlib.Core.Path.{_≡_, sym, _∙_, subst}
+use lib.Dec.{not-T}
+use lib.Ieee.{Float, lt, isNan}
 use lib.Ieee.Bits.{is-true, is-false}
 use Rattle.numbers.specs.Reals.{maxOf}
 use Rattle.rules.proofs.Branches.{either, by-test, no}

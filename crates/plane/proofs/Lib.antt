@@ -1,2 +1,5 @@
 pub mod Taking
 pub mod Higher
+pub mod Raises
+pub mod Ranges
+pub mod Sides

@@ -2,6 +2,7 @@
 use mathlib.Core.Bool.{Bool, true, false, cond}
 use Prim.Native.Nat.{ℕ}
 use lib.Ieee.{Float, lt, isNan}
+use Rattle.plane.specs.declared.Best.{Best}
 use Rattle.plane.specs.declared.Touch.{Touch}
 use Rattle.plane.specs.declared.Contact.{Contact}
 use Rattle.plane.specs.declared.Contact.the-variants.{Nothing, Height}
@@ -29,3 +30,13 @@ exceedsOf z b = cond (isNan b) (cond (isNan z) false true) (lt b z)
 unfoldable pub takeOf : Contact → Float → Touch → Contact
 takeOf Nothing z t = Height z t
 takeOf (Height b s) z t = cond (exceedsOf z b) (Height z t) (Height b s)
+
+-- The best so far, with the height z of triangle i, which touches t: only a strictly higher one raises it, and is named from then on.
+unfoldable pub raisedTo : Float → Touch → ℕ → Best → Best
+raisedTo z t i best =
+    cond (exceedsOf z (best .height)) (record { height = z; triangle = i; kind = t .kind; which = t .which }) best
+
+-- The same with the contact of triangle i.
+unfoldable pub raisedBy : Contact → ℕ → Best → Best
+raisedBy Nothing i best = best
+raisedBy (Height z t) i best = raisedTo z t i best

@@ -1,3 +1,4 @@
+pub mod Ranges
 pub mod Mesh
 pub mod Contacts
 pub mod Distance

@@ -1,10 +1,15 @@
-// Triangles of the mesh, seen from above: a triangle's box, and plan distances.
+// Triangles of the mesh, seen from above: ranges of coordinates, a triangle's box, plan distances, what a contact is and the best so far.
 ghost use mathlib.Core.Path.{_≡_};
 ghost use Prim.Native.Nat.{_+_, _*_, _≤_};
 ghost use lib.ListN.{length};
+ghost use Rattle.plane.specs.Ranges.{isCoordinate, isRadius, isPoint};
 ghost use Rattle.plane.specs.Mesh.{triangleOf, lowest, highest, topOf, boundsOf};
-ghost use Rattle.plane.specs.Contacts.{exceedsOf, takeOf};
+ghost use Rattle.plane.specs.Contacts.{exceedsOf, takeOf, raisedTo, raisedBy};
 ghost use Rattle.plane.specs.Distance.{nearestT, dist2ToSegment, baryOf, atLeast, edgeDistance, distanceXy};
+
+const MILLION: f64 = 1e6;
+
+const MINUS_MILLION: f64 = -1e6;
 
 // The corners a, b and c of a triangle.
 pub struct Triangle {
@@ -59,6 +64,36 @@ pub struct Weights {
 pub enum Spot {
     Nowhere,
     At(Weights),
+}
+
+// The highest contact so far: its height, the triangle that last raised it, and what of that triangle is touched, its kind and which of three. A kind
+// of 0 is the floor, which no triangle has raised; triangle and which are 0 then.
+pub struct Best {
+    pub height: f64,
+    pub triangle: u32,
+    pub kind: u32,
+    pub which: u32,
+}
+
+// Whether x can be a coordinate or a floor.
+pub fn is_coordinate(x: f64) -> bool
+    ensures { λ a. ⌜ a ≡ isCoordinate x ⌝ }
+{
+    x >= MINUS_MILLION && x <= MILLION
+}
+
+// Whether r can be an index radius.
+pub fn is_radius(r: f64) -> bool
+    ensures { λ a. ⌜ a ≡ isRadius r ⌝ }
+{
+    r >= 0.0 && r <= MILLION
+}
+
+// Whether x can be a coordinate of a question's point.
+pub fn is_point(x: f64) -> bool
+    ensures { λ r. ⌜ r ≡ isPoint x ⌝ }
+{
+    numbers::abs(x) <= 3e6
 }
 
 // Triangle i of a mesh.
@@ -224,4 +259,29 @@ pub fn distance_xy(t: Triangle, x: f64, y: f64) -> f64
             }
         }
     }
+}
+
+// The best so far with the contact of triangle i.
+pub fn raise_by(c: Contact, i: u32, best: Best) -> Best
+    ensures { λ r. ⌜ r ≡ raisedBy c i best ⌝ }
+{
+    match c {
+        Contact::Nothing => best,
+        Contact::Height(z, t) => raise_to(z, t, i, best),
+    }
+}
+
+// The same with a height.
+fn raise_to(z: f64, t: Touch, i: u32, best: Best) -> Best
+    ensures { λ r. ⌜ r ≡ raisedTo z t i best ⌝ }
+{
+    if exceeds(z, best.height) {
+        return Best {
+            height: z,
+            triangle: i,
+            kind: t.kind,
+            which: t.which,
+        };
+    }
+    best
 }

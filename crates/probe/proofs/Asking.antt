@@ -11,7 +11,7 @@ use lib.Ieee.{Float, lt}
 use lib.ListN.{length, getD, set, replicate, length-set, length-replicate, getD-replicate, List·getD-eq-default}
 use lib.Seq.{getD-set-same, getD-set-other, set-out}
 use Rattle.rules.proofs.Branches.{by-test}
-use Rattle.walk.specs.declared.Best.{Best}
+use Rattle.plane.specs.declared.Best.{Best}
 use Rattle.walk.specs.Walk.{Walk, looked, marked, fold, walked, nextStamp, readyMarks}
 use Rattle.grid.specs.Index.{Index}
 use Rattle.query.specs.Looked.{within}

@@ -16,7 +16,7 @@ use Rattle.numbers.specs.Reals.{num, _⊕_, _⊗_, absOf, million, million-is}
 use Rattle.grid.specs.Boxes.{boxAt}
 use Rattle.numbers.proofs.Counts.{round-self}
 use Rattle.cells.proofs.Sets.{by-lt}
-use Rattle.spans.specs.Mesh.{isCoordinate}
+use Rattle.plane.specs.Ranges.{isCoordinate}
 use Rattle.order.proofs.Signed.{upSigned, round-up}
 use Rattle.order.proofs.Ranges.{finite-between, le-trans-finite}
 use Rattle.rules.specs.Every.{every}

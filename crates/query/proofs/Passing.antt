@@ -10,7 +10,8 @@ use lib.Ieee.{Float}
 use lib.ListN.{length, getD}
 use Rattle.numbers.specs.Reals.{num}
 use Rattle.plane.specs.Mesh.{triangleOf, lowest, highest, topOf, boundsOf}
-use Rattle.spans.specs.Mesh.{isCoordinate, boxOf}
+use Rattle.plane.specs.Ranges.{isCoordinate}
+use Rattle.spans.specs.Mesh.{boxOf}
 use Rattle.order.proofs.Extremes.{min-either, either-of}
 use Rattle.walk.specs.Walk.{cell}
 use Rattle.grid.specs.Boxes.{isBoxed}

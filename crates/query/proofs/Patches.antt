@@ -9,7 +9,7 @@ use lib.Dec.{leb}
 use lib.Ieee.{Float, lt}
 use Rattle.numbers.specs.Reals.{f0}
 use Rattle.rules.proofs.Branches.{either, taken, left}
-use Rattle.spans.specs.Axis.{truncated}
+use Rattle.numbers.specs.Rounding.{truncated}
 use Rattle.grid.specs.declared.Header.{Header}
 use Rattle.query.specs.declared.Span.{Span}
 use Rattle.query.specs.Patch.{heldTo, axisSpan, patchOf, nowhere}

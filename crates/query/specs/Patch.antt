@@ -4,8 +4,7 @@ use Prim.Native.Nat.{ℕ, _+_, min}
 use lib.Dec.{leb}
 use lib.Ieee.{Float, lt}
 use Rattle.numbers.specs.Reals.{_⊕_, _⊖_, _⊘_, f0, maxOf, minOf}
-use Rattle.numbers.specs.Rounding.{roundDownOf}
-use Rattle.spans.specs.Axis.{truncated}
+use Rattle.numbers.specs.Rounding.{roundDownOf, truncated}
 use Rattle.grid.specs.declared.Header.{Header}
 use Rattle.query.specs.declared.Span.{Span}
 use Rattle.query.specs.declared.Patch.{Patch}

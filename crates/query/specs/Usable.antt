@@ -7,7 +7,7 @@ use lib.Ieee.{Float}
 use lib.ListN.{length, getD}
 use Rattle.rules.specs.Every.{every, each}
 use Rattle.numbers.specs.Reals.{num}
-use Rattle.spans.specs.Mesh.{isCoordinate}
+use Rattle.plane.specs.Ranges.{isCoordinate}
 use Rattle.walk.specs.Walk.{cell}
 use Rattle.plane.specs.declared.Bounds.{Bounds}
 use Rattle.grid.specs.Boxes.{boxAt}

@@ -3,7 +3,7 @@ ghost use mathlib.Core.Path.{_≡_};
 ghost use Prim.Native.Nat.{_+_, _*_, _≤_, _<_, min};
 ghost use lib.ListN.{length};
 ghost use Rattle.grid.specs.Index.{indexOf};
-ghost use Rattle.query.specs.Asked.{isMarked, isPoint};
+ghost use Rattle.query.specs.Asked.{isMarked};
 ghost use Rattle.query.specs.Patch.{heldTo, axisSpan, patchOf};
 ghost use Rattle.query.specs.Looked.{UsablePromise};
 ghost use Rattle.query.specs.Inside.{sevenSquares, Tested};
@@ -35,13 +35,6 @@ pub fn is_marked(mesh: &[f64], marks: &[u32]) -> bool
     n <= 65536 && mesh.len() == n * 9
 }
 
-// Whether x can be a coordinate of a question's point.
-pub fn is_point(x: f64) -> bool
-    ensures { λ r. ⌜ r ≡ isPoint x ⌝ }
-{
-    numbers::abs(x) <= 3e6
-}
-
 // The cells from lo to hi on an axis of so many.
 fn held(count: usize, lo: f64, hi: f64) -> Span
     ensures { λ s. ⌜ s ≡ heldTo count lo hi ⌝ }
@@ -49,13 +42,13 @@ fn held(count: usize, lo: f64, hi: f64) -> Span
     if hi < 0.0 {
         return Span { first: 0, past: 0 };
     }
-    let first = spans::cut(lo) as usize;
+    let first = numbers::cut(lo) as usize;
     if count <= first {
         return Span { first: 0, past: 0 };
     }
     Span {
         first,
-        past: one_past(count, spans::cut(hi) as usize),
+        past: one_past(count, numbers::cut(hi) as usize),
     }
 }
 
@@ -179,15 +172,15 @@ fn box_usable(b: Bounds) -> bool
     ensures { λ r. ⌜ r ≡ boxUsable b ⌝ }
 {
     let top = b.top;
-    are_coordinates(b.low_x, b.low_y, b.high_x, b.high_y) && spans::is_coordinate(top)
+    are_coordinates(b.low_x, b.low_y, b.high_x, b.high_y) && plane::is_coordinate(top)
 }
 
 // Whether four numbers are coordinates.
 fn are_coordinates(a: f64, b: f64, c: f64, d: f64) -> bool
     ensures { λ r. ⌜ r ≡ areCoordinates a b c d ⌝ }
 {
-    spans::is_coordinate(a)
-        && (spans::is_coordinate(b) && (spans::is_coordinate(c) && spans::is_coordinate(d)))
+    plane::is_coordinate(a)
+        && (plane::is_coordinate(b) && (plane::is_coordinate(c) && plane::is_coordinate(d)))
 }
 
 // Whether no coordinate of triangle i is one that 4 would refuse, one after the other.
@@ -196,7 +189,7 @@ fn corners_usable(mesh: &[f64], i: usize) -> bool
     ensures { λ r. ⌜ r ≡ cornersUsable (now (mesh .entry)) i ⌝ }
 {
     for k in 9 * i..9 * i + 9 {
-        if !spans::is_coordinate(mesh[k]) {
+        if !plane::is_coordinate(mesh[k]) {
             return false;
         }
     }

@@ -11,7 +11,8 @@ use lib.ListN.{length}
 use Rattle.rules.proofs.Branches.{taken, left as passed-by, by-test}
 use Rattle.plane.specs.declared.Bounds.{Bounds}
 use Rattle.plane.specs.Mesh.{triangleOf, lowest, highest, topOf, boundsOf}
-use Rattle.spans.specs.Mesh.{isCoordinate, firstBad, boxOf, widened, extentOf, epsOf}
+use Rattle.plane.specs.Ranges.{isCoordinate}
+use Rattle.spans.specs.Mesh.{firstBad, boxOf, widened, extentOf, epsOf}
 use Rattle.spans.specs.declared.Extent.{Extent}
 use Rattle.spans.specs.declared.Place.{Place}
 use Rattle.spans.specs.declared.Place.the-variants.{Nowhere, At}

@@ -11,7 +11,8 @@ use lib.Ieee.{Float, nan}
 use lib.ListN.{length, getD, set, drop, length-append, length-drop, drop-of-length-le}
 use lib.Seq.{getD-append-add, set-at, drop-cons, drop-length}
 use Rattle.numbers.specs.Reals.{num}
-use Rattle.spans.specs.Mesh.{isCoordinate, badFrom, firstBad}
+use Rattle.plane.specs.Ranges.{isCoordinate}
+use Rattle.spans.specs.Mesh.{badFrom, firstBad}
 use Rattle.spans.specs.declared.Place.the-variants.{Nowhere, At}
 use Rattle.raise.specs.Raise.{liftedAt, liftedFrom, lifted}
 

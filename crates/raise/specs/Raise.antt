@@ -10,7 +10,8 @@ use lib.ListN.{length}
 use Rattle.numbers.specs.Reals.{_⊕_}
 use Rattle.plane.specs.declared.Bounds.{Bounds}
 use Rattle.plane.specs.Mesh.{triangleOf, topOf}
-use Rattle.spans.specs.Mesh.{isCoordinate, firstBad, epsOf}
+use Rattle.plane.specs.Ranges.{isCoordinate}
+use Rattle.spans.specs.Mesh.{firstBad, epsOf}
 use Rattle.grid.specs.declared.Header.{Header}
 use Rattle.grid.specs.declared.Built.{Built}
 use Rattle.rules.specs.Ladder.{refuse, demand}

@@ -85,7 +85,7 @@ fn refusal(mesh: &[f64], boxes: &[f64], h: Header, amount: f64) -> Reason
             place: 0,
         };
     }
-    if !spans::is_coordinate(amount) {
+    if !plane::is_coordinate(amount) {
         return Reason {
             refusal: 2,
             place: 0,
@@ -147,7 +147,7 @@ fn first_high(mesh: &[f64], amount: f64) -> Place
 {
     let mut k = 0;
     while k < mesh.len() {
-        if !spans::is_coordinate(lifted_at(amount, k, mesh[k])) {
+        if !plane::is_coordinate(lifted_at(amount, k, mesh[k])) {
             return Place::At(k);
         }
         k += 1;

@@ -14,7 +14,7 @@ use lib.ListN.{length}
 use Rattle.numbers.specs.Reals.{_⊕_, _⊖_, _⊗_, _⊘_, f1, maxOf, f1-is}
 use Rattle.numbers.specs.Rounding.{roundUpOf}
 use Rattle.rules.proofs.Branches.{either, by-test, no}
-use Rattle.spans.specs.Mesh.{isRadius}
+use Rattle.plane.specs.Ranges.{isRadius}
 use Rattle.order.proofs.Ranges.{cut-up}
 use Rattle.order.proofs.Extremes.{not-below}
 use Rattle.order.proofs.Whole.{Within, Bounded, within-more, bounded-add, bounded-sub, within-mul, within-times, within-div, ahead, back, ahead-few, back-few, width-within, further}

@@ -3,8 +3,7 @@ use Prim.Native.Nat.{ℕ}
 use lib.IntN.{pos}
 use lib.Ieee.{Float, binary64, ofInt}
 use Rattle.numbers.specs.Reals.{_⊕_, _⊖_, _⊗_, _⊘_, f1, f4, minOf, maxOf}
-use Rattle.numbers.specs.Rounding.{roundUpOf}
-use Rattle.spans.specs.Axis.{truncated}
+use Rattle.numbers.specs.Rounding.{roundUpOf, truncated}
 use Rattle.levels.specs.declared.Level.{Level}
 use Rattle.runs.specs.declared.Run.{Run}
 use Rattle.rows.specs.declared.Axis.{Axis}

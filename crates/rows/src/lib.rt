@@ -51,7 +51,7 @@ pub fn spread_of(axis: Axis, r: f64, l: Level) -> Spread
 fn parts(width: f64, step: f64) -> usize
     ensures { λ n. ⌜ n ≡ partsOf width step ⌝ }
 {
-    spans::cut(numbers::max(numbers::round_up(width / step), 1.0)) as usize
+    numbers::cut(numbers::max(numbers::round_up(width / step), 1.0)) as usize
 }
 
 // How many intervals the rows have.

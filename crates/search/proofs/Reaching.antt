@@ -10,7 +10,7 @@ use lib.IntN.{pos}
 use lib.Ieee.{Float, binary64, ofBits, ofInt, round}
 use Rattle.numbers.specs.Reals.{_⊕_, f2}
 use Rattle.rules.proofs.Branches.{either, no}
-use Rattle.spans.specs.Mesh.{isRadius}
+use Rattle.plane.specs.Ranges.{isRadius}
 use Rattle.order.proofs.Whole.{Bounded, bounded-add, within-div}
 use Rattle.fives.specs.Groups.{Each}
 use Rattle.fives.proofs.Grouping.{each-append}

@@ -27,10 +27,10 @@ use Rattle.touch.specs.declared.Edge.{Edge}
 use Rattle.touch.specs.declared.Stretch.{Stretch}
 use Rattle.touch.specs.declared.Stretch.the-variants.{Nowhere, Between}
 use Rattle.touch.specs.Touch.{along, distanceAt, length2, reachedOf}
-use Rattle.spans.specs.Mesh.{isCoordinate}
+use Rattle.plane.specs.Ranges.{isCoordinate}
 use Rattle.order.proofs.Signed.{upper, lower, parts→le, is-le, is-sub}
 use Rattle.order.proofs.Ranges.{finite-between, sub-mono, zero-is}
-use Rattle.spans.proofs.Ranges.{two, minus-two}
+use Rattle.plane.proofs.Ranges.{two, minus-two}
 use Rattle.order.proofs.Extremes.{either-of, le-self, not-below, max-least, lt-le}
 use Rattle.order.proofs.Order.{O, le-trans, sub-turns, add-left, add-right, mul-up, mul-down, mul-swap, no-lower, no-upper, is-mul, own}
 use Rattle.order.proofs.Roots.{root-finite}

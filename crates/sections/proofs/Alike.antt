@@ -8,7 +8,7 @@ use native.Mathlib.Omega.{arith}
 use borrow.Author.Tests.{leb-true, leb-false, lt-leb}
 use lib.Dec.{eqb, leb}
 use lib.Ieee.{Float}
-use Rattle.walk.specs.declared.Best.{Best}
+use Rattle.plane.specs.declared.Best.{Best}
 use lib.ListN.{length, take}
 use lib.Seq.{take-length}
 use Rattle.rules.proofs.Branches.{left}

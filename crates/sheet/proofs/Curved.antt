@@ -14,7 +14,7 @@ use Rattle.roots.specs.Root.{rootOf}
 use Rattle.rules.proofs.Branches.{no, by-test}
 use Rattle.order.proofs.Signed.{upper, lower, is-le, is-sub}
 use Rattle.order.proofs.Ranges.{finite-between, sub-mono}
-use Rattle.spans.proofs.Ranges.{Coordinate, extent-positive, two}
+use Rattle.plane.proofs.Ranges.{Coordinate, extent-positive, two}
 use Rattle.order.proofs.Extremes.{either-of, le-self, not-below, max-least, lt-le}
 use Rattle.order.proofs.Order.{O, le-trans, sub-turns, square-up, no-lower, own}
 use Rattle.order.proofs.Roots.{root-finite, root-le}

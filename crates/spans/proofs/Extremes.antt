@@ -11,11 +11,12 @@ use lib.Ieee.{Float, nan, inf, fin, lt, le, isNan}
 use lib.Ieee.Scale.{finite}
 use Rattle.numbers.specs.Reals.{_⊖_, _⊘_, num, maxOf, minOf, f0-is}
 use Rattle.plane.specs.Mesh.{triangleOf, lowest, highest, boundsOf}
-use Rattle.spans.specs.Mesh.{isCoordinate, boxOf, widened, extentOf}
+use Rattle.plane.specs.Ranges.{isCoordinate}
+use Rattle.spans.specs.Mesh.{boxOf, widened, extentOf}
 use Rattle.spans.specs.Axis.{cellAt, cellsAlong, stretchOf}
 use Rattle.spans.specs.Inside.{Near}
 use Rattle.spans.proofs.Rounding.{round-down-cuts}
-use Rattle.spans.proofs.Ranges.{Coordinate, coordinate, coordinate-finite}
+use Rattle.plane.proofs.Ranges.{Coordinate, coordinate, coordinate-finite}
 use Rattle.order.proofs.Ranges.{le-trans-finite}
 use Rattle.spans.proofs.Sizes.{Size, quotient-low, cells-few, cells-mono}
 use Rattle.order.proofs.Extremes.{either-of, le-self, min-either, max-least, max-first, min-first, min-second}

@@ -1,8 +1,6 @@
-pub mod Cutting
 pub mod Searching
 pub mod Folding
 pub mod Rounding
-pub mod Ranges
 pub mod Sizes
 pub mod Extremes
 pub mod Scales

@@ -15,9 +15,10 @@ use lib.Ieee.Scale.{finite}
 use lib.Ieee.Bits.{is-true}
 use Rattle.numbers.specs.Reals.{_⊗_, f0, f1, million, twoMillionths, num, maxOf, absOf, million-is, f1-is, f0-is, slack-is, twoMillionths-is}
 use Rattle.plane.specs.Mesh.{triangleOf}
-use Rattle.spans.specs.Mesh.{isCoordinate, farther, farthestOf, scaleOf, epsOf}
+use Rattle.plane.specs.Ranges.{isCoordinate}
+use Rattle.spans.specs.Mesh.{farther, farthestOf, scaleOf, epsOf}
 use Rattle.order.proofs.Signed.{parts→lt}
-use Rattle.spans.proofs.Ranges.{absolute-finite}
+use Rattle.plane.proofs.Ranges.{absolute-finite}
 use Rattle.order.proofs.Ranges.{le-trans-finite}
 use Rattle.order.proofs.Extremes.{either-of, max-least, above-finite}
 

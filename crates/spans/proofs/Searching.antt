@@ -9,7 +9,8 @@ use lib.ListN.{length, drop}
 use lib.Seq.{drop-cons, drop-length}
 use lib.Ieee.{Float, nan}
 use Rattle.numbers.specs.Reals.{num}
-use Rattle.spans.specs.Mesh.{isCoordinate, badFrom, firstBad}
+use Rattle.plane.specs.Ranges.{isCoordinate}
+use Rattle.spans.specs.Mesh.{badFrom, firstBad}
 use Rattle.spans.specs.declared.Place.the-variants.{Nowhere, At}
 
 module _ (mesh : List Float) where

@@ -1,5 +1,5 @@
 -- The size of a cell lies from 1e-6 to 2e6, so a coordinate's cell is at most number 2e12, and larger coordinates lie in no lower cell.
-use mathlib.Core.Bool.{Bool, true, false, _&&_}
+use mathlib.Core.Bool.{false}
 use mathlib.Core.Path.{_≡_, refl, subst}
 use Prim.Native.Nat.{ℕ, _*_, _≤_, _<_}
 use native.Mathlib.Nat.{zero-mul, mul-one, mul-pos, mul-le-mul-right}
@@ -12,14 +12,14 @@ use lib.Ieee.Order.{round-mono}
 use lib.Ieee.Scale.{finite}
 use lib.Ieee.Positive.{num, den, den-pos, positive, between, le→cross}
 use Rattle.order.proofs.Extremes.{above-finite, either-of, max-least}
-use Rattle.numbers.specs.Reals.{_⊖_, _⊘_, million, millionth, f0, f1, f4, maxOf, millionth-is, million-is, f0-is, f1-is, f4-is}
+use Rattle.numbers.specs.Reals.{_⊖_, _⊘_, million, millionth, f1, f4, maxOf, millionth-is, million-is, f0-is, f1-is, f4-is}
 use Rattle.roots.specs.Root.{rootOf, rootOfUnits, nearestRoot, wholeRoot}
 use Rattle.roots.proofs.Monotone.{root-mono}
-use Rattle.spans.specs.Mesh.{isRadius}
-use Rattle.spans.specs.Axis.{spanOf, sizeOf, truncated, cellAt}
+use Rattle.spans.specs.Axis.{spanOf, sizeOf, cellAt}
+use Rattle.numbers.specs.Rounding.{truncated}
 use Rattle.spans.specs.declared.Extent.{Extent}
 use Rattle.order.proofs.Signed.{upper, lower, le→parts, is-le, is-div}
-use Rattle.spans.proofs.Ranges.{Coordinate, coordinate-finite, two, extent-high, extent-finite, extent-positive}
+use Rattle.plane.proofs.Ranges.{Coordinate, coordinate-finite, two, extent-high, extent-finite, extent-positive, Radius, radius-finite}
 use Rattle.order.proofs.Ranges.{zero-is, finite-between, le-trans-finite, num-pos, sub-mono, div-up, div-both, cut-up}
 
 -- 1e-6
@@ -77,22 +77,6 @@ div-shrinks : (x s : Float) → T (finite x) → T (positive s) → T (le x two)
 div-shrinks x s p q h k =
     let e : two ⊘ fin false 1 (pos 0) ≡ two = unfold div round in refl in
     rw e at (div-both binary64 x two s (fin false 1 (pos 0)) p tt q tt refl h (omega (arith, k, mul-one (num s))))
-
--- 0 <= r <= 1e6
-pub record Radius (r : Float) : Type 0 where
-  pub low : T (le f0 r)
-  pub high : T (le r million)
-
-pub radius : (r : Float) → isRadius r ≡ true → Radius r
-unfolding isRadius
-radius r e = let b = both (le f0 r) (le r million) e in record { low = rw (b .0) tt; high = rw (b .1) tt }
-  where
-    both : (a b : Bool) → (a && b) ≡ true → (a ≡ true) × (b ≡ true)
-    both true b e = (refl, e)
-    both false b e = let z : _≡_ {A = ℕ} 0 1 = cc in absurd (omega arith)
-
-radius-finite : (r : Float) → Radius r → T (finite r)
-radius-finite r z = finite-between (fin false 0 (pos 0)) r (fin false 15625 (pos 6)) tt tt (rw f0-is at (z .low)) (rw million-is at (z .high))
 
 -- ---- the root of a number of triangles
 module _ (n : ℕ) (some : 0 < n) (few : n ≤ 65536) where

@@ -1,10 +1,10 @@
 -- Document 01, "Mesh, grid and marks": the size of a cell, the cells on an axis, and those that a stretch of it covers.
 use Prim.Native.Nat.{ℕ, _+_, _-_, min}
 use lib.IntN.{pos}
-use lib.Ieee.{Float, binary64, ofInt, toUnsigned}
+use lib.Ieee.{Float, binary64, ofInt}
 use Rattle.numbers.specs.Reals.{_⊖_, _⊘_, f1, f4, millionth, maxOf}
 use Rattle.roots.specs.Root.{rootOf}
-use Rattle.numbers.specs.Rounding.{roundDownOf}
+use Rattle.numbers.specs.Rounding.{roundDownOf, truncated}
 use Rattle.spans.specs.declared.Extent.{Extent}
 use Rattle.spans.specs.declared.Stretch.{Stretch}
 
@@ -15,10 +15,6 @@ spanOf e r = maxOf (maxOf (e .right ⊖ e .left) (e .top ⊖ e .bottom)) r
 -- cell = span / max(root(n), 1), then at least r/4, then at least 1e-6
 unfoldable pub sizeOf : ℕ → Float → Float → Float
 sizeOf n span r = maxOf (maxOf (span ⊘ maxOf (rootOf (ofInt binary64 (pos n))) f1) (r ⊘ f4)) millionth
-
--- Truncated, as Rust's `as usize`: without the fraction; a NaN and what is negative give 0, what is too large gives the largest.
-abbrev pub truncated : Float → ℕ
-truncated x = toUnsigned 64 x
 
 -- The cell that a coordinate x lies in: (x-lo)/cell, truncated.
 unfoldable pub cellAt : Float → Float → Float → ℕ

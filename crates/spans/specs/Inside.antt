@@ -8,7 +8,7 @@ use lib.Dec.{T}
 use lib.Ieee.{Float, nan, inf, fin, le, isNan}
 use Rattle.numbers.specs.Reals.{_⊖_, _⊘_, f0, num}
 use Rattle.plane.specs.declared.Triangle.{Triangle}
-use Rattle.spans.specs.Mesh.{isCoordinate}
+use Rattle.plane.specs.Ranges.{isCoordinate}
 use Rattle.spans.specs.Axis.{cellAt}
 use Rattle.spans.specs.declared.Extent.{Extent}
 

@@ -1,23 +1,16 @@
--- Document 01, "Mesh, grid and marks": which numbers a mesh may hold, where it lies, and its eps.
-use mathlib.Core.Bool.{Bool, true, false, cond, _&&_}
+-- Document 01, "Mesh, grid and marks": the first number that a mesh may not hold, where it lies, and its eps.
+use mathlib.Core.Bool.{true, false, cond}
 use mathlib.Core.List.{List, [], _∷_}
 use Prim.Native.Nat.{ℕ, zero, suc, _+_}
-use lib.Ieee.{Float, inf, le}
-use Rattle.numbers.specs.Reals.{_⊗_, f0, f1, slack, million, maxOf, minOf, absOf}
+use lib.Ieee.{Float, inf}
+use Rattle.plane.specs.Ranges.{isCoordinate}
+use Rattle.numbers.specs.Reals.{_⊗_, f0, f1, slack, maxOf, minOf, absOf}
 use Rattle.plane.specs.Mesh.{triangleOf, boundsOf}
 use Rattle.plane.specs.declared.Triangle.{Triangle}
 use Rattle.plane.specs.declared.Bounds.{Bounds}
 use Rattle.spans.specs.declared.Extent.{Extent}
 use Rattle.spans.specs.declared.Place.{Place}
 use Rattle.spans.specs.declared.Place.the-variants.{Nowhere, At}
-
--- A coordinate, or a floor: finite with magnitude at most 1e6.
-unfoldable pub isCoordinate : Float → Bool
-isCoordinate x = le (absOf x) million
-
--- An index radius: 0 <= r <= 1e6, where -0.0 counts as zero.
-unfoldable pub isRadius : Float → Bool
-isRadius r = le f0 r && le r million
 
 -- Of the numbers from place k on: where the first stands that is no coordinate.
 unfoldable pub badFrom : ℕ → List Float → Place

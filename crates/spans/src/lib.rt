@@ -3,17 +3,14 @@ ghost use mathlib.Core.Bool.{true, false};
 ghost use mathlib.Core.Path.{_≡_};
 ghost use Prim.Native.Nat.{_+_, _-_, _*_, _^_, _<_, _≤_, min};
 ghost use lib.ListN.{length};
-ghost use Rattle.spans.specs.Mesh.{isCoordinate, isRadius, firstBad, boxOf, widened, extentOf, farther, farthestOf, scaleOf, epsOf};
+ghost use Rattle.spans.specs.Mesh.{firstBad, boxOf, widened, extentOf, farther, farthestOf, scaleOf, epsOf};
 ghost use lib.Dec.{T};
 ghost use lib.Ieee.{isNan, le};
 ghost use Rattle.numbers.specs.Reals.{f0, maxOf, minOf, absOf};
 ghost use Rattle.plane.specs.Mesh.{lowest, highest, boundsOf};
 ghost use Rattle.spans.specs.Inside.{Good, AllGood, Corners, Ends, notNegative, Near};
-ghost use Rattle.spans.specs.Axis.{spanOf, sizeOf, truncated, cellAt, cellsAlong, stretchOf};
-
-const MILLION: f64 = 1e6;
-
-const MINUS_MILLION: f64 = -1e6;
+ghost use Rattle.spans.specs.Axis.{spanOf, sizeOf, cellAt, cellsAlong, stretchOf};
+ghost use Rattle.numbers.specs.Rounding.{truncated};
 
 // 2^52: from there on to 2^53 a float has no fraction.
 const SHIFT: f64 = 4503599627370496.0;
@@ -38,27 +35,13 @@ pub struct Stretch {
     pub last: usize,
 }
 
-// Whether x can be a coordinate or a floor.
-pub fn is_coordinate(x: f64) -> bool
-    ensures { λ a. ⌜ a ≡ isCoordinate x ⌝ }
-{
-    x >= MINUS_MILLION && x <= MILLION
-}
-
-// Whether r can be an index radius.
-pub fn is_radius(r: f64) -> bool
-    ensures { λ a. ⌜ a ≡ isRadius r ⌝ }
-{
-    r >= 0.0 && r <= MILLION
-}
-
 // The first number that is no coordinate.
 pub fn first_bad(mesh: &[f64]) -> Place
     ensures { λ p. ⌜ p ≡ firstBad (now (mesh .entry)) ⌝ }
 {
     let mut k = 0;
     while k < mesh.len() {
-        if !is_coordinate(mesh[k]) {
+        if !plane::is_coordinate(mesh[k]) {
             return Place::At(k);
         }
         k += 1;
@@ -216,19 +199,6 @@ pub fn size(n: usize, span: f64, r: f64) -> f64
     numbers::max(numbers::max(share, r / 4.0), 1e-6)
 }
 
-// Rust's `x as u64`, which has an answer for every x.
-pub fn cut(x: f64) -> u64
-    ensures { λ k. ⌜ k ≡ truncated x ⌝ }
-{
-    if x >= 1.0 {
-        if x < 18446744073709551616.0 {
-            return std::num::truncating_f64_to_u64(x);
-        }
-        return 18446744073709551615;
-    }
-    0
-}
-
 // The same of an x from 0 on that is not too large: n is the whole number nearest to x, which is x without its fraction or one more.
 fn whole(x: f64) -> u64
     requires { ⌜ T (le f0 x) × (truncated x < 65536) ⌝ }
@@ -255,7 +225,7 @@ pub fn cells_along(lo: f64, hi: f64, size: f64) -> usize
     requires { ⌜ cellsAlong lo hi size < 2 ^ 64 ⌝ }
     ensures { λ k. ⌜ k ≡ cellsAlong lo hi size ⌝ }
 {
-    cut(numbers::round_down((hi - lo) / size)) as usize + 1
+    numbers::cut(numbers::round_down((hi - lo) / size)) as usize + 1
 }
 
 // A cell's number, held to the last of so many.

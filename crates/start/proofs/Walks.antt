@@ -17,17 +17,17 @@ use Rattle.order.proofs.Order.{le-trans}
 use Rattle.plane.specs.declared.Touch.{Touch}
 use Rattle.plane.specs.declared.Contact.{Contact}
 use Rattle.plane.specs.declared.Contact.the-variants.{Nothing, Height}
-use Rattle.plane.specs.Contacts.{exceedsOf}
+use Rattle.plane.specs.Contacts.{exceedsOf, raisedTo, raisedBy}
 use Rattle.plane.specs.Mesh.{triangleOf}
 use Rattle.capsule.specs.declared.Capsule.{Capsule}
-use Rattle.walk.specs.declared.Best.{Best}
+use Rattle.plane.specs.declared.Best.{Best}
 use Rattle.walk.specs.Walk.{looked, fold, walked, nextStamp, readyMarks}
 use Rattle.grid.specs.declared.Header.{Header}
 use Rattle.grid.specs.Boxes.{boxAt}
 use Rattle.grid.specs.Index.{indexOf}
 use Rattle.query.specs.Patch.{patchOf}
 use Rattle.query.specs.Looked.{within}
-use Rattle.ask.specs.Ask.{atFloor, raisedTo, raisedBy}
+use Rattle.ask.specs.Ask.{atFloor}
 use Rattle.height.specs.Sweep.{sweep, patchFor, capsuleFor, heightOf, diskStep, capsuleWalk, sweepWalk}
 use Rattle.runs.specs.declared.Run.{Run}
 use Rattle.probe.specs.Probe.{heightUnder}

@@ -6,7 +6,7 @@ use lib.Dec.{ltb}
 use lib.Ieee.{Float, lt, le}
 use lib.ListN.{length}
 use Rattle.numbers.specs.Reals.{_⊖_, _⊗_, f0, f2, f16, finest, coarsest, tenth}
-use Rattle.spans.specs.Mesh.{isCoordinate}
+use Rattle.plane.specs.Ranges.{isCoordinate}
 use Rattle.levels.specs.declared.Level.{Level}
 use Rattle.rows.specs.declared.Axis.{Axis}
 use Rattle.rows.specs.Lanes.{spreadOf, intervalsOf, stepOf, samplesOf}

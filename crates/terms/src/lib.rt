@@ -36,7 +36,7 @@ fn are_numbers(p: Parameters) -> bool
     ensures { λ b. ⌜ b ≡ areNumbers p ⌝ }
 {
     are_three(p.tolerance, p.level_tolerance, p.stepover)
-        && (spans::is_coordinate(p.stock_to_leave)
+        && (plane::is_coordinate(p.stock_to_leave)
             && are_three(p.stock_bottom, p.stock_top, p.cutting_length))
 }
 
@@ -44,7 +44,7 @@ fn are_numbers(p: Parameters) -> bool
 pub fn are_three(a: f64, b: f64, c: f64) -> bool
     ensures { λ r. ⌜ r ≡ areThree a b c ⌝ }
 {
-    spans::is_coordinate(a) && (spans::is_coordinate(b) && spans::is_coordinate(c))
+    plane::is_coordinate(a) && (plane::is_coordinate(b) && plane::is_coordinate(c))
 }
 
 // Whether tolerance and stepover are in their ranges.

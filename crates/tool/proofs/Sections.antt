@@ -15,10 +15,10 @@ use Rattle.section.specs.declared.Section.{Section}
 use Rattle.section.specs.Section.{validSection, sectionContact}
 use Rattle.section_gap.specs.Blocks.{sectionBlocks}
 use Rattle.above.specs.Above.{offerOf, soFar}
-use Rattle.walk.specs.declared.Best.{Best}
+use Rattle.plane.specs.declared.Best.{Best}
 use Rattle.rules.specs.Every.{every}
-use Rattle.ask.specs.Ask.{raisedBy}
-use Rattle.ask.proofs.Beside.{raised-beside}
+use Rattle.plane.specs.Contacts.{raisedBy}
+use Rattle.above.proofs.Beside.{raised-beside}
 use Rattle.tool.specs.Tool.{sectionOf, widestOf, lowestOf, raisedOver}
 
 module _ (table : List Float) (i : ℕ) (s : Section) (here : s ≡ sectionOf table i) where

@@ -10,8 +10,8 @@ use Rattle.rules.specs.Every.{isFrom, every}
 use Rattle.golden.specs.Upper.{infinity}
 use Rattle.plane.specs.declared.Triangle.{Triangle}
 use Rattle.plane.specs.declared.Bounds.{Bounds}
-use Rattle.walk.specs.declared.Best.{Best}
-use Rattle.ask.specs.Ask.{raisedBy}
+use Rattle.plane.specs.declared.Best.{Best}
+use Rattle.plane.specs.Contacts.{raisedBy}
 use Rattle.reach.specs.declared.Chord.{Chord}
 use Rattle.section.specs.declared.Section.{Section}
 use Rattle.section.specs.Section.{validSection, sectionContact}

@@ -5,11 +5,11 @@ ghost use lib.ListN.{length};
 ghost use Rattle.rules.specs.Every.{isFrom, every};
 ghost use Rattle.section.specs.Section.{validSection};
 ghost use Rattle.tool.specs.Tool.{sectionOf, sectionsIn, isTool, widestOf, lowestOf, raisedOver, passesAll};
+use plane::Best;
 use plane::Bounds;
 use plane::Triangle;
 use reach::Chord;
 use section::Section;
-use walk::Best;
 
 // Section i of a table.
 pub fn section_at(table: &[f64], i: usize) -> Section
@@ -87,7 +87,7 @@ pub fn raise_over(t: Triangle, k: u32, x: f64, y: f64, table: &[f64], best: Best
     let mut high = best;
     for i in 0..n {
         let on = above::so_far(high.height);
-        high = ask::raise_by(
+        high = plane::raise_by(
             section::section_contact_on(t, x, y, section_at(table, i), on),
             k,
             high,

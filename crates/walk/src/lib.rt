@@ -6,15 +6,7 @@ ghost use lib.Dec.{eqb};
 ghost use lib.ListN.{length, getD, set, replicate};
 ghost use Rattle.walk.specs.Walk.{cell, nextStamp, readyMarks};
 ghost use Rattle.walk.specs.Inside.{Stretch};
-
-// The highest contact so far: its height, the triangle that last raised it, and what of that triangle is touched, its kind and which of three. A kind
-// of 0 is the floor, which no triangle has raised; triangle and which are 0 then.
-pub struct Best {
-    pub height: f64,
-    pub triangle: u32,
-    pub kind: u32,
-    pub which: u32,
-}
+use plane::Best;
 
 // How many triangles a height question has looked at, and the highest contact so far.
 pub struct Seen {

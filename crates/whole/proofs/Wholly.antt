@@ -9,7 +9,7 @@ use lib.Dec.{ltb, leb}
 use lib.ListN.{length, getD}
 use Rattle.numbers.specs.Reals.{num}
 use Rattle.rules.proofs.Branches.{both-true}
-use Rattle.spans.specs.Mesh.{isCoordinate}
+use Rattle.plane.specs.Ranges.{isCoordinate}
 use Rattle.grid.specs.Boxes.{boxAt}
 use Rattle.grid.specs.Index.{Index, SoundIndex}
 use Rattle.header.specs.Head.{headUsable}

@@ -8,7 +8,8 @@ use Rattle.plane.specs.Mesh.{triangleOf, lowest, highest, boundsOf}
 use Rattle.rules.specs.Every.{isFrom}
 use Rattle.cells.specs.Cover.{covers, membersOf, listed, startOf}
 use Rattle.spans.specs.Axis.{spanOf, sizeOf, cellAt, cellsAlong, stretchOf}
-use Rattle.spans.specs.Mesh.{isCoordinate, isRadius, badFrom, firstBad as firstBadIn, boxOf, widened, extentOf}
+use Rattle.plane.specs.Ranges.{isCoordinate, isRadius}
+use Rattle.spans.specs.Mesh.{badFrom, firstBad as firstBadIn, boxOf, widened, extentOf}
 use Rattle.rules.specs.Ladder.{refuse, demand}
 use Rattle.grid.specs.Grid.{gridOf, cellsOf, totalOf}
 use Rattle.grid.specs.Boxes.{isBoxed}

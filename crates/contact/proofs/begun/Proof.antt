@@ -1,5 +1,5 @@
 use mathlib.Core.Path.{ap}
-use Rattle.walk.specs.declared.Best.{Best}
+use Rattle.plane.specs.declared.Best.{Best}
 use Rattle.contact.proofs.begun.Statement.{statement}
 use Rattle.contact.proofs.begun.Tie as tie
 

@@ -1,6 +1,6 @@
 use borrow.Author.Needs.{needs}
 use Rattle.numbers.specs.Reals.{f0}
-use Rattle.walk.specs.declared.Best.{Best}
+use Rattle.plane.specs.declared.Best.{Best}
 use Rattle.ask.specs.Ask.{atFloor}
 use Rattle.ask.proofs.Answers.{inside, ready, height-refused, height-answered}
 use Rattle.contact.specs.Contact.{toolStep}

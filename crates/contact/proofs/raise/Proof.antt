@@ -3,7 +3,7 @@ use mathlib.Core.List.{List}
 use mathlib.Core.Path.{_≡_, ap, sym, _∙_}
 use Prim.Native.Nat.{ℕ}
 use lib.Ieee.{Float}
-use Rattle.walk.specs.declared.Best.{Best}
+use Rattle.plane.specs.declared.Best.{Best}
 use Rattle.contact.specs.declared.Shape.{Shape}
 use Rattle.contact.specs.Inside.{shapeStep}
 use Rattle.contact.proofs.raise.Statement.{statement}

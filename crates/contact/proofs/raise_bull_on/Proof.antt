@@ -1,7 +1,7 @@
 use mathlib.Core.Path.{_≡_, refl, ap, sym, _∙_}
 use Rattle.rules.proofs.Branches.{taken, left}
-use Rattle.ask.specs.Ask.{raisedBy}
-use Rattle.ask.proofs.Beside.{raised-beside}
+use Rattle.plane.specs.Contacts.{raisedBy}
+use Rattle.above.proofs.Beside.{raised-beside}
 use Rattle.contact.specs.Contact.{bullRaised}
 use Rattle.contact.proofs.raise_bull_on.Statement.{statement}
 use Rattle.contact.proofs.raise_bull_on.Tie as tie

@@ -4,7 +4,7 @@ use mathlib.Core.Path.{_≡_}
 use native.Mathlib.Omega.{arith}
 use borrow.Author.Needs.{needs}
 use Rattle.numbers.specs.Reals.{num}
-use Rattle.spans.specs.Mesh.{isCoordinate}
+use Rattle.plane.specs.Ranges.{isCoordinate}
 use Rattle.rules.specs.Every.{every}
 use Rattle.query.specs.Usable.{cornersUsable}
 use Rattle.rules.proofs.Testing.{every-stops, every-goes, every-ends, failed, passed}

@@ -4,7 +4,8 @@ use mathlib.Core.Path.{_≡_, sym, ap, _∙_}
 use native.Mathlib.Omega.{arith}
 use borrow.Author.Tests.{not-true, not-false}
 use lib.ListN.{length, drop}
-use Rattle.spans.specs.Mesh.{isCoordinate, badFrom, firstBad}
+use Rattle.plane.specs.Ranges.{isCoordinate}
+use Rattle.spans.specs.Mesh.{badFrom, firstBad}
 use Rattle.raise.specs.Raise.{liftedFrom, lifted}
 use Rattle.raise.proofs.Lifting.{high-begins, high-finds, high-goes, high-ends}
 use Rattle.raise.proofs.first_high.Statement.{statement}

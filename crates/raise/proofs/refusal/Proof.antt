@@ -9,7 +9,7 @@ use Rattle.rules.specs.Ladder.{demand}
 use Rattle.grid.specs.Boxes.{isBoxed}
 use Rattle.grid.specs.Build.{toldWith}
 use Rattle.rules.proofs.Ladder.{ladder, refuse-next, demand-here, demand-next}
-use Rattle.spans.specs.Mesh.{isCoordinate}
+use Rattle.plane.specs.Ranges.{isCoordinate}
 use Rattle.raise.specs.Raise.{refusalOfIndex, refusalOf}
 use Rattle.raise.proofs.refusal.Statement.{statement}
 use Rattle.raise.proofs.refusal.Tie as tie

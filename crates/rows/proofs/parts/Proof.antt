@@ -7,7 +7,7 @@ use Rattle.rows.proofs.parts.Reads as reads
 use Rattle.rows.proofs.parts.Lts as lts
 use Rattle.numbers.proofs.max.Reads as max-reads
 use Rattle.numbers.proofs.round_up.Reads as round-up-reads
-use Rattle.spans.proofs.cut.Reads as cut-reads
+use Rattle.numbers.proofs.cut.Reads as cut-reads
 
 round-up-requires : tie.Need-round-up-requires
 round-up-requires c κs = search needs

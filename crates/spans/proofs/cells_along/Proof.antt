@@ -3,7 +3,8 @@ use Prim.Native.Nat.{ℕ, _+_}
 use mathlib.Core.Path.{ap, _∙_}
 use native.Mathlib.Omega.{arith}
 use lib.Ieee.{Float}
-use Rattle.spans.specs.Axis.{truncated, cellsAlong}
+use Rattle.numbers.specs.Rounding.{truncated}
+use Rattle.spans.specs.Axis.{cellsAlong}
 use Rattle.spans.proofs.cells_along.Statement.{statement}
 use Rattle.spans.proofs.cells_along.Tie as tie
 

@@ -1,6 +1,6 @@
-use Rattle.query.specs.Asked.{isPoint}
-use Rattle.query.proofs.is_point.Statement.{statement}
-use Rattle.query.proofs.is_point.Tie as tie
+use Rattle.plane.specs.Ranges.{isPoint}
+use Rattle.plane.proofs.is_point.Statement.{statement}
+use Rattle.plane.proofs.is_point.Tie as tie
 
 returns : tie.Need-returns
 unfolding isPoint

@@ -3,10 +3,10 @@ use mathlib.Core.Path.{_≡_, refl, sym, _∙_}
 use Prim.Native.Nat.{ℕ}
 use Rattle.plane.specs.declared.Contact.{Contact}
 use Rattle.plane.specs.declared.Contact.the-variants.{Nothing, Height}
 use Rattle.above.specs.Above.{offerOf, soFar}
 use Rattle.above.proofs.Above.{raising, raises-same}
-use Rattle.walk.specs.declared.Best.{Best}
-use Rattle.ask.specs.Ask.{raisedTo, raisedBy}
+use Rattle.plane.specs.declared.Best.{Best}
+use Rattle.plane.specs.Contacts.{raisedTo, raisedBy}
 
 raised-is : (c : Contact) (i : ℕ) (b : Best) → raisedBy c i b ≡ raising (b .height) (λ z t. record { height = z; triangle = i; kind = t .kind; which = t .which }) b c
 unfolding raisedBy raisedTo raising

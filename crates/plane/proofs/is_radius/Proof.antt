@@ -1,8 +1,8 @@
--- `spans::is_radius` meets its contract.
+-- `plane::is_radius` meets its contract.
 use Rattle.rules.proofs.Branches.{branches}
-use Rattle.spans.specs.Mesh.{isRadius}
-use Rattle.spans.proofs.is_radius.Statement.{statement}
-use Rattle.spans.proofs.is_radius.Tie as tie
+use Rattle.plane.specs.Ranges.{isRadius}
+use Rattle.plane.proofs.is_radius.Statement.{statement}
+use Rattle.plane.proofs.is_radius.Tie as tie
 
 returns : tie.Need-returns
 unfolding isRadius

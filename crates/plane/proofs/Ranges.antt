@@ -1,4 +1,4 @@
--- Differences of coordinates stay within 2e6.
+-- Differences of coordinates stay within 2e6; a radius lies from 0 to 1e6.
 use mathlib.Core.Bool.{Bool, true, false}
 use mathlib.Core.Logic.{inl}
 use mathlib.Core.Path.{_≡_, refl}
@@ -10,9 +10,10 @@ use lib.IntN.{pos}
 use lib.Ieee.{Float, nan, inf, fin, binary64, down, neg, le, ofBits, round}
 use lib.Ieee.Scale.{finite}
 use lib.Ieee.Positive.{den, den-pos}
+use Rattle.rules.proofs.Branches.{both-true}
 use Rattle.order.proofs.Ranges.{finite-between, zero-is}
-use Rattle.numbers.specs.Reals.{_⊖_, million, absOf, million-is}
-use Rattle.spans.specs.Mesh.{isCoordinate}
+use Rattle.numbers.specs.Reals.{_⊖_, million, absOf, million-is, f0, f0-is}
+use Rattle.plane.specs.Ranges.{isCoordinate, isRadius}
 use Rattle.order.proofs.Signed.{upper, lower, le→parts, parts→le, Is, rounded, is-le, is-sub}
 
 -- -1e6 <= x <= 1e6
@@ -106,3 +107,15 @@ coordinate x e =
     let h = rw million-is at g in
     let a = absolute x (absolute-finite x h) h in
     record { low = rw minus-million-is (a .0); high = rw million-is (a .1) }
+
+-- 0 <= r <= 1e6
+pub record Radius (r : Float) : Type 0 where
+  pub low : T (le f0 r)
+  pub high : T (le r million)
+
+pub radius : (r : Float) → isRadius r ≡ true → Radius r
+unfolding isRadius
+radius r e = let b = both-true (le f0 r) (le r million) e in record { low = rw (b .0) tt; high = rw (b .1) tt }
+
+pub radius-finite : (r : Float) → Radius r → T (finite r)
+radius-finite r z = finite-between (fin false 0 (pos 0)) r (fin false 15625 (pos 6)) tt tt (rw f0-is at (z .low)) (rw million-is at (z .high))

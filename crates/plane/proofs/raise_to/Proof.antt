@@ -1,7 +1,7 @@
 use Rattle.rules.proofs.Branches.{flags}
-use Rattle.ask.specs.Ask.{raisedTo}
-use Rattle.ask.proofs.raise_to.Statement.{statement}
-use Rattle.ask.proofs.raise_to.Tie as tie
+use Rattle.plane.specs.Contacts.{raisedTo}
+use Rattle.plane.proofs.raise_to.Statement.{statement}
+use Rattle.plane.proofs.raise_to.Tie as tie
 
 returns : tie.Need-returns
 unfolding raisedTo

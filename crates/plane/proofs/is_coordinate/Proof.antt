@@ -1,9 +1,9 @@
--- `spans::is_coordinate` meets its contract.
+-- `plane::is_coordinate` meets its contract.
 use mathlib.Core.Path.{refl, _∙_}
 use Rattle.rules.proofs.Branches.{and-on, and-off}
-use Rattle.spans.proofs.Plain.{coordinate-sides}
-use Rattle.spans.proofs.is_coordinate.Statement.{statement}
-use Rattle.spans.proofs.is_coordinate.Tie as tie
+use Rattle.plane.proofs.Sides.{coordinate-sides}
+use Rattle.plane.proofs.is_coordinate.Statement.{statement}
+use Rattle.plane.proofs.is_coordinate.Tie as tie
 
 returns : tie.Need-returns
 returns c = and-on _ _ _ (c .if1 .taken) refl ∙ coordinate-sides _

@@ -1,8 +1,8 @@
 use borrow.Author.Needs.{needs}
 use mathlib.Core.Path.{_≡_, sym}
-use Rattle.ask.proofs.Raises.{raised-not, raised-on}
-use Rattle.ask.proofs.raise_by.Statement.{statement}
-use Rattle.ask.proofs.raise_by.Tie as tie
+use Rattle.plane.proofs.Raises.{raised-not, raised-on}
+use Rattle.plane.proofs.raise_by.Statement.{statement}
+use Rattle.plane.proofs.raise_by.Tie as tie
 
 returns : tie.Need-returns
 returns c = raised-not _ _ _ (c .enum-told .given .1)

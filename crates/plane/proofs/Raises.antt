@@ -1,12 +1,12 @@
 -- One contact more, case by case.
-use mathlib.Core.Path.{_≡_, refl}
+use mathlib.Core.Path.{_≡_}
 use Prim.Native.Nat.{ℕ}
 use lib.Ieee.{Float}
 use Rattle.plane.specs.declared.Touch.{Touch}
 use Rattle.plane.specs.declared.Contact.{Contact}
 use Rattle.plane.specs.declared.Contact.the-variants.{Nothing, Height}
-use Rattle.walk.specs.declared.Best.{Best}
-use Rattle.ask.specs.Ask.{raisedTo, raisedBy}
+use Rattle.plane.specs.declared.Best.{Best}
+use Rattle.plane.specs.Contacts.{raisedTo, raisedBy}
 
 pub raised-not : (c : Contact) (i : ℕ) (b : Best) → c ≡ Nothing → b ≡ raisedBy c i b
 unfolding raisedBy
