@@ -2,13 +2,14 @@
 use mathlib.Core.Bool.{Bool, true, false, cond}
 use mathlib.Core.List.{List}
 use mathlib.Core.Path.{_≡_, refl, ap, sym, _∙_}
-use Prim.Native.Nat.{ℕ, _+_, _*_, _/_, _^_, _≤_, _<_}
+use Prim.Native.Nat.{ℕ, _*_, _/_, _≤_, _<_}
 use native.Mathlib.Omega.{arith}
 use borrow.Author.Tests.{leb-true, eqb-true, eq-eqb, ne-eqb}
 use lib.Dec.{eqb, leb, lit<}
 use lib.Ieee.{Float}
-use lib.ListN.{length, replicate, length-replicate}
-use Rattle.rules.proofs.Branches.{either, taken, left, both-true}
+use lib.ListN.{length}
+use Rattle.walk.proofs.Marks.{ready-length}
+use Rattle.rules.proofs.Branches.{taken, left, both-true}
 use Rattle.plane.specs.declared.Best.{Best}
 use Rattle.walk.specs.Walk.{Walk, nextStamp, readyMarks, fold, walked, chased}
 use Rattle.walk.specs.Inside.{Below, Room, Walkable, seen, judged, look, strike}
@@ -28,10 +29,8 @@ use Rattle.query.proofs.Patches.{patch-inside}
 use Rattle.query.specs.Looked.{within}
 use Rattle.query.proofs.Using.{walkable, usable-head}
 use Rattle.query.proofs.Passing.{sound-boxed, sound-marked, sound-usable}
-use Rattle.ask.specs.Ask.{atFloor, refusalOf, begun, Outcome, ended, refusedBy, answeredBy, answerOf, askedHeight, refusedChord, blockedEarly, ruledBy, rulingOf, askedChord}
+use Rattle.ask.specs.Ask.{atFloor, refusalOf, begun, ended, refusedBy, answeredBy, answerOf, askedHeight, refusedChord, blockedEarly, ruledBy, rulingOf, askedChord}
 use Rattle.ask.specs.Demand.{GoodQuestion}
-use Rattle.ask.specs.declared.Answer.{Answer}
-use Rattle.ask.specs.declared.Ruling.{Ruling}
 use Rattle.ask.specs.declared.Finding.{Finding}
 use Rattle.ask.specs.declared.Finding.the-variants.{Clear, Blocked}
 
@@ -75,11 +74,6 @@ module _ (numbers tool : Bool) (ix : Index) (marks : List ℕ) (stamp : ℕ) (p 
       (demand-next _ _ _ _ (g .numbersInRange)
       (demand-next _ _ _ _ (g .toolInRange)
       (demand-next _ _ _ _ (sound-usable ix d marks stamp (g .marked) (g .low) p right top) refl)))))
-
-ready-length : (marks : List ℕ) (stamp : ℕ) → length (readyMarks marks stamp) ≡ length marks
-unfolding readyMarks
-ready-length marks stamp =
-    either (λ (l : List ℕ). length l ≡ length marks) (eqb stamp 4294967295) _ _ (λ e. length-replicate (length marks) 0) (λ e. refl)
 
 -- a question's cells are in the grid
 pub inside : (h : Header) (px py qx qy reach : Float) (p : Patch) → p ≡ patchOf h px py qx qy reach → (p .x1 ≤ h .columns) × (p .y1 ≤ h .rows)

@@ -16,7 +16,7 @@ use Rattle.grid.specs.Index.{Index}
 use Rattle.query.specs.declared.Patch.{Patch}
 use Rattle.query.specs.Patch.{patchOf}
 use Rattle.query.specs.Looked.{within}
-use Rattle.query.proofs.Looks.{ready-length}
+use Rattle.walk.proofs.Marks.{ready-length}
 use Rattle.query.proofs.Using.{walkable, usable-head}
 use Rattle.ask.proofs.Answers.{passed}
 use Rattle.reach.specs.declared.Chord.{Chord}

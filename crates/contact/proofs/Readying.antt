@@ -15,7 +15,8 @@ use Rattle.query.specs.declared.Patch.{Patch}
 use Rattle.query.specs.Usable.{usable}
 use Rattle.query.specs.Looked.{within}
 use Rattle.query.proofs.Using.{usable-head, usable-member}
-use Rattle.query.proofs.Looks.{over-in, place-of, ready-length}
+use Rattle.query.proofs.Looks.{over-in, place-of}
+use Rattle.walk.proofs.Marks.{ready-length}
 use Rattle.ask.specs.Ask.{atFloor, refusalOf}
 use Rattle.ask.proofs.Answers.{passed, ready}
 use Rattle.contact.specs.Inside.{Fresh, Ready}

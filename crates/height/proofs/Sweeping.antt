@@ -13,7 +13,7 @@ use Rattle.walk.proofs.Lists.{walk-is}
 use Rattle.grid.specs.Index.{Index}
 use Rattle.query.specs.declared.Patch.{Patch}
 use Rattle.query.specs.Looked.{within}
-use Rattle.query.proofs.Looks.{ready-length}
+use Rattle.walk.proofs.Marks.{ready-length}
 use Rattle.capsule.specs.declared.Capsule.{Capsule}
 use Rattle.ask.specs.Ask.{atFloor}
 use Rattle.height.specs.Sweep.{diskStep}

@@ -8,8 +8,9 @@ use native.Mathlib.Nat.{eq-or-lt-of-le}
 use native.Mathlib.Omega.{arith}
 use borrow.Author.Tests.{eqb-true, eqb-false, ne-eqb}
 use lib.Dec.{eqb}
-use lib.ListN.{length, getD, set, length-set, length-replicate, getD-replicate}
+use lib.ListN.{length, getD, set, length-set, getD-replicate}
 use lib.Seq.{getD-set-same, getD-set-other}
+use Rattle.walk.proofs.Marks.{ready-length}
 use Rattle.rules.proofs.Times.{times-append}
 use Rattle.rules.proofs.Branches.{either, by-test}
 use Rattle.cells.specs.Cover.{Cover, membersOf}
@@ -109,12 +110,7 @@ positive : (k : ℕ) → (k ≡ 0 → ⊥) → 0 < k
 positive zero n = absurd (n refl)
 positive (suc k) n = omega arith
 
--- the marks that a walk begins with are as many, and none of those not above the handed stamp is the new one
-pub ready-length : (marks : List ℕ) (stamp : ℕ) → length (readyMarks marks stamp) ≡ length marks
-unfolding readyMarks
-ready-length marks stamp =
-    either (λ (l : List ℕ). length l ≡ length marks) (eqb stamp 4294967295) _ _ (λ _. length-replicate (length marks) 0) (λ _. refl)
-
+-- no mark that is not above the handed stamp is the new one
 ready-fresh : (marks : List ℕ) (stamp i : ℕ) → i < length marks → getD marks i 0 ≤ stamp → getD (readyMarks marks stamp) i 0 ≡ nextStamp stamp → ⊥
 unfolding readyMarks nextStamp
 ready-fresh marks stamp i l h =

@@ -16,7 +16,7 @@ use Rattle.walk.proofs.Lists.{walk-is}
 use Rattle.rules.proofs.Ladder.{demanded}
 use Rattle.query.specs.declared.Patch.{Patch}
 use Rattle.query.specs.Usable.{cellsUsable}
-use Rattle.query.proofs.Looks.{ready-length}
+use Rattle.walk.proofs.Marks.{ready-length}
 use Rattle.query.proofs.Stretches.{walkable-cells}
 use Rattle.ask.specs.Ask.{ended}
 use Rattle.um.specs.Index.{Index}

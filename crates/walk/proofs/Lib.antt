@@ -1,2 +1,3 @@
 pub mod Rings
 pub mod Lists
+pub mod Marks
