@@ -21,9 +21,6 @@ use Rattle.levels.specs.Flats.{isFlat, flatsOf}
 use Rattle.levels.specs.Inside.{Listed, listed, gatheredOne}
 
 module _ (mesh : List Float) (tolerance least : Float) where
-  flats : ℕ → List ℕ
-  flats i = flatsOf mesh tolerance least i
-
   pub flats-few : (i : ℕ) → length (flatsOf mesh tolerance least i) ≤ i
   unfolding flatsOf
   flats-few zero = omega arith

@@ -3,7 +3,7 @@ use mathlib.Core.Bool.{Bool, true, false, cond}
 use mathlib.Core.List.{List, [], _∷_, _++_, append-nil}
 use mathlib.Core.Logic.{_⊎_, inl, inr, ⊎-elim}
 use mathlib.Core.Path.{_≡_, refl, sym, ap, _∙_, subst}
-use Prim.Native.Nat.{ℕ, zero, suc, _+_, _≤_, _<_}
+use Prim.Native.Nat.{ℕ, _+_, _≤_, _<_}
 use native.Mathlib.Omega.{arith}
 use borrow.Author.Tests.{eqb-true, eqb-false, eq-eqb, ne-eqb, ltb-true, ltb-false}
 use lib.Dec.{eqb, ltb}
@@ -40,9 +40,6 @@ zeros n i =
 pub record Alike (s : ℕ) (m : List ℕ) (t : ℕ) (k : List ℕ) : Type 0 where
   pub size : length m ≡ length k
   pub same : (i : ℕ) → eqb (getD m i 0) s ≡ eqb (getD k i 0) t
-
-set-at-most : (m : List ℕ) (i j s : ℕ) → (i < length m → getD (set m i s) i 0 ≡ s) × ((j ≡ i → ⊥) → getD (set m i s) j 0 ≡ getD m j 0)
-set-at-most m i j s = ((λ h. getD-set-same m i s 0 h), (λ n. getD-set-other m i j s 0 n))
 
 alike-set : (s : ℕ) (m : List ℕ) (t : ℕ) (k : List ℕ) (i : ℕ) → Alike s m t k → Alike s (set m i s) t (set k i t)
 alike-set s m t k i a =

@@ -1,6 +1,6 @@
 -- Laws of a raised mesh: as long as before, and no x and no y has changed.
-use mathlib.Core.Bool.{Bool, true, false}
-use mathlib.Core.List.{List, [], _∷_, _++_, append-assoc, append-nil}
+use mathlib.Core.Bool.{true, false}
+use mathlib.Core.List.{List, [], _∷_, _++_, append-assoc}
 use mathlib.Core.Path.{_≡_, refl, sym, ap, _∙_}
 use Prim.Native.Nat.{ℕ, zero, suc, _+_, _%_, _<_}
 use native.Mathlib.Numerals.{add-one}
@@ -8,7 +8,7 @@ use native.Mathlib.Omega.{arith}
 use borrow.Author.Tests.{ne-eqb}
 use lib.Dec.{eqb}
 use lib.Ieee.{Float, nan}
-use lib.ListN.{length, getD, set, drop, length-append, length-drop, drop-of-length-le}
+use lib.ListN.{length, set, drop, length-append, drop-of-length-le}
 use lib.Seq.{getD-append-add, set-at, drop-cons, drop-length}
 use Rattle.numbers.specs.Reals.{num}
 use Rattle.plane.specs.Ranges.{isCoordinate}
@@ -66,9 +66,6 @@ pub record Lifting (a : Float) (old : List Float) (k : ℕ) (new : List Float) :
 pub lifting-starts : (a : Float) (old : List Float) → Lifting a old 0 old
 unfolding lifted
 lifting-starts a old = record { front = []; size = refl; table = refl; whole = refl }
-
-pub lifting-size : (a : Float) (old : List Float) (k : ℕ) (new : List Float) → Lifting a old k new → k < length old + 1 → length new ≡ length old
-lifting-size a old k new l h = ap length (l .table) ∙ omega (arith, length-append (l .front) (drop k old), length-drop k old, l .size)
 
 pub lifting-reads : (a : Float) (old : List Float) (k : ℕ) (new : List Float) → Lifting a old k new → k < length old → num new k ≡ num old k
 lifting-reads a old k new l h =

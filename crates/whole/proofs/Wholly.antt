@@ -1,23 +1,19 @@
 -- What a plan may rely on that refusal 7 let pass: every question over the mesh can be walked.
 use mathlib.Core.Bool.{Bool, true, _&&_}
 use mathlib.Core.Path.{_≡_}
-use Prim.Native.Nat.{ℕ, _+_, _-_, _*_, _/_, _≤_, _<_}
-use native.Mathlib.Nat.{div-add-mod', mod-lt}
+use Prim.Native.Nat.{ℕ, _+_, _-_, _*_, _≤_, _<_}
 use native.Mathlib.Omega.{arith}
 use borrow.Author.Tests.{ltb-true, leb-true, lt-ltb}
 use lib.Dec.{ltb, leb}
 use lib.ListN.{length, getD}
-use Rattle.numbers.specs.Reals.{num}
 use Rattle.rules.proofs.Branches.{both-true}
-use Rattle.plane.specs.Ranges.{isCoordinate}
-use Rattle.grid.specs.Boxes.{boxAt}
 use Rattle.grid.specs.Index.{Index, SoundIndex}
 use Rattle.header.specs.Head.{headUsable}
 use Rattle.header.proofs.Ranges.{Headed, headed-is}
 use Rattle.walk.specs.Walk.{cell}
 use Rattle.walk.specs.Inside.{Walkable}
 use Rattle.rules.specs.Every.{every, each}
-use Rattle.query.specs.Usable.{cornersUsable, boxUsable, triangleUsable, cellUsable, usableWhole}
+use Rattle.query.specs.Usable.{triangleUsable, cellUsable, usableWhole}
 use Rattle.rules.proofs.Testing.{in-rows, every-at, each-at, every-all}
 use Rattle.query.proofs.Passing.{sound-head, sound-triangle, sound-cell}
 
@@ -34,17 +30,6 @@ module _ (ix : Index) (e : usableWhole ix ≡ true) where
 
   pub whole-head : Headed (ix .mesh) (ix .header) (ix .starts)
   whole-head = headed-is (ix .mesh) (ix .header) (ix .starts) (parts .0)
-
-  -- no number of the (ix .mesh) is one that 4 would refuse
-  pub whole-numbers : (k : ℕ) → k < length (ix .mesh) → isCoordinate (num (ix .mesh) k) ≡ true
-  unfolding triangleUsable cornersUsable
-  whole-numbers k l =
-      let a = div-add-mod' k 9 in
-      let b = mod-lt k {m = 9} (omega arith) in
-      let c = every-at (triangleUsable (ix .mesh) (ix .boxes)) 0 (ix .header .n) (k / 9)
-      (both-true (every (triangleUsable (ix .mesh) (ix .boxes)) 0 (ix .header .n)) tables (parts .1) .0) (omega arith) (omega (arith, whole-head .nine)) in
-      every-at (λ m. isCoordinate (num (ix .mesh) m)) (9 * (k / 9)) 9 k
-      (both-true (cornersUsable (ix .mesh) (k / 9)) (boxUsable (boxAt (ix .boxes) (k / 9))) c .0) (omega arith) (omega arith)
 
   -- the cells of any patch of the grid can be walked
   pub whole-walkable : (x0 x1 y0 y1 : ℕ) → x1 ≤ ix .header .columns → y1 ≤ ix .header .rows → Walkable (ix .starts) (ix .members) (ix .header .n) (ix .header .columns) x0 x1 y0 y1
