@@ -9,8 +9,8 @@ use Rattle.rules.proofs.Branches.{by-test, both-true, holds}
 use Rattle.order.proofs.Strict.{lt-goes-on, lt-number, le-not-lt}
 use Rattle.plane.specs.declared.Triangle.{Triangle}
 use Rattle.plane.specs.Contacts.{exceedsOf}
-use Rattle.touch.specs.declared.Edge.{Edge}
-use Rattle.touch.specs.Touch.{edgeAb, edgeBc, edgeCa, facingOf}
+use Rattle.cutters.specs.declared.Edge.{Edge}
+use Rattle.cutters.specs.Touch.{edgeAb, edgeBc, edgeCa, facingOf}
 use Rattle.above.specs.Above.{offerOf, soFar}
 use Rattle.order.proofs.Order.{le-trans}
 use Rattle.caps.proofs.Places.{not-less}

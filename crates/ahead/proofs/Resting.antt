@@ -14,9 +14,9 @@ use lib.Ieee.Scale.{finite}
 use Rattle.numbers.specs.Reals.{_⊕_, _⊖_, _⊗_, _⊘_, f0, f1, noSlope, million-is}
 use Rattle.roots.specs.Root.{rootOf, rootOfUnits, nearestRoot, wholeRoot}
 use Rattle.rules.proofs.Branches.{either, no}
-use Rattle.touch.specs.declared.Gradient.{Gradient}
-use Rattle.touch.specs.declared.Rest.{Rest}
-use Rattle.touch.specs.Touch.{restOf}
+use Rattle.cutters.specs.declared.Gradient.{Gradient}
+use Rattle.cutters.specs.declared.Rest.{Rest}
+use Rattle.cutters.specs.Touch.{restOf}
 use Rattle.order.proofs.Signed.{upper, lower, le→parts, is-le, is-div}
 use Rattle.plane.proofs.Ranges.{Coordinate, extent-finite, extent-positive}
 use Rattle.order.proofs.Ranges.{finite-between, num-pos, zero-is}

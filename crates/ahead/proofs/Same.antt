@@ -13,8 +13,8 @@ use Rattle.plane.specs.declared.Contact.{Contact}
 use Rattle.plane.specs.declared.Contact.the-variants.{Nothing, Height}
 use Rattle.plane.specs.Contacts.{exceedsOf}
 use Rattle.plane.proofs.Higher.{same-waits}
-use Rattle.touch.specs.declared.Edge.{Edge}
-use Rattle.touch.specs.Touch.{edgeAb, edgeBc, edgeCa, facingOf}
+use Rattle.cutters.specs.declared.Edge.{Edge}
+use Rattle.cutters.specs.Touch.{edgeAb, edgeBc, edgeCa, facingOf}
 use Rattle.above.specs.Above.{offerOf, soFar}
 use Rattle.above.specs.Inside.{limitOf}
 use Rattle.above.proofs.Above.{passes, takes, waits, offers}

@@ -17,11 +17,11 @@ use Rattle.plane.specs.declared.Contact.{Contact}
 use Rattle.plane.specs.declared.Contact.the-variants.{Nothing, Height}
 use Rattle.plane.specs.Contacts.{corner, edge, face, exceedsOf}
 use Rattle.plane.specs.Distance.{baryOf, atLeast}
-use Rattle.touch.specs.declared.Edge.{Edge}
-use Rattle.touch.specs.declared.Facing.{Facing}
-use Rattle.touch.specs.declared.Facing.the-variants.{Upright, Leaning}
-use Rattle.touch.specs.declared.Rest.{Rest}
-use Rattle.touch.specs.Touch.{along, distanceAt, reachedOf, weighedOf, spotHeight, facetHeight}
+use Rattle.cutters.specs.declared.Edge.{Edge}
+use Rattle.cutters.specs.declared.Facing.{Facing}
+use Rattle.cutters.specs.declared.Facing.the-variants.{Upright, Leaning}
+use Rattle.cutters.specs.declared.Rest.{Rest}
+use Rattle.cutters.specs.Touch.{along, distanceAt, reachedOf, weighedOf, spotHeight, facetHeight}
 use Rattle.above.specs.Above.{offerOf, soFar}
 use Rattle.above.proofs.Above.{waits, offers}
 use Rattle.order.proofs.Ranges.{finite-between, sub-mono}

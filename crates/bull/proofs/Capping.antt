@@ -15,8 +15,8 @@ use Rattle.plane.specs.Contacts.{takeOf}
 use Rattle.above.specs.Inside.{limitOf}
 use Rattle.above.proofs.Above.{stays-under}
 use Rattle.golden.specs.Search.{goldenMax}
-use Rattle.touch.specs.declared.Edge.{Edge}
-use Rattle.touch.specs.Touch.{along, distanceAt}
+use Rattle.cutters.specs.declared.Edge.{Edge}
+use Rattle.cutters.specs.Touch.{along, distanceAt}
 use Rattle.order.proofs.Ranges.{finite-between, sub-mono}
 use Rattle.order.proofs.Extremes.{min-either, min-second, min-up}
 use Rattle.order.proofs.Order.{O, le-trans, sub-turns}

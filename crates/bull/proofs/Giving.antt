@@ -7,7 +7,7 @@ use lib.Ieee.{Float, le}
 use Rattle.numbers.specs.Reals.{maxOf}
 use Rattle.golden.specs.declared.Golden.{Golden}
 use Rattle.golden.specs.Search.{rises, goldenAt, goldenMax}
-use Rattle.touch.specs.declared.Edge.{Edge}
+use Rattle.cutters.specs.declared.Edge.{Edge}
 use Rattle.caps.specs.Inside.{InnerOf, Alike}
 use Rattle.caps.proofs.Narrow.{found-last}
 use Rattle.caps.proofs.Beside.{same-beside, ends-beside}

@@ -12,8 +12,8 @@ use Rattle.plane.specs.Contacts.{exceedsOf, takeOf}
 use Rattle.above.specs.Above.{offerOf, soFar}
 use Rattle.above.proofs.Above.{takes, waits, offers}
 use Rattle.golden.specs.Upper.{minusInfinity}
-use Rattle.touch.specs.declared.Edge.{Edge}
-use Rattle.touch.specs.Touch.{edgeAb, edgeBc, edgeCa, reachedOf, facingOf}
+use Rattle.cutters.specs.declared.Edge.{Edge}
+use Rattle.cutters.specs.Touch.{edgeAb, edgeBc, edgeCa, reachedOf, facingOf}
 use Rattle.bull.specs.declared.Bull.{Bull}
 use Rattle.bull.specs.Bull.{bullVertices, bullStretch, bestSoFar, tooLow, bullEdge, bullEdges, bullFacet, bullContactAbove}
 

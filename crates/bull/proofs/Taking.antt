@@ -7,12 +7,12 @@ use Rattle.plane.specs.declared.Touch.{Touch}
 use Rattle.plane.specs.declared.Contact.{Contact}
 use Rattle.plane.specs.Contacts.{edge, takeOf}
 use Rattle.golden.specs.Search.{goldenMax}
-use Rattle.touch.specs.declared.Edge.{Edge}
-use Rattle.touch.specs.declared.Stretch.{Stretch}
-use Rattle.touch.specs.declared.Stretch.the-variants.{Nowhere, Between}
+use Rattle.cutters.specs.declared.Edge.{Edge}
+use Rattle.cutters.specs.declared.Stretch.{Stretch}
+use Rattle.cutters.specs.declared.Stretch.the-variants.{Nowhere, Between}
 use Rattle.above.specs.Above.{offerOf}
 use Rattle.above.specs.Inside.{limitOf}
-use Rattle.touch.specs.Touch.{distanceAt, reachedOf}
+use Rattle.cutters.specs.Touch.{distanceAt, reachedOf}
 use Rattle.caps.specs.Inside.{Alike}
 use Rattle.bull.specs.declared.Bull.{Bull}
 use Rattle.bull.specs.declared.Way.{Way}

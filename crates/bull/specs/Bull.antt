@@ -12,15 +12,15 @@ use Rattle.plane.specs.declared.Contact.the-variants.{Nothing, Height}
 use Rattle.plane.specs.Contacts.{corner, edge}
 use Rattle.golden.specs.Search.{goldenMax}
 use Rattle.golden.specs.Upper.{minusInfinity}
-use Rattle.touch.specs.declared.Edge.{Edge}
-use Rattle.touch.specs.declared.Stretch.{Stretch}
-use Rattle.touch.specs.declared.Stretch.the-variants.{Nowhere, Between}
-use Rattle.touch.specs.declared.Gradient.{Gradient}
-use Rattle.touch.specs.declared.Facing.{Facing}
-use Rattle.touch.specs.declared.Facing.the-variants.{Upright, Leaning}
-use Rattle.touch.specs.declared.Rest.{Rest}
+use Rattle.cutters.specs.declared.Edge.{Edge}
+use Rattle.cutters.specs.declared.Stretch.{Stretch}
+use Rattle.cutters.specs.declared.Stretch.the-variants.{Nowhere, Between}
+use Rattle.cutters.specs.declared.Gradient.{Gradient}
+use Rattle.cutters.specs.declared.Facing.{Facing}
+use Rattle.cutters.specs.declared.Facing.the-variants.{Upright, Leaning}
+use Rattle.cutters.specs.declared.Rest.{Rest}
 use Rattle.above.specs.Above.{offerOf}
-use Rattle.touch.specs.Touch.{edgeAb, edgeBc, edgeCa, along, distanceAt, reachedOf, facingOf, restOf, facetHeight}
+use Rattle.cutters.specs.Touch.{edgeAb, edgeBc, edgeCa, along, distanceAt, reachedOf, facingOf, restOf, facetHeight}
 use Rattle.bull.specs.declared.Bull.{Bull}
 
 -- The cutter's height over its tip at the distance d from its axis: flat to r - rc, then the corner's arc.

@@ -3,7 +3,7 @@ use mathlib.Core.Bool.{Bool, true, cond, _&&_}
 use lib.Ieee.{Float, le}
 use Rattle.numbers.specs.Reals.{_⊕_, _⊖_, _⊗_, _⊘_, f0, minOf, maxOf}
 use Rattle.roots.specs.Root.{rootOf}
-use Rattle.touch.specs.declared.Edge.{Edge}
+use Rattle.cutters.specs.declared.Edge.{Edge}
 use Rattle.plane.specs.Ranges.{isCoordinate, isRadius}
 use Rattle.caps.specs.Inside.{highOn, leastOn, tameOn}
 use Rattle.bull.specs.declared.Bull.{Bull}

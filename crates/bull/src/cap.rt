@@ -2,7 +2,7 @@
 ghost use mathlib.Core.Path.{_≡_};
 ghost use Rattle.bull.specs.Inside.{baseOf, lowVertex, overOf, capOf};
 use crate::Bull;
-use touch::Edge;
+use cutters::Edge;
 
 // A number that the cutter's height over its tip is nowhere below.
 pub fn base_of(k: Bull) -> f64

@@ -5,20 +5,20 @@ ghost use lib.Ieee.{le};
 ghost use Rattle.plane.specs.Contacts.{edge, takeOf};
 ghost use Rattle.above.specs.Above.{offerOf, soFar};
 ghost use Rattle.bound.specs.Inside.{Beyond};
-ghost use Rattle.touch.specs.Touch.{facingOf};
+ghost use Rattle.cutters.specs.Touch.{facingOf};
 ghost use Rattle.golden.specs.Search.{rises, goldenStart, goldenStep, goldenMax};
 ghost use Rattle.caps.specs.Inside.{InnerOf, Alike};
 ghost use Rattle.bull.specs.Inside.{wayOf, wayAt, baseOf, capOf, FlatTo, Begun};
 ghost use Rattle.bull.specs.Bull.{bullProfile, bullOver, bullVertex, bullVertices, bullAt, bullStretch, bestSoFar, tooLow, bullEdge, bullEdges, bullSloped, bullRest, bullFacet, bullContactAbove, bullContact};
+use cutters::Edge;
+use cutters::Facing;
+use cutters::Gradient;
+use cutters::Rest;
+use cutters::Stretch;
 use golden::Golden;
 use plane::Contact;
 use plane::Touch;
 use plane::Triangle;
-use touch::Edge;
-use touch::Facing;
-use touch::Gradient;
-use touch::Rest;
-use touch::Stretch;
 
 pub mod cap;
 
@@ -64,7 +64,7 @@ fn contact_on(t: Triangle, k: Bull, floor: f64, c: Contact) -> Contact
     let base = cap::base_of(k);
     let far = bound::beyond(k.r);
     let e = edges(k, base, floor, t, vertices(k, base, far, t, c));
-    above::offer(e, facet(k, t, touch::facing_of(t)))
+    above::offer(e, facet(k, t, cutters::facing_of(t)))
 }
 
 // The cutter's height over its tip at the distance d from its axis.
@@ -127,9 +127,9 @@ fn edges(k: Bull, base: f64, floor: f64, t: Triangle, c: Contact) -> Contact
     requires { ⌜ base ≡ baseOf k ⌝ }
     ensures { λ r. ⌜ r ≡ bullEdges k floor t c ⌝ }
 {
-    let ab = edge(k, base, floor, c, touch::edge_ab(t));
-    let bc = edge(k, base, floor, ab, touch::edge_bc(t));
-    edge(k, base, floor, bc, touch::edge_ca(t))
+    let ab = edge(k, base, floor, c, cutters::edge_ab(t));
+    let bc = edge(k, base, floor, ab, cutters::edge_bc(t));
+    edge(k, base, floor, bc, cutters::edge_ca(t))
 }
 
 // The contact c with the candidate of an edge, unless the edge cannot exceed the floor or c.
@@ -140,7 +140,7 @@ fn edge(k: Bull, base: f64, floor: f64, c: Contact, e: Edge) -> Contact
     if too_low(floor, c, e) {
         return c;
     }
-    stretch_on(k, base, e, c, touch::reached(e, k.x, k.y, k.r))
+    stretch_on(k, base, e, c, cutters::reached(e, k.x, k.y, k.r))
 }
 
 // Whether an edge's higher end is not above the floor and the best so far.
@@ -340,7 +340,7 @@ fn facet(k: Bull, t: Triangle, f: Facing) -> Contact
 {
     match f {
         Facing::Upright => Contact::Nothing,
-        Facing::Leaning(g) => touch::facet_height(t, rest(k, g)),
+        Facing::Leaning(g) => cutters::facet_height(t, rest(k, g)),
     }
 }
 
@@ -364,7 +364,7 @@ pub fn rest(k: Bull, g: Gradient) -> Rest
 fn sloped(k: Bull, g: Gradient, root: f64) -> Rest
     ensures { λ r. ⌜ r ≡ bullSloped k g root ⌝ }
 {
-    touch::rest_at(
+    cutters::rest_at(
         g,
         k.x,
         k.y,

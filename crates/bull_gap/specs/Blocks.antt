@@ -5,9 +5,9 @@ use lib.Ieee.{Float, lt, le}
 use Rattle.numbers.specs.Reals.{_⊕_, f0, minOf}
 use Rattle.plane.specs.declared.Triangle.{Triangle}
 use Rattle.golden.specs.Search.{goldenMax}
-use Rattle.touch.specs.declared.Stretch.{Stretch}
-use Rattle.touch.specs.declared.Stretch.the-variants.{Nowhere, Between}
-use Rattle.touch.specs.Touch.{along}
+use Rattle.cutters.specs.declared.Stretch.{Stretch}
+use Rattle.cutters.specs.declared.Stretch.the-variants.{Nowhere, Between}
+use Rattle.cutters.specs.Touch.{along}
 use Rattle.bull.specs.Bull.{bullContact}
 use Rattle.reach.specs.declared.Chord.{Chord}
 use Rattle.reach.specs.Reach.{stretchOf, gapOf}

@@ -8,10 +8,10 @@ ghost use Rattle.bull_gap.specs.Blocks.{bullGap, bullSearched, bullBlock
 ghost use Rattle.caps.specs.Inside.{InnerOf, inOrder};
 ghost use Rattle.bull_pass.specs.Inside.{passesOf};
 use bull::Bull;
+use cutters::Stretch;
 use golden::Golden;
 use plane::Triangle;
 use reach::Chord;
-use touch::Stretch;
 
 // Whether a triangle with this top blocks the cutter of the radius r and the corner radius rc on the chord.
 pub fn bull_blocks(t: Triangle, top: f64, m: Chord, r: f64, rc: f64) -> bool

@@ -17,9 +17,9 @@ use Rattle.plane.specs.declared.Contact.the-variants.{Nothing, Height}
 use Rattle.plane.specs.declared.Spot.{Spot}
 use Rattle.plane.specs.declared.Spot.the-variants.{Nowhere, At}
 use Rattle.plane.specs.Distance.{baryOf, atLeast}
-use Rattle.touch.specs.declared.Gradient.{Gradient}
-use Rattle.touch.specs.declared.Rest.{Rest}
-use Rattle.touch.specs.Touch.{weighedOf, spotHeight, facetHeight, restOf}
+use Rattle.cutters.specs.declared.Gradient.{Gradient}
+use Rattle.cutters.specs.declared.Rest.{Rest}
+use Rattle.cutters.specs.Touch.{weighedOf, spotHeight, facetHeight, restOf}
 use Rattle.plane.specs.Ranges.{isCoordinate}
 use Rattle.order.proofs.Ranges.{finite-between, sub-mono}
 use Rattle.order.proofs.Extremes.{either-of, not-below, above-finite, min-either}

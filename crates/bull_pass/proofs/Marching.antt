@@ -6,7 +6,7 @@ use native.Mathlib.Omega.{arith}
 use lib.Ieee.{Float, le}
 use Rattle.numbers.specs.Reals.{_⊕_, _⊗_, _⊘_, f1, f2, minOf}
 use Rattle.rules.proofs.Branches.{taken, left, bool-called}
-use Rattle.touch.specs.declared.Edge.{Edge}
+use Rattle.cutters.specs.declared.Edge.{Edge}
 use Rattle.bull_pass.specs.declared.Strip.{Strip}
 use Rattle.bull_pass.specs.declared.March.{March}
 use Rattle.bull_pass.specs.Inside.{pieceUnder, marchStep, marchRun}

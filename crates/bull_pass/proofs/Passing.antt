@@ -19,14 +19,14 @@ use Rattle.plane.specs.declared.Contact.the-variants.{Nothing, Height}
 use Rattle.plane.specs.Contacts.{exceedsOf, takeOf}
 use Rattle.golden.specs.Search.{goldenMax}
 use Rattle.golden.specs.Upper.{minusInfinity}
-use Rattle.touch.specs.declared.Edge.{Edge}
-use Rattle.touch.specs.declared.Stretch.{Stretch}
-use Rattle.touch.specs.declared.Stretch.the-variants.{Nowhere, Between as Part}
-use Rattle.touch.specs.declared.Facing.{Facing}
-use Rattle.touch.specs.declared.Facing.the-variants.{Upright, Leaning}
-use Rattle.touch.specs.declared.Gradient.{Gradient}
+use Rattle.cutters.specs.declared.Edge.{Edge}
+use Rattle.cutters.specs.declared.Stretch.{Stretch}
+use Rattle.cutters.specs.declared.Stretch.the-variants.{Nowhere, Between as Part}
+use Rattle.cutters.specs.declared.Facing.{Facing}
+use Rattle.cutters.specs.declared.Facing.the-variants.{Upright, Leaning}
+use Rattle.cutters.specs.declared.Gradient.{Gradient}
 use Rattle.above.specs.Above.{offerOf}
-use Rattle.touch.specs.Touch.{edgeAb, edgeBc, edgeCa, along, distanceAt, length2, crossedOf, reachedOf, facingOf, facetHeight}
+use Rattle.cutters.specs.Touch.{edgeAb, edgeBc, edgeCa, along, distanceAt, length2, crossedOf, reachedOf, facingOf, facetHeight}
 use Rattle.plane.specs.Ranges.{isCoordinate}
 use Rattle.order.proofs.Ranges.{finite-between, sub-mono}
 use Rattle.order.proofs.Extremes.{either-of, le-self, not-below, min-either, lt-le, not-above, le-not-nan}

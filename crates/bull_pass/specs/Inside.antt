@@ -7,12 +7,12 @@ use Rattle.numbers.specs.Reals.{_⊕_, _⊖_, _⊗_, _⊘_, f0, f1, f2, minusSl
 use Rattle.roots.specs.Root.{rootOf}
 use Rattle.roots.specs.Hypot.{hypotOf}
 use Rattle.plane.specs.declared.Triangle.{Triangle}
-use Rattle.touch.specs.declared.Edge.{Edge}
-use Rattle.touch.specs.declared.Gradient.{Gradient}
-use Rattle.touch.specs.declared.Facing.{Facing}
-use Rattle.touch.specs.declared.Facing.the-variants.{Upright, Leaning}
-use Rattle.touch.specs.declared.Rest.{Rest}
-use Rattle.touch.specs.Touch.{edgeAb, edgeBc, edgeCa, along, facingOf}
+use Rattle.cutters.specs.declared.Edge.{Edge}
+use Rattle.cutters.specs.declared.Gradient.{Gradient}
+use Rattle.cutters.specs.declared.Facing.{Facing}
+use Rattle.cutters.specs.declared.Facing.the-variants.{Upright, Leaning}
+use Rattle.cutters.specs.declared.Rest.{Rest}
+use Rattle.cutters.specs.Touch.{edgeAb, edgeBc, edgeCa, along, facingOf}
 use Rattle.plane.specs.Ranges.{isCoordinate, isRadius}
 use Rattle.bound.specs.Inside.{nearerOf}
 use Rattle.bull.specs.Bull.{bullProfile, bullRest}

@@ -4,15 +4,15 @@ ghost use mathlib.Core.Bool.{_&&_};
 ghost use lib.Ieee.{le};
 ghost use Rattle.numbers.specs.Reals.{_⊕_, _⊖_, f0};
 ghost use Rattle.plane.specs.Ranges.{isCoordinate};
-ghost use Rattle.touch.specs.Touch.{facingOf};
+ghost use Rattle.cutters.specs.Touch.{facingOf};
 ghost use Rattle.bull_pass.specs.Inside.{stripOf, axisFair, tipKept, tipFair, cutterFair, fairOf, sideTame, tameOf, leastOf, loweredOf, underOf, pointBlock, edgeBlock, cornersPass, edgeFair, pieceUnder, marchStep, edgePasses, edgesPass, rangeOf, weightOf, plainProducts, plainRange, outsideOf, rangesMiss, productsMiss, missesOf, restsMiss, facetPasses, passesOf};
 use bull::Bull;
+use cutters::Edge;
+use cutters::Facing;
+use cutters::Gradient;
+use cutters::Rest;
 use plane::Triangle;
 use reach::Chord;
-use touch::Edge;
-use touch::Facing;
-use touch::Gradient;
-use touch::Rest;
 
 // The box in plan of a part of a chord, the height that a contact there may have without touching, and the cutter.
 pub struct Strip {
@@ -66,7 +66,7 @@ pub fn passes(t: Triangle, m: Chord, r: f64, rc: f64, lo: f64, hi: f64) -> bool
 fn over_all(k: Strip, t: Triangle) -> bool
     ensures { λ b. ⌜ b ≡ (cornersPass k t && (facetPasses k t (facingOf t) && edgesPass k t)) ⌝ }
 {
-    corners_pass(k, t) && (facet_passes(k, t, touch::facing_of(t)) && edges_pass(k, t))
+    corners_pass(k, t) && (facet_passes(k, t, cutters::facing_of(t)) && edges_pass(k, t))
 }
 
 // The box of the chord from lo to hi.
@@ -304,8 +304,8 @@ fn edge_passes(k: Strip, e: Edge) -> bool
 fn edges_pass(k: Strip, t: Triangle) -> bool
     ensures { λ b. ⌜ b ≡ edgesPass k t ⌝ }
 {
-    edge_passes(k, touch::edge_ab(t))
-        && (edge_passes(k, touch::edge_bc(t)) && edge_passes(k, touch::edge_ca(t)))
+    edge_passes(k, cutters::edge_ab(t))
+        && (edge_passes(k, cutters::edge_bc(t)) && edge_passes(k, cutters::edge_ca(t)))
 }
 
 // The numbers between two.

@@ -10,8 +10,8 @@ use Rattle.numbers.specs.Reals.{_⊖_, f0, f1, minOf, maxOf, f0-is, f1-is}
 use Rattle.roots.specs.Hypot.{countOf, hypotOf}
 use Rattle.rules.proofs.Branches.{both-true, holds}
 use Rattle.roots.proofs.Distances.{hypot-counts}
-use Rattle.touch.specs.declared.Edge.{Edge}
-use Rattle.touch.specs.Touch.{along, distanceAt}
+use Rattle.cutters.specs.declared.Edge.{Edge}
+use Rattle.cutters.specs.Touch.{along, distanceAt}
 use Rattle.plane.specs.Ranges.{isCoordinate}
 use Rattle.order.proofs.Ranges.{finite-between}
 use Rattle.order.proofs.Extremes.{either-of}

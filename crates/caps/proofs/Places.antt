@@ -8,10 +8,10 @@ use lib.Ieee.Scale.{finite}
 use Rattle.numbers.specs.Reals.{_⊕_, _⊖_, _⊗_, _⊘_, f0, f1, f2, f4, maxOf, minOf, f0-is, f1-is}
 use Rattle.roots.specs.Root.{rootOf}
 use Rattle.rules.proofs.Branches.{either, by-test, no}
-use Rattle.touch.specs.declared.Edge.{Edge}
-use Rattle.touch.specs.declared.Stretch.{Stretch}
-use Rattle.touch.specs.declared.Stretch.the-variants.{Nowhere, Between}
-use Rattle.touch.specs.Touch.{length2, crossedOf, reachedOf}
+use Rattle.cutters.specs.declared.Edge.{Edge}
+use Rattle.cutters.specs.declared.Stretch.{Stretch}
+use Rattle.cutters.specs.declared.Stretch.the-variants.{Nowhere, Between}
+use Rattle.cutters.specs.Touch.{length2, crossedOf, reachedOf}
 use Rattle.order.proofs.Extremes.{either-of, not-below, lt-le}
 use Rattle.order.proofs.Order.{O, le-trans}
 use Rattle.bound.proofs.Unit.{I, Unit}

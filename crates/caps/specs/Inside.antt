@@ -10,8 +10,8 @@ use Rattle.plane.specs.declared.Contact.{Contact}
 use Rattle.plane.specs.Contacts.{takeOf}
 use Rattle.above.specs.Inside.{limitOf}
 use Rattle.golden.specs.declared.Golden.{Golden}
-use Rattle.touch.specs.declared.Edge.{Edge}
-use Rattle.touch.specs.Touch.{along, length2}
+use Rattle.cutters.specs.declared.Edge.{Edge}
+use Rattle.cutters.specs.Touch.{along, length2}
 use Rattle.plane.specs.Ranges.{isCoordinate}
 use Rattle.bound.specs.Inside.{nearerOf}
 

@@ -2,8 +2,8 @@
 ghost use mathlib.Core.Bool.{true};
 ghost use mathlib.Core.Path.{_≡_};
 ghost use Rattle.caps.specs.Inside.{rootMost, highOn, sideOn, leastOn, sideTame, inOrder, tameOn, tameRise, Inner, InnerOf};
+use cutters::Edge;
 use golden::Golden;
-use touch::Edge;
 
 // 2^12, 2^24 and 2^44, and the root of each
 const SQUARE_6: f64 = 4096.0;

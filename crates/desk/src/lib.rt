@@ -11,16 +11,16 @@ ghost use Rattle.query.specs.Asked.{isMarked};
 ghost use Rattle.height.specs.Height.{maxHeightOf};
 ghost use Rattle.height.specs.Sweep.{sweep};
 ghost use Rattle.height.specs.Demand.{DiskPromise};
-ghost use Rattle.contact.specs.Contact.{maxBullOf, BullPromise, maxSectionsOf, SectionsPromise};
+ghost use Rattle.tips.specs.Contact.{maxBullOf, BullPromise, maxSectionsOf, SectionsPromise};
 ghost use Rattle.chords.specs.Chords.{bullChordOf, BullChordPromise, sectionsChordOf, SectionsChordPromise};
 ghost use Rattle.plan.specs.Plan.{outcome, refusedBy, NeverSeven};
 ghost use Rattle.plan.specs.Lost.{NothingLost};
 ghost use Rattle.desk.specs.Plans.{parametersFrom, axisFrom, planAlong, narrowed, planLeft, planLeftBy, plannedFrom};
 use grid::Header;
+use parameters::Parameters;
 use plan::Planned;
 use reach::Chord;
 use rows::Axis;
-use terms::Parameters;
 
 // The index of a mesh: starts, members and boxes get its tables, measures and sizes its header; after 4 bad holds the triangle and which of its nine numbers
 // came first, else 0 and 0.
@@ -145,7 +145,7 @@ pub extern "C" fn mandrikelo_max_bull(
         (now (marks .entry)) stamp (record { x = px; y = py; r = r; rc = rc })
         (answerFrom k (now (found .exit)) (now (counts .exit)) (now (touched .exit))) ⌝ }
 {
-    let a = contact::max_bull(
+    let a = tips::max_bull(
         mesh,
         handed::header_from(measures, sizes),
         starts,
@@ -200,7 +200,7 @@ pub extern "C" fn mandrikelo_max_sections(
         (now (marks .entry)) stamp px py (now (sections .entry))
         (answerFrom k (now (found .exit)) (now (counts .exit)) (now (touched .exit))) ⌝ }
 {
-    let a = contact::max_sections(
+    let a = tips::max_sections(
         mesh,
         handed::header_from(measures, sizes),
         starts,

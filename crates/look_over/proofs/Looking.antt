@@ -25,7 +25,7 @@ use Rattle.runs.specs.declared.Run.{Run}
 use Rattle.runs.specs.Chains.{EachKept}
 use Rattle.runs.proofs.Chaining.{each-more}
 use Rattle.rows.specs.declared.Axis.{Axis}
-use Rattle.terms.specs.declared.Parameters.{Parameters}
+use Rattle.parameters.specs.declared.Parameters.{Parameters}
 use Rattle.probe.specs.Inside.{Marked}
 use Rattle.plan.specs.Plan.{planOf}
 use Rattle.plan.specs.Lost.{askedAgain, Safe, piecesOn}

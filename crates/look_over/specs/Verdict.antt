@@ -19,7 +19,7 @@ use Rattle.tool.specs.Tool.{isTool}
 use Rattle.runs.specs.declared.Run.{Run}
 use Rattle.runs.specs.Chains.{EachKept}
 use Rattle.rows.specs.declared.Axis.{Axis}
-use Rattle.terms.specs.declared.Parameters.{Parameters}
+use Rattle.parameters.specs.declared.Parameters.{Parameters}
 use Rattle.plan.specs.Plan.{planOf}
 use Rattle.plan.specs.Lost.{piecesOn}
 use Rattle.paths.specs.declared.Kind.the-variants.{Cut}

@@ -17,7 +17,7 @@ use Rattle.plane.specs.Ranges.{isCoordinate}
 use Rattle.plane.proofs.Ranges.{coordinate, coordinate-finite}
 use Rattle.rules.specs.Ladder.{refuse, demand}
 use Rattle.rules.proofs.Ladder.{demanded}
-use Rattle.terms.specs.Terms.{areThree}
+use Rattle.parameters.specs.Terms.{areThree}
 use Rattle.fives.specs.Tables.{roomOf}
 use Rattle.join.specs.Join.{runIn, runsIn}
 use Rattle.moves.specs.declared.Point.{Point}

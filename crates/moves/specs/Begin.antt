@@ -9,7 +9,7 @@ use Rattle.numbers.specs.Reals.{f0}
 use Rattle.fives.specs.Tables.{roomOf}
 use Rattle.plane.specs.Ranges.{isCoordinate}
 use Rattle.rules.specs.Ladder.{demand}
-use Rattle.terms.specs.Terms.{areThree}
+use Rattle.parameters.specs.Terms.{areThree}
 use Rattle.runs.specs.declared.Run.{Run}
 use Rattle.join.specs.Join.{runsIn}
 use Rattle.moves.specs.declared.Point.{Point}

@@ -168,8 +168,8 @@ fn refusal_of_runs(runs: &[f64], feed: f64, first_id: u64) -> u32
 fn are_heights(h: Heights, p: Point) -> bool
     ensures { λ b. ⌜ b ≡ areHeights h p ⌝ }
 {
-    terms::are_three(h.clearance, h.retract, h.feed)
-        && (terms::are_three(p.x, p.y, p.z) && in_order(h, p))
+    parameters::are_three(h.clearance, h.retract, h.feed)
+        && (parameters::are_three(p.x, p.y, p.z) && in_order(h, p))
 }
 
 // feed <= retract <= clearance <= start z.
@@ -195,7 +195,7 @@ fn are_runs(feed: f64, runs: &[f64]) -> bool
 fn is_run(feed: f64, r: Run) -> bool
     ensures { λ b. ⌜ b ≡ isRun feed r ⌝ }
 {
-    terms::are_three(r.ax, r.ay, r.z)
+    parameters::are_three(r.ax, r.ay, r.z)
         && (plane::is_coordinate(r.bx) && (plane::is_coordinate(r.by) && r.z <= feed))
 }
 

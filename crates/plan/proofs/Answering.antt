@@ -28,14 +28,14 @@ use Rattle.runs.specs.declared.Run.{Run}
 use Rattle.runs.specs.Runs.{joinedOf, fiveOf as runFive}
 use Rattle.runs.specs.Pieces.{keptOf}
 use Rattle.rows.specs.declared.Axis.{Axis}
-use Rattle.terms.specs.declared.Parameters.{Parameters}
-use Rattle.terms.specs.Terms.{areTerms, tooFine, anyOf, refusalOfLevels}
-use Rattle.terms.specs.Inside.{levelsIn}
-use Rattle.terms.proofs.Testing.{levels-read}
+use Rattle.parameters.specs.declared.Parameters.{Parameters}
+use Rattle.parameters.specs.Terms.{areTerms, tooFine, anyOf, refusalOfLevels}
+use Rattle.parameters.specs.Inside.{levelsIn}
+use Rattle.parameters.proofs.Testing.{levels-read}
 use Rattle.probe.specs.Inside.{Askable, Marked}
-use Rattle.search.specs.Search.{Found}
-use Rattle.lanes.specs.declared.Counted.{Counted}
-use Rattle.lanes.specs.Inside.{Searched}
+use Rattle.row_runs.specs.Search.{Found}
+use Rattle.search.specs.declared.Counted.{Counted}
+use Rattle.search.specs.Inside.{Searched}
 use Rattle.plan.specs.declared.Planned.{Planned}
 use Rattle.plan.specs.declared.Surveyed.{Surveyed}
 use Rattle.plan.specs.Plan.{refusalOfInput, refusalOfTables, levelsUnder, foundOn, Outcome, outcome, refusedBy, acceptedWith, wiped, workedOf, planOf, NeverSeven}

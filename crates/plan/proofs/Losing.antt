@@ -35,12 +35,12 @@ use Rattle.runs.specs.Pieces.{Piece, keptOf, droppedBy}
 use Rattle.runs.specs.Chains.{firstOf, lastOf, Chained, EachKept, Whole, LieIn}
 use Rattle.runs.proofs.Chaining.{each-append, each-more, each-both, whole, joined-lie, kept-each, lie-made}
 use Rattle.rows.specs.declared.Axis.{Axis}
-use Rattle.terms.specs.declared.Parameters.{Parameters}
-use Rattle.terms.specs.Terms.{areTerms, tooFine, anyOf, refusalOfLevels}
+use Rattle.parameters.specs.declared.Parameters.{Parameters}
+use Rattle.parameters.specs.Terms.{areTerms, tooFine, anyOf, refusalOfLevels}
 use Rattle.probe.specs.Probe.{heightUnder}
-use Rattle.search.specs.Search.{Found, levelsFound}
-use Rattle.search.specs.Sampled.{Sampled, levelsSampled, clearAt, halvesOf, halvesOfAll}
-use Rattle.search.proofs.Sampling.{foundFrom, levels-halved}
+use Rattle.row_runs.specs.Search.{Found, levelsFound}
+use Rattle.row_runs.specs.Sampled.{Sampled, levelsSampled, clearAt, halvesOf, halvesOfAll}
+use Rattle.row_runs.proofs.Sampling.{foundFrom, levels-halved}
 use Rattle.plan.specs.declared.Planned.{Planned}
 use Rattle.plan.specs.Plan.{refusalOfInput, refusalOfTables, levelsUnder, foundOn, Outcome, outcome, workedOf, planOf}
 use Rattle.plan.specs.Lost.{askedAgain, Safe, stretchesOn, piecesOn, halvesOn, NothingLost}

@@ -24,11 +24,11 @@ use Rattle.runs.specs.Chains.{EachKept}
 use Rattle.runs.proofs.Chaining.{each-more}
 use Rattle.rows.specs.declared.Axis.{Axis}
 use Rattle.rows.proofs.Reaching.{Reached}
-use Rattle.terms.specs.declared.Parameters.{Parameters}
-use Rattle.terms.specs.Terms.{tooFine, anyOf}
+use Rattle.parameters.specs.declared.Parameters.{Parameters}
+use Rattle.parameters.specs.Terms.{tooFine, anyOf}
 use Rattle.probe.specs.Probe.{heightUnder}
-use Rattle.search.specs.Sampled.{halvesOfAll}
-use Rattle.search.proofs.Reaching.{levels-reached, pieces-reached}
+use Rattle.row_runs.specs.Sampled.{halvesOfAll}
+use Rattle.row_runs.proofs.Reaching.{levels-reached, pieces-reached}
 use Rattle.plan.specs.Plan.{levelsUnder}
 use Rattle.plan.specs.Lost.{stretchesOn}
 

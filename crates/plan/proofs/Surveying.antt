@@ -16,10 +16,10 @@ use Rattle.fives.proofs.Writing.{written-length}
 use Rattle.levels.specs.declared.Level.{Level}
 use Rattle.levels.specs.Levels.{fiveOf}
 use Rattle.rows.specs.declared.Axis.{Axis}
-use Rattle.terms.specs.declared.Parameters.{Parameters}
-use Rattle.terms.specs.Terms.{tooDeep, tooFine, anyOf, refusalOfLevels}
-use Rattle.terms.specs.Inside.{refusalOfCount}
-use Rattle.terms.proofs.Testing.{levels-read}
+use Rattle.parameters.specs.declared.Parameters.{Parameters}
+use Rattle.parameters.specs.Terms.{tooDeep, tooFine, anyOf, refusalOfLevels}
+use Rattle.parameters.specs.Inside.{refusalOfCount}
+use Rattle.parameters.proofs.Testing.{levels-read}
 use Rattle.plan.specs.Inside.{Surveys}
 
 module _ (t : List Float) (ls : List Level) (p : Parameters) (axis : Axis) (r : Float) where

@@ -14,11 +14,11 @@ use Rattle.levels.specs.Levels.{fiveOf as levelFive}
 use Rattle.runs.specs.Runs.{joinedOf, cutOf, fiveOf as runFive}
 use Rattle.runs.specs.Pieces.{keptOf, droppedBy}
 use Rattle.rows.specs.declared.Axis.{Axis}
-use Rattle.terms.specs.declared.Parameters.{Parameters}
-use Rattle.terms.specs.Terms.{refusalOfLevels}
+use Rattle.parameters.specs.declared.Parameters.{Parameters}
+use Rattle.parameters.specs.Terms.{refusalOfLevels}
 use Rattle.probe.specs.Inside.{Askable}
-use Rattle.search.specs.Search.{Found}
-use Rattle.lanes.specs.declared.Counted.{Counted}
+use Rattle.row_runs.specs.Search.{Found}
+use Rattle.search.specs.declared.Counted.{Counted}
 use Rattle.plan.specs.declared.Planned.{Planned}
 use Rattle.plan.specs.declared.Surveyed.{Surveyed}
 use Rattle.plan.specs.Plan.{refusedBy, wiped}

@@ -16,9 +16,9 @@ use Rattle.runs.specs.Runs.{joinedOf}
 use Rattle.runs.specs.Pieces.{Piece, keptOf, droppedBy}
 use Rattle.runs.specs.Chains.{firstOf, lastOf, Chained, EachKept, LieIn, MadeOf}
 use Rattle.rows.specs.declared.Axis.{Axis}
-use Rattle.terms.specs.declared.Parameters.{Parameters}
+use Rattle.parameters.specs.declared.Parameters.{Parameters}
 use Rattle.probe.specs.Probe.{heightUnder}
-use Rattle.search.specs.Sampled.{levelsSampled, halvesOf, halvesOfAll}
+use Rattle.row_runs.specs.Sampled.{levelsSampled, halvesOf, halvesOfAll}
 use Rattle.plan.specs.declared.Planned.{Planned}
 use Rattle.plan.specs.Plan.{levelsUnder, foundOn}
 

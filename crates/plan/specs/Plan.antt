@@ -19,10 +19,10 @@ use Rattle.runs.specs.declared.Run.{Run}
 use Rattle.runs.specs.Runs.{joinedOf, cutOf, fiveOf as runFive}
 use Rattle.runs.specs.Pieces.{keptOf, droppedBy}
 use Rattle.rows.specs.declared.Axis.{Axis}
-use Rattle.terms.specs.declared.Parameters.{Parameters}
-use Rattle.terms.specs.Terms.{areTerms, refusalOfLevels}
+use Rattle.parameters.specs.declared.Parameters.{Parameters}
+use Rattle.parameters.specs.Terms.{areTerms, refusalOfLevels}
 use Rattle.probe.specs.Probe.{heightUnder}
-use Rattle.search.specs.Search.{Found, levelsFound}
+use Rattle.row_runs.specs.Search.{Found, levelsFound}
 use Rattle.plan.specs.declared.Planned.{Planned}
 
 -- ---- what is refused

@@ -6,16 +6,16 @@ ghost use lib.ListN.{length, replicate};
 ghost use Rattle.grid.specs.Index.{indexOf};
 ghost use Rattle.fives.specs.Tables.{zeroed};
 ghost use Rattle.levels.specs.Levels.{levelsOf};
-ghost use Rattle.terms.specs.Terms.{tooFine, anyOf};
-ghost use Rattle.terms.specs.Inside.{levelsIn};
+ghost use Rattle.parameters.specs.Terms.{tooFine, anyOf};
+ghost use Rattle.parameters.specs.Inside.{levelsIn};
 ghost use Rattle.probe.specs.Inside.{Askable, Marked};
 ghost use Rattle.plan.specs.Plan.{refusalOfInput, foundOn, outcome, refusedBy, workedOf, planOf, NeverSeven};
 ghost use Rattle.plan.specs.Lost.{NothingLost};
 ghost use Rattle.plan.specs.Inside.{Ready, Surveys, settled, givenUp, settledOf, finishedOf};
 use grid::Header;
-use lanes::Counted;
+use parameters::Parameters;
 use rows::Axis;
-use terms::Parameters;
+use search::Counted;
 
 // A plan's answer: its refusal or 0, the numbers of levels, rows and runs, the cut length and the dropped length.
 pub struct Planned {
@@ -90,7 +90,7 @@ fn refusal(
     if !grid::is_boxed(mesh, boxes) {
         return 23;
     }
-    if !terms::are_terms(p, h.r, h.floor) {
+    if !parameters::are_terms(p, h.r, h.floor) {
         return 9;
     }
     if !whole::usable_whole(mesh, h, starts, members, boxes) {
@@ -175,7 +175,7 @@ fn finish(
         (levels .entry)) 0 count)))
         × (now (marks .exit) ≡ replicate (h .n) 0) ⌝ }
 {
-    let y = lanes::search_levels(
+    let y = search::search_levels(
         mesh,
         h,
         starts,
@@ -226,7 +226,7 @@ fn survey(
         levels,
     );
     walk::wipe(marks);
-    let refusal = terms::refusal_of_levels(levels, count, p, axis, r);
+    let refusal = parameters::refusal_of_levels(levels, count, p, axis, r);
     Surveyed { count, refusal }
 }
 

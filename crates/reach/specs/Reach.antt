@@ -10,9 +10,9 @@ use Rattle.plane.specs.declared.Contact.the-variants.{Nothing, Height}
 use Rattle.plane.specs.Distance.{distanceXy}
 use Rattle.golden.specs.Search.{goldenArgmin}
 use Rattle.golden.specs.Upper.{minusInfinity}
-use Rattle.touch.specs.declared.Stretch.{Stretch}
-use Rattle.touch.specs.declared.Stretch.the-variants.{Nowhere, Between}
-use Rattle.touch.specs.Touch.{along}
+use Rattle.cutters.specs.declared.Stretch.{Stretch}
+use Rattle.cutters.specs.declared.Stretch.the-variants.{Nowhere, Between}
+use Rattle.cutters.specs.Touch.{along}
 use Rattle.reach.specs.declared.Chord.{Chord}
 use Rattle.reach.specs.declared.Span.{Span}
 

@@ -2,10 +2,10 @@
 ghost use mathlib.Core.Path.{_≡_};
 ghost use Rattle.golden.specs.Search.{falls, goldenStart, goldenStep};
 ghost use Rattle.reach.specs.Reach.{apartAt, nearOf, halvedOf, spanAt, rimOf, stretchFrom, stretchOf, aboveOf, gapOf};
+use cutters::Stretch;
 use golden::Golden;
 use plane::Contact;
 use plane::Triangle;
-use touch::Stretch;
 
 const MINUS_ONE: f64 = -1.0;
 

@@ -253,7 +253,7 @@ fn by_table(
     let m = q.m;
     let numbers = flat_of(tool_of(q.tool));
     let k = q.n * 4;
-    let height = contact::max_sections(
+    let height = tips::max_sections(
         mesh,
         h,
         starts,

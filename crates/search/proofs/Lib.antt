@@ -1,3 +1,4 @@
-pub mod Walking
-pub mod Sampling
-pub mod Reaching
+pub mod Finding
+pub mod Directing
+pub mod Sweeping
+pub mod Starting

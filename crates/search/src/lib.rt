@@ -1,41 +1,40 @@
-// The search for runs: each row of each level is sampled, its stretches on the level are runs, and a run that is not clear is halved.
+// The search over all levels of a table: the rows of each, one after the other. Every second row that has a stretch is walked back.
+ghost use mathlib.Core.Bool.{false};
+ghost use mathlib.Core.List.{[]};
 ghost use mathlib.Core.Path.{_≡_};
-ghost use mathlib.Core.List.{map};
-ghost use mathlib.Core.Bool.{true, false};
-ghost use Prim.Native.Nat.{_+_, _*_, _≤_, _<_};
+ghost use Prim.Native.Nat.{_*_, _≤_, _<_};
 ghost use lib.ListN.{length};
 ghost use Rattle.grid.specs.Index.{indexOf};
-ghost use Rattle.rows.specs.Stretches.{stretchesOf};
-ghost use Rattle.probe.specs.Probe.{heightUnder, onLevel};
+ghost use Rattle.parameters.specs.Terms.{tooFine, anyOf};
+ghost use Rattle.parameters.specs.Inside.{levelsIn};
+ghost use Rattle.probe.specs.Probe.{heightUnder};
 ghost use Rattle.probe.specs.Inside.{Askable, Marked};
-ghost use Rattle.search.specs.Search.{aimOf, laneOf};
-ghost use Rattle.search.specs.Inside.{numberOf, numbered, Ended, Advanced, Trodden};
+ghost use Rattle.row_runs.specs.Search.{rowFound, levelFound, levelsFound};
+ghost use Rattle.row_runs.specs.Inside.{Coarse};
+ghost use Rattle.search.specs.Inside.{from, Takes, Searched};
 use grid::Header;
 use halving::Stand;
 use levels::Level;
+use parameters::Parameters;
 use probe::Aim;
 use rows::Axis;
 use rows::Lane;
-use runs::Run;
-use terms::Parameters;
+use runs::Tally;
 
-// Where a row stands: how many samples in front of the next are on the level, whether it has had a stretch, and what is taken.
-pub struct Walked {
-    pub k: usize,
-    pub some: bool,
+// Where the search stands: how many rows have a stretch, and what is taken of them.
+pub struct Swept {
+    pub rows: usize,
     pub stand: Stand,
 }
 
-// Sample j of a row that is walked forward or back.
-fn number(forward: bool, samples: usize, j: usize) -> usize
-    requires { ⌜ j ≤ samples ⌝ }
-    ensures { λ k. ⌜ k ≡ numberOf forward samples j ⌝ }
-{
-    if forward { j } else { samples - j }
+// What a search counts: the rows that have a stretch, and what was made of their pieces.
+pub struct Counted {
+    pub rows: usize,
+    pub tally: Tally,
 }
 
-// The stretch in front of sample j has ended: it is taken, if it has two samples or more.
-fn end_stretch(
+// The levels of a table searched, one after the other, from nothing; the joined runs written to the table of runs.
+pub fn search_levels(
     mesh: &[f64],
     h: Header,
     starts: &[u32],
@@ -43,115 +42,94 @@ fn end_stretch(
     boxes: &[f64],
     marks: &mut [u32],
     runs: &mut [f64],
-    a: Aim,
-    l: Lane,
-    forward: bool,
-    j: usize,
-    w: Walked,
-) -> Walked
-    requires { ⌜ Askable (indexOf (now mesh) h (now starts) (now members) (now boxes)) × Marked (h .n) (w .stand .stamp) (now marks) × (w .k ≤ j) ×
-        (j ≤ l .samples + 1) ⌝ }
-    ensures { λ e. ⌜ Ended (heightUnder (indexOf (now (mesh .entry)) h (now (starts .entry)) (now (members .entry)) (now (boxes .entry)))) a l forward j w
-        (now (runs .entry)) e (now (runs .exit)) × Marked (h .n) (e .stand .stamp) (now (marks .exit)) ⌝ }
+    p: Parameters,
+    axis: Axis,
+    levels: &[f64],
+    count: usize,
+) -> Counted
+    requires { ⌜ Askable (indexOf (now mesh) h (now starts) (now members) (now boxes)) × Marked (h .n) 0 (now marks) × (count * 5 ≤ length (now levels))
+        × (count ≤ 65536) × (anyOf (tooFine p axis (h .r)) (levelsIn (now levels) 0 count) ≡ false) ⌝ }
+    ensures { λ y. ⌜ Searched (now (runs .entry)) (levelsFound
+        (heightUnder (indexOf (now (mesh .entry)) h (now (starts .entry)) (now (members .entry)) (now (boxes .entry)))) p axis (h .r)
+        (record { rows = 0; pieces = [] })
+        (levelsIn (now (levels .entry)) 0 count)) (now (runs .exit)) y × (length (now (marks .exit)) ≡ h .n) ⌝ }
 {
-    let k = w.k;
-    let some = w.some;
-    let s = w.stand;
-    if k <= 1 {
-        return Walked {
-            k: 0,
-            some,
-            stand: s,
-        };
-    }
-    let samples = l.samples;
-    let first = number(forward, samples, j - k);
-    let last = number(forward, samples, j - 1);
-    let stand = halving::halve(
-        mesh,
-        h,
-        starts,
-        members,
-        boxes,
-        marks,
-        runs,
-        a,
-        rows::run_between(l, first, last),
-        s,
-    );
-    Walked {
-        k: 0,
-        some: true,
-        stand,
-    }
-}
-
-// One sample more of a row: on the level it makes the stretch longer, off it the stretch ends.
-fn advance(
-    mesh: &[f64],
-    h: Header,
-    starts: &[u32],
-    members: &[u32],
-    boxes: &[f64],
-    marks: &mut [u32],
-    runs: &mut [f64],
-    a: Aim,
-    l: Lane,
-    forward: bool,
-    j: usize,
-    w: Walked,
-) -> Walked
-    requires { ⌜ Askable (indexOf (now mesh) h (now starts) (now members) (now boxes)) × Marked (h .n) (w .stand .stamp) (now marks) × (w .k ≤ j)
-        × (j ≤ l .samples) × (l .samples ≤ 65535) ⌝ }
-    ensures { λ e. ⌜ Advanced (heightUnder (indexOf (now (mesh .entry)) h (now (starts .entry)) (now (members .entry)) (now (boxes .entry)))) a l forward j w
-        (now (runs .entry)) e (now (runs .exit)) × Marked (h .n) (e .stand .stamp) (now (marks .exit)) ⌝ }
-{
-    let s = w.stand;
-    let k = w.k;
-    let some = w.some;
-    let t = s.tally;
-    let samples = l.samples;
-    let o = probe::sample(
-        mesh,
-        h,
-        starts,
-        members,
-        boxes,
-        marks,
-        s.stamp,
-        a,
-        l,
-        number(forward, samples, j),
-    );
     let stand = Stand {
-        tally: t,
-        stamp: o.stamp,
+        tally: runs::begin(),
+        stamp: 0,
     };
-    if o.on {
-        return Walked {
-            k: k + 1,
-            some,
-            stand,
-        };
+    let mut s = Swept { rows: 0, stand };
+    for m in 0..count {
+        s = search_level(
+            mesh,
+            h,
+            starts,
+            members,
+            boxes,
+            marks,
+            runs,
+            p,
+            axis,
+            levels::level_at(levels, m),
+            s,
+        );
     }
-    end_stretch(
+    let rows = s.rows;
+    let end = s.stand;
+    let open = end.tally;
+    let tally = runs::close(runs, open);
+    Counted { rows, tally }
+}
+
+// A level taken: its heights are asked from just under it where that decides nothing otherwise.
+fn search_level(
+    mesh: &[f64],
+    h: Header,
+    starts: &[u32],
+    members: &[u32],
+    boxes: &[f64],
+    marks: &mut [u32],
+    runs: &mut [f64],
+    p: Parameters,
+    axis: Axis,
+    level: Level,
+    s: Swept,
+) -> Swept
+    requires { ⌜ Askable (indexOf (now mesh) h (now starts) (now members) (now boxes)) × Marked (h .n) (s .stand .stamp) (now marks) × Coarse p axis (h .r) level
+        × (s .rows ≤ 4294967296) ⌝ }
+    ensures { λ e. ⌜ Takes (now (runs .entry)) s
+        (levelFound (heightUnder (indexOf (now (mesh .entry)) h (now (starts .entry)) (now (members .entry)) (now (boxes .entry)))) p axis (h .r) (from s) level)
+        (now (runs .exit)) e × Marked (h .n) (e .stand .stamp) (now (marks .exit)) ⌝ }
+{
+    let a = row_runs::aim_of(p, h.r, level);
+    let l = row_runs::lane_of(p, axis, h.r, level, 0);
+    let rows = rows::intervals(l.spread, p.stepover);
+    let g = start::header_for(
         mesh,
         h,
+        boxes,
+        a,
+        level.z + p.stock_to_leave,
+        rows,
+        l.samples,
+    );
+    search_rows(
+        mesh,
+        g,
         starts,
         members,
         boxes,
         marks,
         runs,
-        a,
-        l,
-        forward,
-        j,
-        Walked { k, some, stand },
+        p,
+        axis,
+        level,
+        s,
     )
 }
 
-// A row walked forward or back: its stretches are taken.
-pub fn walk_row(
+// The rows of a level taken, from the first to the last, over the header's floor.
+fn search_rows(
     mesh: &[f64],
     h: Header,
     starts: &[u32],
@@ -159,24 +137,23 @@ pub fn walk_row(
     boxes: &[f64],
     marks: &mut [u32],
     runs: &mut [f64],
-    a: Aim,
-    l: Lane,
-    forward: bool,
-    s: Stand,
-) -> Walked
-    requires { ⌜ Askable (indexOf (now mesh) h (now starts) (now members) (now boxes)) × Marked (h .n) (s .stamp) (now marks) × (l .samples ≤ 65535) ⌝ }
-    ensures { λ e. ⌜ Trodden (heightUnder (indexOf (now (mesh .entry)) h (now (starts .entry)) (now (members .entry)) (now (boxes .entry)))) a l (map (numbered forward (l .samples))
-        (stretchesOf (λ j. onLevel (heightUnder (indexOf (now (mesh .entry)) h (now (starts .entry)) (now (members .entry)) (now (boxes .entry)))) a l
-        (numberOf forward (l .samples) j)) (l .samples))) (now (runs .entry)) s (now (runs .exit)) e × Marked (h .n) (e .stand .stamp) (now (marks .exit)) ⌝ }
+    p: Parameters,
+    axis: Axis,
+    level: Level,
+    s: Swept,
+) -> Swept
+    requires { ⌜ Askable (indexOf (now mesh) h (now starts) (now members) (now boxes)) × Marked (h .n) (s .stand .stamp) (now marks) × Coarse p axis (h .r) level
+        × (s .rows ≤ 4294967296) ⌝ }
+    ensures { λ e. ⌜ Takes (now (runs .entry)) s
+        (levelFound (heightUnder (indexOf (now (mesh .entry)) h (now (starts .entry)) (now (members .entry)) (now (boxes .entry)))) p axis (h .r) (from s) level)
+        (now (runs .exit)) e × Marked (h .n) (e .stand .stamp) (now (marks .exit)) ⌝ }
 {
-    let samples = l.samples;
-    let mut w = Walked {
-        k: 0,
-        some: false,
-        stand: s,
-    };
-    for j in 0..samples + 1 {
-        w = advance(
+    let r = h.r;
+    let a = row_runs::aim_of(p, r, level);
+    let rows = rows::intervals(rows::spread_of(axis, r, level), p.stepover) + 1;
+    let mut e = s;
+    for row in 0..rows {
+        e = search_row(
             mesh,
             h,
             starts,
@@ -185,13 +162,36 @@ pub fn walk_row(
             marks,
             runs,
             a,
-            l,
-            forward,
-            j,
-            w,
+            row_runs::lane_of(p, axis, r, level, row),
+            e,
         );
     }
-    end_stretch(
+    e
+}
+
+// A row taken: every second row that has a stretch is walked back.
+fn search_row(
+    mesh: &[f64],
+    h: Header,
+    starts: &[u32],
+    members: &[u32],
+    boxes: &[f64],
+    marks: &mut [u32],
+    runs: &mut [f64],
+    a: Aim,
+    l: Lane,
+    s: Swept,
+) -> Swept
+    requires { ⌜ Askable (indexOf (now mesh) h (now starts) (now members) (now boxes)) × Marked (h .n) (s .stand .stamp) (now marks) × (l .samples ≤ 65535)
+        × (s .rows < 8589934592) ⌝ }
+    ensures { λ e. ⌜ Takes (now (runs .entry)) s
+        (rowFound (heightUnder (indexOf (now (mesh .entry)) h (now (starts .entry)) (now (members .entry)) (now (boxes .entry)))) a (from s) l)
+        (now (runs .exit)) e × Marked (h .n) (e .stand .stamp) (now (marks .exit)) ⌝ }
+{
+    let rows = s.rows;
+    let begin = s.stand;
+    let n = rows + 1;
+    let w = row_runs::walk_row(
         mesh,
         h,
         starts,
@@ -201,36 +201,12 @@ pub fn walk_row(
         runs,
         a,
         l,
-        forward,
-        samples + 1,
-        w,
-    )
-}
-
-// What a level's rows are tested against.
-pub fn aim_of(p: Parameters, r: f64, level: Level) -> Aim
-    ensures { λ a. ⌜ a ≡ aimOf p r level ⌝ }
-{
-    Aim {
-        level: level.z,
-        level_tolerance: p.level_tolerance,
-        tolerance: p.tolerance,
-        least: rows::step(p.stepover, r) / 16.0,
+        n % 2 != 0,
+        begin,
+    );
+    let stand = w.stand;
+    if w.some {
+        return Swept { rows: n, stand };
     }
-}
-
-// Row number `row` of a level.
-pub fn lane_of(p: Parameters, axis: Axis, r: f64, level: Level, row: usize) -> Lane
-    ensures { λ l. ⌜ l ≡ laneOf p axis r level row ⌝ }
-{
-    let spread = rows::spread_of(axis, r, level);
-    let samples = rows::samples(spread, rows::step(p.stepover, r));
-    let cross = rows::cross(spread, rows::intervals(spread, p.stepover), row);
-    Lane {
-        axis,
-        spread,
-        samples,
-        cross,
-        z: level.z + p.stock_to_leave,
-    }
+    Swept { rows, stand }
 }

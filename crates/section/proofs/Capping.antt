@@ -23,10 +23,10 @@ use Rattle.above.specs.Above.{offerOf}
 use Rattle.above.specs.Inside.{limitOf}
 use Rattle.above.proofs.Above.{stays-under}
 use Rattle.golden.specs.Search.{goldenMax, boundOf, goldenMaxBound}
-use Rattle.touch.specs.declared.Edge.{Edge}
-use Rattle.touch.specs.declared.Stretch.{Stretch}
-use Rattle.touch.specs.declared.Stretch.the-variants.{Nowhere, Between}
-use Rattle.touch.specs.Touch.{along, distanceAt, length2, reachedOf}
+use Rattle.cutters.specs.declared.Edge.{Edge}
+use Rattle.cutters.specs.declared.Stretch.{Stretch}
+use Rattle.cutters.specs.declared.Stretch.the-variants.{Nowhere, Between}
+use Rattle.cutters.specs.Touch.{along, distanceAt, length2, reachedOf}
 use Rattle.plane.specs.Ranges.{isCoordinate}
 use Rattle.order.proofs.Signed.{upper, lower, parts→le, is-le, is-sub}
 use Rattle.order.proofs.Ranges.{finite-between, sub-mono, zero-is}

@@ -11,8 +11,8 @@ use lib.Ieee.Bits.{is-true}
 use Rattle.numbers.specs.Reals.{_⊕_, _⊖_, _⊗_, _⊘_, f0, minOf, maxOf}
 use Rattle.rules.proofs.Branches.{by-test, no, holds}
 use Rattle.golden.specs.Search.{goldenMax}
-use Rattle.touch.specs.declared.Edge.{Edge}
-use Rattle.touch.specs.Touch.{along, distanceAt}
+use Rattle.cutters.specs.declared.Edge.{Edge}
+use Rattle.cutters.specs.Touch.{along, distanceAt}
 use Rattle.order.proofs.Ranges.{sub-mono}
 use Rattle.order.proofs.Order.{O, le-trans, sub-turns, add-right, mul-up, no-lower}
 use Rattle.order.proofs.Extremes.{min-up}

@@ -6,8 +6,8 @@ use lib.Ieee.{Float, le}
 use lib.Ieee.Bits.{is-true}
 use Rattle.numbers.specs.Reals.{_⊕_, _⊖_, _⊗_, minOf}
 use Rattle.roots.specs.Hypot.{hypotOf}
-use Rattle.touch.specs.declared.Edge.{Edge}
-use Rattle.touch.specs.Touch.{along, distanceAt}
+use Rattle.cutters.specs.declared.Edge.{Edge}
+use Rattle.cutters.specs.Touch.{along, distanceAt}
 use Rattle.order.proofs.Extremes.{min-under}
 use Rattle.section.specs.declared.Section.{Section}
 use Rattle.section.specs.declared.Surface.the-variants.{Beyond, Over}

@@ -14,9 +14,9 @@ use Rattle.plane.specs.Contacts.{edge}
 use Rattle.above.specs.Above.{offerOf}
 use Rattle.golden.specs.declared.Golden.{Golden}
 use Rattle.golden.specs.Search.{rises, goldenAt, goldenMax, boundOf, goldenMaxBound}
-use Rattle.touch.specs.declared.Edge.{Edge}
-use Rattle.touch.specs.declared.Stretch.{Stretch}
-use Rattle.touch.specs.declared.Stretch.the-variants.{Nowhere, Between}
+use Rattle.cutters.specs.declared.Edge.{Edge}
+use Rattle.cutters.specs.declared.Stretch.{Stretch}
+use Rattle.cutters.specs.declared.Stretch.the-variants.{Nowhere, Between}
 use Rattle.caps.specs.Inside.{InnerOf, Alike}
 use Rattle.caps.proofs.Places.{number-of}
 use Rattle.caps.proofs.Narrow.{found-last, narrow-ends}

@@ -8,10 +8,10 @@ use Rattle.plane.specs.declared.Triangle.{Triangle}
 use Rattle.plane.specs.declared.Contact.{Contact}
 use Rattle.above.specs.Above.{offerOf}
 use Rattle.above.proofs.Above.{offers, three-on}
-use Rattle.touch.specs.declared.Edge.{Edge}
-use Rattle.touch.specs.declared.Stretch.{Stretch}
-use Rattle.touch.specs.declared.Facing.{Facing}
-use Rattle.touch.specs.Touch.{edgeAb, edgeBc, edgeCa, reachedOf, facingOf}
+use Rattle.cutters.specs.declared.Edge.{Edge}
+use Rattle.cutters.specs.declared.Stretch.{Stretch}
+use Rattle.cutters.specs.declared.Facing.{Facing}
+use Rattle.cutters.specs.Touch.{edgeAb, edgeBc, edgeCa, reachedOf, facingOf}
 use Rattle.section.specs.declared.Section.{Section}
 use Rattle.section.specs.Section.{sectionVertices, sectionEdge, sectionEdges, sectionFacet, sectionContact}
 

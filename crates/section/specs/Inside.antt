@@ -10,8 +10,8 @@ use Rattle.roots.specs.Hypot.{hypotOf}
 use Rattle.plane.specs.declared.Contact.{Contact}
 use Rattle.above.specs.Above.{offerOf}
 use Rattle.above.specs.Inside.{limitOf}
-use Rattle.touch.specs.declared.Edge.{Edge}
-use Rattle.touch.specs.Touch.{length2}
+use Rattle.cutters.specs.declared.Edge.{Edge}
+use Rattle.cutters.specs.Touch.{length2}
 use Rattle.caps.specs.Inside.{rootMost, highOn, leastOn, tameOn, tameRise}
 use Rattle.section.specs.declared.Section.{Section}
 use Rattle.section.specs.declared.Surface.the-variants.{Beyond}

@@ -12,15 +12,15 @@ use Rattle.plane.specs.declared.Contact.the-variants.{Nothing, Height}
 use Rattle.plane.specs.Contacts.{corner, edge}
 use Rattle.golden.specs.Search.{goldenMaxBound}
 use Rattle.golden.specs.Upper.{infinity}
-use Rattle.touch.specs.declared.Edge.{Edge}
-use Rattle.touch.specs.declared.Stretch.{Stretch}
-use Rattle.touch.specs.declared.Stretch.the-variants.{Nowhere, Between}
-use Rattle.touch.specs.declared.Gradient.{Gradient}
-use Rattle.touch.specs.declared.Facing.{Facing}
-use Rattle.touch.specs.declared.Facing.the-variants.{Upright, Leaning}
-use Rattle.touch.specs.declared.Rest.{Rest}
+use Rattle.cutters.specs.declared.Edge.{Edge}
+use Rattle.cutters.specs.declared.Stretch.{Stretch}
+use Rattle.cutters.specs.declared.Stretch.the-variants.{Nowhere, Between}
+use Rattle.cutters.specs.declared.Gradient.{Gradient}
+use Rattle.cutters.specs.declared.Facing.{Facing}
+use Rattle.cutters.specs.declared.Facing.the-variants.{Upright, Leaning}
+use Rattle.cutters.specs.declared.Rest.{Rest}
 use Rattle.above.specs.Above.{offerOf}
-use Rattle.touch.specs.Touch.{edgeAb, edgeBc, edgeCa, along, distanceAt, length2, reachedOf, facingOf, restOf, facetHeight}
+use Rattle.cutters.specs.Touch.{edgeAb, edgeBc, edgeCa, along, distanceAt, length2, reachedOf, facingOf, restOf, facetHeight}
 use Rattle.section.specs.declared.Section.{Section}
 use Rattle.section.specs.declared.Surface.{Surface}
 use Rattle.section.specs.declared.Surface.the-variants.{Beyond, Over}

@@ -7,15 +7,15 @@ ghost use Rattle.golden.specs.Search.{rises, goldenStart, goldenStep, goldenMax
 ghost use Rattle.caps.specs.Inside.{InnerOf, Alike};
 ghost use Rattle.section.specs.Inside.{FlatTo, Firm, Clear, capOf, AsGood, Under, Begun};
 ghost use Rattle.section.specs.Section.{within, positiveReach, validSection, profileOf, heightOver, sectionUnder, sectionVertex, sectionVertices, sectionAt, lipschitzOf, sectionStretch, sectionEdge, sectionEdges, reachOf, sectionSloped, sectionRest, sectionFacet, sectionContact};
+use cutters::Edge;
+use cutters::Facing;
+use cutters::Gradient;
+use cutters::Rest;
+use cutters::Stretch;
 use golden::Golden;
 use plane::Contact;
 use plane::Touch;
 use plane::Triangle;
-use touch::Edge;
-use touch::Facing;
-use touch::Gradient;
-use touch::Rest;
-use touch::Stretch;
 
 mod low;
 
@@ -77,7 +77,7 @@ pub fn section_contact_on(t: Triangle, x: f64, y: f64, s: Section, c: Contact) -
     let low = low::low_of(s);
     let far = far_of(s);
     let e = edges(s, low, x, y, t, vertices(s, low, far, x, y, t, c));
-    above::offer(e, facet(s, x, y, t, touch::facing_of(t)))
+    above::offer(e, facet(s, x, y, t, cutters::facing_of(t)))
 }
 
 // The height of the lower surface over the tip at the distance d from the axis.
@@ -173,9 +173,9 @@ fn edges(s: Section, low: f64, x: f64, y: f64, t: Triangle, c: Contact) -> Conta
     requires { ⌜ Firm s low ⌝ }
     ensures { λ r. ⌜ r ≡ sectionEdges s x y t c ⌝ }
 {
-    let ab = edge(s, low, x, y, touch::edge_ab(t), c);
-    let bc = edge(s, low, x, y, touch::edge_bc(t), ab);
-    edge(s, low, x, y, touch::edge_ca(t), bc)
+    let ab = edge(s, low, x, y, cutters::edge_ab(t), c);
+    let bc = edge(s, low, x, y, cutters::edge_bc(t), ab);
+    edge(s, low, x, y, cutters::edge_ca(t), bc)
 }
 
 // The contact c with the candidate of an edge, unless that cannot exceed c.
@@ -187,7 +187,7 @@ fn edge(s: Section, low: f64, x: f64, y: f64, e: Edge, c: Contact) -> Contact
     if low::skips(s, low, e, limit) {
         return c;
     }
-    let part = touch::reached(e, x, y, s.r1);
+    let part = cutters::reached(e, x, y, s.r1);
     above::offer(c, stretch_of(s, low, x, y, e, part, limit))
 }
 
@@ -366,7 +366,7 @@ fn facet(s: Section, x: f64, y: f64, t: Triangle, f: Facing) -> Contact
 {
     match f {
         Facing::Upright => Contact::Nothing,
-        Facing::Leaning(g) => touch::facet_height(t, rest(s, x, y, g)),
+        Facing::Leaning(g) => cutters::facet_height(t, rest(s, x, y, g)),
     }
 }
 
@@ -394,5 +394,5 @@ fn reach_of(s: Section, steep: f64) -> f64
 fn sloped(s: Section, x: f64, y: f64, g: Gradient, reach: f64) -> Rest
     ensures { λ r. ⌜ r ≡ sectionSloped s x y g reach ⌝ }
 {
-    touch::rest_at(g, x, y, reach, height_over(profile(s, reach)))
+    cutters::rest_at(g, x, y, reach, height_over(profile(s, reach)))
 }

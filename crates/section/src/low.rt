@@ -3,7 +3,7 @@
 ghost use mathlib.Core.Path.{_≡_};
 ghost use Rattle.section.specs.Inside.{KeptIf, Firm, lowEdge, overOf, capOf};
 use crate::Section;
-use touch::Edge;
+use cutters::Edge;
 
 // A number that the section's surface is nowhere below: z0, and a NaN, by which nothing is left out, for a section that is not valid.
 pub fn low_of(s: Section) -> f64

@@ -8,9 +8,9 @@ use Rattle.plane.specs.declared.Triangle.{Triangle}
 use Rattle.plane.specs.declared.Bounds.{Bounds}
 use Rattle.plane.specs.Mesh.{boundsOf}
 use Rattle.golden.specs.Upper.{concaveMaxUpper}
-use Rattle.touch.specs.declared.Stretch.{Stretch}
-use Rattle.touch.specs.declared.Stretch.the-variants.{Nowhere, Between}
-use Rattle.touch.specs.Touch.{along}
+use Rattle.cutters.specs.declared.Stretch.{Stretch}
+use Rattle.cutters.specs.declared.Stretch.the-variants.{Nowhere, Between}
+use Rattle.cutters.specs.Touch.{along}
 use Rattle.section.specs.declared.Section.{Section}
 use Rattle.section.specs.Section.{sectionContact}
 use Rattle.reach.specs.declared.Chord.{Chord}

@@ -3,13 +3,13 @@ ghost use mathlib.Core.Path.{_≡_};
 ghost use Rattle.golden.specs.Search.{rises, goldenStart, goldenStep};
 ghost use Rattle.golden.specs.Upper.{bracketStart, bracketStep, bracketRun, concaveMaxUpper};
 ghost use Rattle.section_gap.specs.Blocks.{sectionGap, sectionSearched, sideGap, boxFar, sectionBlocks};
+use cutters::Stretch;
 use golden::Bracket;
 use golden::Golden;
 use plane::Bounds;
 use plane::Triangle;
 use reach::Chord;
 use section::Section;
-use touch::Stretch;
 
 // Whether a triangle, with its box b, blocks the section k on the chord.
 pub fn section_blocks(t: Triangle, b: Bounds, m: Chord, k: Section) -> bool

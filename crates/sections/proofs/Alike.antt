@@ -24,7 +24,7 @@ use Rattle.section.specs.declared.Section.{Section}
 use Rattle.section.specs.Section.{validSection}
 use Rattle.ask.specs.Ask.{refusalOf, answerOf, askedHeight, rulingOf, askedChord}
 use Rattle.tool.specs.Tool.{sectionOf, isTool}
-use Rattle.contact.specs.Contact.{maxSectionsOf}
+use Rattle.tips.specs.Contact.{maxSectionsOf}
 use Rattle.chords.specs.Chords.{sectionsChordOf}
 use Rattle.flatten.specs.Flat.{flatOf, copiedOf}
 

@@ -5,7 +5,7 @@ ghost use Prim.Native.Nat.{_≤_};
 ghost use lib.ListN.{length};
 ghost use Rattle.grid.specs.Index.{indexOf};
 ghost use Rattle.ask.specs.Ask.{ended};
-ghost use Rattle.contact.specs.Contact.{maxSectionsOf, SectionsPromise};
+ghost use Rattle.tips.specs.Contact.{maxSectionsOf, SectionsPromise};
 ghost use Rattle.chords.specs.Chords.{sectionsChordOf, SectionsChordPromise};
 ghost use Rattle.flatten.specs.Flat.{flatOf, heldIn};
 use ask::Answer;
@@ -80,7 +80,7 @@ fn max_over(
 {
     let numbers = t.numbers;
     let n = t.count;
-    contact::max_sections(
+    tips::max_sections(
         mesh,
         h,
         starts,

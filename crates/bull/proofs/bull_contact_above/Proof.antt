@@ -1,7 +1,7 @@
 use mathlib.Core.Path.{_≡_, ap, _∙_}
 use Rattle.above.specs.Above.{offerOf}
 use Rattle.above.proofs.Above.{alone}
-use Rattle.touch.specs.Touch.{facingOf}
+use Rattle.cutters.specs.Touch.{facingOf}
 use Rattle.bull.specs.Bull.{bullEdges, bullFacet, bullContactAbove}
 use Rattle.bull.proofs.bull_contact_above.Statement.{statement}
 use Rattle.bull.proofs.bull_contact_above.Tie as tie

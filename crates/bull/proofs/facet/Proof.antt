@@ -1,6 +1,6 @@
 use borrow.Author.Needs.{needs}
 use mathlib.Core.Path.{_≡_, refl, ap, sym, _∙_}
-use Rattle.touch.specs.Touch.{facetHeight}
+use Rattle.cutters.specs.Touch.{facetHeight}
 use Rattle.bull.specs.Bull.{bullFacet}
 use Rattle.bull.proofs.facet.Statement.{statement}
 use Rattle.bull.proofs.facet.Tie as tie

@@ -1,6 +1,6 @@
 use borrow.Author.Needs.{needs}
 use Rattle.grid.specs.Index.{indexOf}
-use Rattle.contact.specs.Contact.{maxBullOf, BullPromise}
+use Rattle.tips.specs.Contact.{maxBullOf, BullPromise}
 use Rattle.handed.specs.Handed.{headerFrom}
 use Rattle.desk.proofs.Asked.{height-told}
 use Rattle.desk.proofs.mandrikelo_max_bull.Statement.{statement}

@@ -2,7 +2,7 @@ use borrow.Author.Needs.{needs}
 use mathlib.Core.Path.{_≡_, refl, ap, subst, _∙_}
 use Rattle.grid.specs.declared.Header.{Header}
 use Rattle.grid.specs.Index.{indexOf}
-use Rattle.terms.specs.declared.Parameters.{Parameters}
+use Rattle.parameters.specs.declared.Parameters.{Parameters}
 use Rattle.plan.specs.Plan.{outcome}
 use Rattle.plan.specs.Lost.{NothingLost}
 use Rattle.handed.specs.Handed.{headerFrom}

@@ -1,7 +1,7 @@
 use mathlib.Core.Path.{sym, _∙_}
 use borrow.Author.Tests.{le-ltb}
 use Rattle.rules.proofs.Branches.{flags, and-on, and-off}
-use Rattle.terms.proofs.Testing.{or-on, or-off}
+use Rattle.parameters.proofs.Testing.{or-on, or-off}
 use Rattle.moves.specs.Next.{isWithin}
 use Rattle.moves.proofs.is_within.Statement.{statement}
 use Rattle.moves.proofs.is_within.Tie as tie

@@ -1,5 +1,5 @@
 use Rattle.section.specs.Section.{sectionAt}
-use Rattle.touch.specs.Touch.{distanceAt}
+use Rattle.cutters.specs.Touch.{distanceAt}
 use Rattle.section.proofs.Flats.{flat-at}
 use Rattle.section.proofs.at.Statement.{statement}
 use Rattle.section.proofs.at.Tie as tie

@@ -1,7 +1,7 @@
 use mathlib.Core.Path.{_≡_, ap, sym, _∙_}
 use Rattle.rules.proofs.Branches.{bool-called}
 use Rattle.above.specs.Above.{offerOf}
-use Rattle.touch.specs.declared.Stretch.{Stretch}
+use Rattle.cutters.specs.declared.Stretch.{Stretch}
 use Rattle.section.specs.Section.{sectionStretch, sectionEdge}
 use Rattle.section.specs.Inside.{lowEdge}
 use Rattle.section.proofs.Capping.{edge-stays}

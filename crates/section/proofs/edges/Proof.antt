@@ -2,7 +2,7 @@ use mathlib.Core.Path.{_≡_, ap, _∙_}
 use Rattle.plane.specs.declared.Contact.{Contact}
 use Rattle.above.specs.Above.{offerOf}
 use Rattle.above.proofs.Above.{three}
-use Rattle.touch.specs.declared.Edge.{Edge}
+use Rattle.cutters.specs.declared.Edge.{Edge}
 use Rattle.section.specs.Section.{sectionEdge, sectionEdges}
 use Rattle.section.proofs.edges.Statement.{statement}
 use Rattle.section.proofs.edges.Tie as tie

@@ -46,8 +46,8 @@ use Rattle.ask.specs.Ask.{ended}
 use Rattle.ask.specs.declared.Answer.{Answer}
 use Rattle.ask.proofs.Answer as R
 use Rattle.ask.proofs.Answer.Laws as R′
-use Rattle.contact.specs.Contact.{maxSectionsOf}
-use Rattle.contact.proofs.Asking.{tool-promise}
+use Rattle.tips.specs.Contact.{maxSectionsOf}
+use Rattle.tips.proofs.Asking.{tool-promise}
 use Rattle.flatten.specs.declared.Table.{Table}
 use Rattle.flatten.specs.Flat.{flatOf, copiedOf, heldIn}
 use Rattle.flatten.proofs.Table as B

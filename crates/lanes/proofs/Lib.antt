@@ -1,4 +1,0 @@
-pub mod Finding
-pub mod Directing
-pub mod Sweeping
-pub mod Starting

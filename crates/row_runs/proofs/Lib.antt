@@ -1,0 +1,3 @@
+pub mod Walking
+pub mod Sampling
+pub mod Reaching
