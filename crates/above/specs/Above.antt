@@ -1,5 +1,5 @@
--- Document 01, "Questions": a triangle's contact is taken on top of the best so far. A best so far is itself a contact, so that a triangle's candidates can go on from
--- it: that gives the same as the triangle's own contact beside it (proofs/Above).
+-- Document 01, "Questions": a triangle's contact is taken on top of the best so far. A best so far is itself a contact, so that a triangle's candidates can go
+-- on from it: that gives the same as the triangle's own contact beside it (proofs/Above).
 use Rattle.plane.specs.declared.Contact.{Contact}
 use Rattle.plane.specs.declared.Contact.the-variants.{Nothing, Height}
 use Rattle.plane.specs.Contacts.{takeOf}

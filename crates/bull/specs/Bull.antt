@@ -1,5 +1,5 @@
--- Document 01, rows `bull_profile`, `bull_contact` and `bull_contact_above`: a bull-nose cutter and its contact with one triangle. The height of the cutter's tip
--- is concave along an edge and over the facet, so it is largest at a vertex, at one place of an edge, or where the corner's slope is the facet's.
+-- Document 01, rows `bull_profile`, `bull_contact` and `bull_contact_above`: a bull-nose cutter and its contact with one triangle. The height of the cutter's
+-- tip is concave along an edge and over the facet, so it is largest at a vertex, at one place of an edge, or where the corner's slope is the facet's.
 use mathlib.Core.Bool.{Bool, cond}
 use Prim.Native.Nat.{ℕ}
 use lib.Ieee.{Float, lt, le}

@@ -12,8 +12,8 @@ use Rattle.roots.specs.Hypot.{hypotOf}
 use Rattle.bull.specs.declared.Way.{Way}
 use mathlib.Core.Path.{_≡_}
 
--- A number that the cutter's height over its tip is nowhere below. It is 0 to the bit; that the root of rc * rc is not above rc is not shown, but asked. A NaN for numbers
--- that are no radius.
+-- A number that the cutter's height over its tip is nowhere below. It is 0 to the bit; that the root of rc * rc is not above rc is not shown, but asked. A NaN
+-- for numbers that are no radius.
 unfoldable pub baseOf : Bull → Float
 baseOf k = cond (isRadius (k .r) && isRadius (k .rc)) (minOf (k .rc ⊖ rootOf (k .rc ⊗ k .rc)) f0) (f0 ⊘ f0)
 
@@ -21,8 +21,9 @@ baseOf k = cond (isRadius (k .r) && isRadius (k .rc)) (minOf (k .rc ⊖ rootOf (
 unfoldable pub lowVertex : Float → Float → Float → Float → Float → Bool
 lowVertex base z dx dy b = le (z ⊖ base) b && (isCoordinate dx && isCoordinate dy)
 
--- What the tip's height over an edge from lo to hi is at most. The cutter's height over its tip grows with the distance from the axis, so it is the edge's higher end less the
--- profile at the edge's least distance, which is taken from its box in plan. Within the flat part it is the higher end less the least profile of all.
+-- What the tip's height over an edge from lo to hi is at most. The cutter's height over its tip grows with the distance from the axis, so it is the edge's
+-- higher end less the profile at the edge's least distance, which is taken from its box in plan.
+-- Within the flat part it is the higher end less the least profile of all.
 unfoldable pub overOf : Bull → Float → Float → Float → Float
 overOf k base z d = cond (le (d ⊖ (k .r ⊖ k .rc)) f0) (z ⊖ base) (z ⊖ bullProfile d (k .r) (k .rc))
 

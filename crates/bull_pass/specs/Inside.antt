@@ -1,5 +1,5 @@
--- When a bull-nose cutter surely passes over a triangle on a part of a chord. No answer is defined here: where this says so, no contact there, lifted, stands above the
--- tip, which proofs/Passing shows; where it does not, the search decides.
+-- When a bull-nose cutter surely passes over a triangle on a part of a chord. No answer is defined here: where this says so, no contact there, lifted, stands
+-- above the tip, which proofs/Passing shows; where it does not, the search decides.
 use mathlib.Core.Bool.{Bool, true, false, cond, _&&_, _||_}
 use Prim.Native.Nat.{ℕ, zero, suc}
 use lib.Ieee.{Float, lt, le}
@@ -129,7 +129,8 @@ edgePasses k e = marchRun k e 20 (record { lo = f0; w = f1; done = false })
 unfoldable pub edgesPass : Strip → Triangle → Bool
 edgesPass k t = edgePasses k (edgeAb t) && (edgePasses k (edgeBc t) && edgePasses k (edgeCa t))
 
--- The facet: the places where the cutter may rest lie in a box, over which a weight is a range; none of them is on the triangle where a weight is below -1e-12 throughout.
+-- The facet: the places where the cutter may rest lie in a box, over which a weight is a range;
+-- none of them is on the triangle where a weight is below -1e-12 throughout.
 unfoldable pub rangeOf : Float → Float → Range
 rangeOf a b = record { low = minOf a b; high = maxOf a b }
 

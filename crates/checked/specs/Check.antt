@@ -10,7 +10,8 @@ use Rattle.grid.specs.Grid.{trianglesIn}
 use Rattle.grid.specs.Boxes.{isBoxed}
 use Rattle.grid.specs.Index.{Index, BuiltFrom}
 
--- How it is told that they are not. 1: mesh not a multiple of 9 or over 65,536 triangles. 23: box table not five numbers a triangle. 7: all else, an empty mesh too.
+-- How it is told that they are not. 1: mesh not a multiple of 9 or over 65,536 triangles.
+-- 23: box table not five numbers a triangle. 7: all else, an empty mesh too.
 unfoldable pub refusalOf : Index → ℕ
 refusalOf ix =
     demand (eqb (length (ix .mesh) % 9) 0) 1

@@ -9,7 +9,8 @@ ghost use Rattle.um.specs.Build.{buildOf};
 ghost use Rattle.um.specs.Index.{BuildPromise};
 ghost use Rattle.setup.specs.Answer.{setupHeightOf};
 ghost use Rattle.setup.specs.Demand.{SetupPromise};
-ghost use Rattle.desk_um.specs.Doors.{jobLeft, jobLeftBy, builtLeft, builtLeftBy, headerFrom, indexFrom, questionFrom, heightLeft, heightLeftBy, answerFrom};
+ghost use Rattle.desk_um.specs.Doors.{jobLeft, jobLeftBy, builtLeft, builtLeftBy, headerFrom, indexFrom};
+ghost use Rattle.desk_um.specs.Doors.{questionFrom, heightLeft, heightLeftBy, answerFrom};
 use setup::Question;
 use um::Header;
 

@@ -9,7 +9,8 @@ ghost use Rattle.cells.specs.Inside.{Room, CountedAll, Ready, Filled, Fits};
 ghost use Rattle.grid.specs.Grid.{trianglesIn, gridOf, cellsIn, cellsOf, coverOf, totalOf};
 ghost use Rattle.grid.specs.Header.{headerOf};
 ghost use Rattle.grid.specs.Boxes.{boxAt, isBoxed, boxesOf};
-ghost use Rattle.grid.specs.Build.{toldWith, refusalOfNumbers, refusalOfMesh, refusalOfGrid, refusalOfMembers, outcome, refusedBy, filledOf, gridded, buildOf};
+ghost use Rattle.grid.specs.Build.{toldWith, refusalOfNumbers, refusalOfMesh, refusalOfGrid};
+ghost use Rattle.grid.specs.Build.{refusalOfMembers, outcome, refusedBy, filledOf, gridded, buildOf};
 ghost use Rattle.grid.specs.Index.{indexOf, BuildPromise};
 ghost use Rattle.grid.specs.Inside.{NearBox, Gridded};
 

@@ -28,7 +28,8 @@ abbrev pub capsuleRun : Index → List ℕ → ℕ → Capsule → List ℕ → 
 capsuleRun ix marks stamp q ms =
     walked (nextStamp stamp) (diskStep (ix .mesh) (ix .boxes) q) (begun marks stamp (atFloor (ix .header .floor))) ms
 
--- What a walk leaves that may be left once its best is above the limit: it went over a first part of its list, which is all of it, or the best is above the limit.
+-- What a walk leaves that may be left once its best is above the limit:
+-- it went over a first part of its list, which is all of it, or the best is above the limit.
 pub record Halted (run : List ℕ → Walk Best) (all : List ℕ) (limit : Float) (w : Walk Best) : Type 0 where
   pub front : List ℕ
   pub rest : List ℕ

@@ -1,5 +1,5 @@
--- Document 01, "The job file", and document 02, request 11: what the head and the length of a job decide. It is the same in every version: v is the version, and
--- w the bytes of a number.
+-- Document 01, "The job file", and document 02, request 11: what the head and the length of a job decide. It is the same in every version: v is the version,
+-- and w the bytes of a number.
 use mathlib.Core.Bool.{not, cond}
 use mathlib.Core.List.{List}
 use mathlib.Core.Path.{_≡_}

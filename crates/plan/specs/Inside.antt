@@ -29,7 +29,8 @@ pub record Ready (ix : Index) (marks : List ℕ) : Type 0 where
   pub size : length marks ≡ ix .header .n
 
 -- The levels ls stand in their table, the marks are wiped, and it is known how many levels there are and whether they are refused.
-pub record Surveys (ls : List Level) (p : Parameters) (axis : Axis) (r : Float) (levels₀ : List Float) (marks₀ : List ℕ) (levels : List Float) (marks : List ℕ) (s : Surveyed) : Type 0 where
+pub record Surveys (ls : List Level) (p : Parameters) (axis : Axis) (r : Float) (levels₀ : List Float)
+    (marks₀ : List ℕ) (levels : List Float) (marks : List ℕ) (s : Surveyed) : Type 0 where
   pub table : levels ≡ written (map levelFive ls) levels₀
   pub clean : marks ≡ wiped marks₀
   pub count : s .count ≡ length ls
@@ -59,4 +60,5 @@ unfoldable pub finishedOf : List Float → List Float → ℕ → Found → Sett
 finishedOf levels runs count f =
     let rs = joinedOf (keptOf (f .pieces)) in
     cond (ltb (roomOf runs) (length rs)) (givenUp 13 levels runs)
-    (settled (record { refusal = 0; levels = count; rows = f .rows; runs = length rs; cut = cutOf rs; dropped = droppedBy f0 (f .pieces) }) levels (written (map runFive rs) runs))
+    (settled (record { refusal = 0; levels = count; rows = f .rows; runs = length rs; cut = cutOf rs; dropped = droppedBy f0 (f .pieces) })
+    levels (written (map runFive rs) runs))

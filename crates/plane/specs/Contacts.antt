@@ -7,7 +7,7 @@ use Rattle.plane.specs.declared.Touch.{Touch}
 use Rattle.plane.specs.declared.Contact.{Contact}
 use Rattle.plane.specs.declared.Contact.the-variants.{Nothing, Height}
 
--- The three kinds of a touch. Corners and edges are counted from 0, in the triangle's order; edge k runs from corner k to corner k + 1, the last back to corner 0.
+-- The three kinds of a touch. Corners and edges are counted from 0, in the triangle's order; edge k runs from corner k to k + 1, the last back to corner 0.
 --
 --     candidate                                              swept disk                        bull-nose and section
 --     1 corner k   corner k itself                           corner k in the capsule           vertex k under the cutter

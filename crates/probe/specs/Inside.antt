@@ -18,7 +18,8 @@ pub record Askable (ix : Index) : Type 0 where
   pub nine : length (ix .mesh) ≡ ix .header .n * 9
   pub five : length (ix .boxes) ≡ ix .header .n * 5
   pub few : ix .header .n ≤ 65536
-  pub walkable : (x0 x1 y0 y1 : ℕ) → x1 ≤ ix .header .columns → y1 ≤ ix .header .rows → Walkable (ix .starts) (ix .members) (ix .header .n) (ix .header .columns) x0 x1 y0 y1
+  pub walkable : (x0 x1 y0 y1 : ℕ) → x1 ≤ ix .header .columns → y1 ≤ ix .header .rows
+      → Walkable (ix .starts) (ix .members) (ix .header .n) (ix .header .columns) x0 x1 y0 y1
 
 -- The search's own marks: none is above its stamp.
 pub record Marked (n stamp : ℕ) (marks : List ℕ) : Type 0 where

@@ -1,5 +1,5 @@
--- What the test of a question's members promises inside: a sum of squares that is small settles a triangle's fourteen numbers at once, and a member that passed is not
--- tested again while it is remembered.
+-- What the test of a question's members promises inside: a sum of squares that is small settles a triangle's fourteen numbers at once, and a member that passed
+-- is not tested again while it is remembered.
 use mathlib.Core.Bool.{Bool, true}
 use mathlib.Core.List.{List}
 use mathlib.Core.Path.{_≡_}

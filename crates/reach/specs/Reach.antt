@@ -1,5 +1,5 @@
--- Document 01, rows `bull_chord_clear` and `sections_chord_clear`: where along a chord a triangle is within a cutter's reach. The distance in plan from a triangle is
--- convex along a chord, so that is one stretch around the closest approach.
+-- Document 01, rows `bull_chord_clear` and `sections_chord_clear`: where along a chord a triangle is within a cutter's reach. The distance in plan from a
+-- triangle is convex along a chord, so that is one stretch around the closest approach.
 use mathlib.Core.Bool.{cond}
 use Prim.Native.Nat.{ℕ, zero, suc}
 use lib.Ieee.{Float, lt, le}

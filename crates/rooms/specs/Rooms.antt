@@ -14,7 +14,8 @@ use Rattle.grid.specs.Boxes.{isBoxed}
 use Rattle.grid.specs.Build.{refusalOfNumbers, refusalOfGrid, refusalOfMembers, buildOf}
 use Rattle.rooms.specs.declared.Rooms.{Rooms}
 
--- 1: mesh not a multiple of 9 or over 65,536 triangles. 3: mesh empty. Then 2 and 4, as the builder has them; 23 is not asked, since no box table is handed over.
+-- 1: mesh not a multiple of 9 or over 65,536 triangles. 3: mesh empty.
+-- Then 2 and 4, as the builder has them; 23 is not asked, since no box table is handed over.
 unfoldable pub refusalOf : List Float → Float → Float → ℕ
 refusalOf mesh floor r =
     demand (eqb (length mesh % 9) 0) 1

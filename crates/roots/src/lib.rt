@@ -1,6 +1,6 @@
-// Document 01, "Numbers": the root, and hypot of document 02, request 6, both correctly rounded, each equal to its definition in specs/ on every f64. `laws` holds
-// theorems on them. The root of a number above zero, m * 2^e: which significand is nearest is decided in whole numbers. A float gives a candidate, whole numbers
-// check it, and where it fails the root is found digit by digit.
+// Document 01, "Numbers": the root, and hypot of document 02, request 6, both correctly rounded, each equal to its definition in specs/ on every f64. `laws`
+// holds theorems on them. The root of a number above zero, m * 2^e: which significand is nearest is decided in whole numbers. A float gives a candidate, whole
+// numbers check it, and where it fails the root is found digit by digit.
 ghost use mathlib.Core.Path.{_≡_};
 ghost use mathlib.Core.Bool.{true, false, cond, _||_};
 ghost use Prim.Native.Nat.{_+_, _*_, _/_, _%_, _^_, _≤_, _<_};

@@ -28,14 +28,17 @@ abbrev pub numbered : Bool → ℕ → Ends → Ends
 numbered forward samples e = ends (numberOf forward samples (e .from)) (numberOf forward samples (e .to))
 
 -- The stretch in front of sample j has ended: it is taken, if it is one.
-pub record Ended (under : Run → Float) (a : Aim) (l : Lane) (forward : Bool) (j : ℕ) (w : Walked) (t : List Float) (w′ : Walked) (t′ : List Float) : Type 0 where
+pub record Ended (under : Run → Float) (a : Aim) (l : Lane) (forward : Bool) (j : ℕ) (w : Walked) (t : List Float)
+    (w′ : Walked) (t′ : List Float) : Type 0 where
   pub number : w′ .k ≡ 0
   pub some : w′ .some ≡ (w .some || not (empty (endedAt (w .k) j)))
   pub taken : work t′ (w′ .stand .tally) ≡ takenAll (work t (w .stand .tally)) (piecesAlong under a l (map (numbered forward (l .samples)) (endedAt (w .k) j)))
 
 -- One sample more: on the level the stretch is one longer, off it it has ended.
-pub record Advanced (under : Run → Float) (a : Aim) (l : Lane) (forward : Bool) (j : ℕ) (w : Walked) (t : List Float) (w′ : Walked) (t′ : List Float) : Type 0 where
-  pub on : onLevel under a l (numberOf forward (l .samples) j) ≡ true → (w′ .k ≡ w .k + 1) × (w′ .some ≡ w .some) × (work t′ (w′ .stand .tally) ≡ work t (w .stand .tally))
+pub record Advanced (under : Run → Float) (a : Aim) (l : Lane) (forward : Bool) (j : ℕ) (w : Walked) (t : List Float)
+    (w′ : Walked) (t′ : List Float) : Type 0 where
+  pub on : onLevel under a l (numberOf forward (l .samples) j) ≡ true
+      → (w′ .k ≡ w .k + 1) × (w′ .some ≡ w .some) × (work t′ (w′ .stand .tally) ≡ work t (w .stand .tally))
   pub off : onLevel under a l (numberOf forward (l .samples) j) ≡ false → Ended under a l forward j w t w′ t′
 
 -- A row walked: the pieces of its stretches are taken, and it is known whether there was one.

@@ -165,9 +165,10 @@ pub fn walk_row(
     s: Stand,
 ) -> Walked
     requires { ⌜ Askable (indexOf (now mesh) h (now starts) (now members) (now boxes)) × Marked (h .n) (s .stamp) (now marks) × (l .samples ≤ 65535) ⌝ }
-    ensures { λ e. ⌜ Trodden (heightUnder (indexOf (now (mesh .entry)) h (now (starts .entry)) (now (members .entry)) (now (boxes .entry)))) a l (map (numbered forward (l .samples))
-        (stretchesOf (λ j. onLevel (heightUnder (indexOf (now (mesh .entry)) h (now (starts .entry)) (now (members .entry)) (now (boxes .entry)))) a l
-        (numberOf forward (l .samples) j)) (l .samples))) (now (runs .entry)) s (now (runs .exit)) e × Marked (h .n) (e .stand .stamp) (now (marks .exit)) ⌝ }
+    ensures { λ e. ⌜ Trodden (heightUnder (indexOf (now (mesh .entry)) h (now (starts .entry)) (now (members .entry)) (now (boxes .entry)))) a l
+        (map (numbered forward (l .samples)) (stretchesOf (λ j. onLevel (heightUnder
+        (indexOf (now (mesh .entry)) h (now (starts .entry)) (now (members .entry)) (now (boxes .entry)))) a l (numberOf forward (l .samples) j))
+        (l .samples))) (now (runs .entry)) s (now (runs .exit)) e × Marked (h .n) (e .stand .stamp) (now (marks .exit)) ⌝ }
 {
     let samples = l.samples;
     let mut w = Walked {

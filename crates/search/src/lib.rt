@@ -95,11 +95,11 @@ fn search_level(
     level: Level,
     s: Swept,
 ) -> Swept
-    requires { ⌜ Askable (indexOf (now mesh) h (now starts) (now members) (now boxes)) × Marked (h .n) (s .stand .stamp) (now marks) × Coarse p axis (h .r) level
-        × (s .rows ≤ 4294967296) ⌝ }
+    requires { ⌜ Askable (indexOf (now mesh) h (now starts) (now members) (now boxes)) × Marked (h .n) (s .stand .stamp) (now marks)
+        × Coarse p axis (h .r) level × (s .rows ≤ 4294967296) ⌝ }
     ensures { λ e. ⌜ Takes (now (runs .entry)) s
-        (levelFound (heightUnder (indexOf (now (mesh .entry)) h (now (starts .entry)) (now (members .entry)) (now (boxes .entry)))) p axis (h .r) (from s) level)
-        (now (runs .exit)) e × Marked (h .n) (e .stand .stamp) (now (marks .exit)) ⌝ }
+        (levelFound (heightUnder (indexOf (now (mesh .entry)) h (now (starts .entry)) (now (members .entry)) (now (boxes .entry)))) p axis (h .r)
+        (from s) level) (now (runs .exit)) e × Marked (h .n) (e .stand .stamp) (now (marks .exit)) ⌝ }
 {
     let a = row_runs::aim_of(p, h.r, level);
     let l = row_runs::lane_of(p, axis, h.r, level, 0);
@@ -142,11 +142,11 @@ fn search_rows(
     level: Level,
     s: Swept,
 ) -> Swept
-    requires { ⌜ Askable (indexOf (now mesh) h (now starts) (now members) (now boxes)) × Marked (h .n) (s .stand .stamp) (now marks) × Coarse p axis (h .r) level
-        × (s .rows ≤ 4294967296) ⌝ }
+    requires { ⌜ Askable (indexOf (now mesh) h (now starts) (now members) (now boxes)) × Marked (h .n) (s .stand .stamp) (now marks)
+        × Coarse p axis (h .r) level × (s .rows ≤ 4294967296) ⌝ }
     ensures { λ e. ⌜ Takes (now (runs .entry)) s
-        (levelFound (heightUnder (indexOf (now (mesh .entry)) h (now (starts .entry)) (now (members .entry)) (now (boxes .entry)))) p axis (h .r) (from s) level)
-        (now (runs .exit)) e × Marked (h .n) (e .stand .stamp) (now (marks .exit)) ⌝ }
+        (levelFound (heightUnder (indexOf (now (mesh .entry)) h (now (starts .entry)) (now (members .entry)) (now (boxes .entry)))) p axis (h .r)
+        (from s) level) (now (runs .exit)) e × Marked (h .n) (e .stand .stamp) (now (marks .exit)) ⌝ }
 {
     let r = h.r;
     let a = row_runs::aim_of(p, r, level);

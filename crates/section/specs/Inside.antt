@@ -32,14 +32,14 @@ KeptIf good z r = (isNan r ≡ true) ⊎ ((good ≡ true) × (r ≡ z) × T (fit
 abbrev pub Firm : Section → Float → Type 0
 Firm s low = KeptIf (validSection s) (s .z0) low
 
--- Whether the bound over any stretch of an edge is at most b. No place of the edge gives a tip above its higher end less z0, and the search's bound adds at most the
--- slope's share over the whole edge, whose length is at most `rootMost`.
+-- Whether the bound over any stretch of an edge is at most b. No place of the edge gives a tip above its higher end less z0, and the search's bound adds at
+-- most the slope's share over the whole edge, whose length is at most `rootMost`.
 unfoldable pub lowEdge : Section → Float → Edge → Float → Bool
 lowEdge s low e b =
     cond (tameRise e) (le (highOn e f0 f1 ⊖ low ⊕ (absOf (e .bz ⊖ e .az) ⊕ s .rise ⊗ rootMost (length2 e)) ⊗ phi60) b) false
 
--- What the tip's height over an edge from lo to hi is at most. The surface grows with the distance from the axis, so it is the edge's higher end less the surface at the edge's
--- least distance, which is taken from its box in plan. A NaN, by which nothing is left out, where the numbers are not of ordinary size.
+-- What the tip's height over an edge from lo to hi is at most. The surface grows with the distance from the axis, so it is the edge's higher end less the
+-- surface at the edge's least distance, which is taken from its box in plan. A NaN, by which nothing is left out, where the numbers are not of ordinary size.
 unfoldable pub overOf : Section → Float → Float → Float
 overOf s z d = z ⊖ heightOver (profileOf s d)
 

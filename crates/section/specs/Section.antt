@@ -1,5 +1,5 @@
--- Document 01, rows `Section` and `section_contact`, and "Questions": a section of a tool, seen from below, and its contact with one triangle. Its lower surface
--- is level to r0, at z0 over the tip, and rises in a straight line to r1.
+-- Document 01, rows `Section` and `section_contact`, and "Questions": a section of a tool, seen from below, and its contact with one triangle. Its lower
+-- surface is level to r0, at z0 over the tip, and rises in a straight line to r1.
 use mathlib.Core.Bool.{Bool, cond, _&&_}
 use Prim.Native.Nat.{ℕ}
 use lib.Ieee.{Float, lt, le}
@@ -72,8 +72,8 @@ sectionAt s x y e t = along (e .az) (e .bz) t ⊖ heightOver (profileOf s (minOf
 unfoldable pub lipschitzOf : Section → Edge → Float
 lipschitzOf s e = absOf (e .bz ⊖ e .az) ⊕ s .rise ⊗ rootOf (length2 e)
 
--- An upper bound over the edge's stretch under the section, from a search of 60 steps. It touches the edge, also where the search ends at an end and the bound lies a
--- hair above its corner.
+-- An upper bound over the edge's stretch under the section, from a search of 60 steps. It touches the edge, also where the search ends at an end and the bound
+-- lies a hair above its corner.
 unfoldable pub sectionStretch : Section → Float → Float → Edge → Stretch → Contact
 sectionStretch s x y e Nowhere = Nothing
 sectionStretch s x y e (Between t0 t1) = Height (goldenMaxBound (sectionAt s x y e) t0 t1 (lipschitzOf s e)) (edge (e .which))

@@ -1,5 +1,5 @@
--- Document 01, row `sections_chord_clear`, for one triangle and one section: whether the triangle blocks the section on a chord. The gap has one maximum, which is
--- bounded from the last bracket of its search with no slope known beforehand (upright walls included).
+-- Document 01, row `sections_chord_clear`, for one triangle and one section: whether the triangle blocks the section on a chord. The gap has one maximum, which
+-- is bounded from the last bracket of its search with no slope known beforehand (upright walls included).
 use mathlib.Core.Bool.{Bool, false, cond}
 use lib.Ieee.{Float, lt, le}
 use Rattle.numbers.specs.Reals.{_⊕_, _⊖_, f0, minOf, maxOf}

@@ -1,5 +1,5 @@
--- What the set-up height promises over the index built from its mesh: a good question is accepted; which triangles it looks at, in the words of demand 3; and that
--- height and boxes met are those of a plain walk over the whole mesh.
+-- What the set-up height promises over the index built from its mesh: a good question is accepted; which triangles it looks at, in the words of demand 3; and
+-- that height and boxes met are those of a plain walk over the whole mesh.
 use mathlib.Core.Bool.{true}
 use mathlib.Core.List.{List}
 use mathlib.Core.Path.{_≡_}

@@ -62,8 +62,8 @@ plainWalk mesh w floor (suc n) = stepOf mesh w (plainWalk mesh w floor n) n
 
 -- ---- the question's cells
 
--- On an axis of `count` cells from (a - r - origin) / cell to (b + r - origin) / cell, both rounded down and held to the grid; none if the end is below 0 or the start
--- at or past the count. A start below 0 is cell 0: below the origin the difference of counted numbers is 0.
+-- On an axis of `count` cells from (a - r - origin) / cell to (b + r - origin) / cell, both rounded down and held to the grid; none if the end is below 0 or
+-- the start at or past the count. A start below 0 is cell 0: below the origin the difference of counted numbers is 0.
 unfoldable pub spanOf : ℕ → ℕ → ℕ → ℕ → ℕ → ℕ → Span
 spanOf a b r origin cell count =
     cond (ltb (b + r) origin) nowhere

@@ -9,7 +9,9 @@ ghost use lib.ListN.{length, take};
 ghost use Rattle.fields.specs.Rows.{allFinite};
 ghost use Rattle.tool.specs.Tool.{isTool};
 ghost use Rattle.sheet.specs.Enclosing.{isCurved, Encloses};
-ghost use Rattle.sheet.specs.Sheet.{shapeNumber, shapeFrom, cylinderOf, radiusOf, enclosedOf, chamferOf, drillOf, endOf, belowOf, neckOf, bodyOf, holderOf, holderAt, holdersFrom, listed, sectionsOf, numbersOf, allValid, refusalOfList, refusalOfEnd, refusalOf, ended, placed, sheetOf};
+ghost use Rattle.sheet.specs.Sheet.{shapeNumber, shapeFrom, cylinderOf, radiusOf, enclosedOf, chamferOf, drillOf, endOf, belowOf};
+ghost use Rattle.sheet.specs.Sheet.{neckOf, bodyOf, holderOf, holderAt, holdersFrom, listed, sectionsOf, numbersOf, allValid};
+ghost use Rattle.sheet.specs.Sheet.{refusalOfList, refusalOfEnd, refusalOf, ended, placed, sheetOf};
 use section::Section;
 
 // The shapes of a cutter's end.

@@ -33,7 +33,8 @@ gridIn h = record { x = h .x; y = h .y; cell = h .cell; columns = h .columns; ro
 unfoldable pub isPower : ℕ → Bool
 isPower cell = somewhere (firstWhere (λ k. eqb (2 ^ k) cell) 0 32)
 
--- 7, the ranges: n 1 to 65,536; origin and floor as coordinates; r as the radius; columns, rows and cells at least 1 and within refusal 5; the cell a power of two.
+-- 7, the ranges: n 1 to 65,536; origin and floor as coordinates; r as the radius;
+-- columns, rows and cells at least 1 and within refusal 5; the cell a power of two.
 unfoldable pub inRanges : Header → Bool
 inRanges h =
     isFrom 1 65536 (h .n)

@@ -1,5 +1,5 @@
--- Document 01, "Mesh, grid and marks": the walk. A walk is a list of triangle numbers; answer, count and marks follow from that list, and a triangle is looked at
--- as often as it stands there.
+-- Document 01, "Mesh, grid and marks": the walk. A walk is a list of triangle numbers; answer, count and marks follow from that list, and a triangle is looked
+-- at as often as it stands there.
 use mathlib.Core.Bool.{Bool, true, false, cond}
 use mathlib.Core.List.{List, [], _∷_, _++_}
 use Prim.Native.Nat.{ℕ, zero, suc, _+_, _-_, _*_}

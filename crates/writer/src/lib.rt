@@ -10,7 +10,8 @@ ghost use lib.ListN.{length};
 ghost use lib.Seq.{sets};
 ghost use Rattle.job.specs.Layout.{mark, version, zeroByte, bytesOf, letters, wide};
 ghost use Rattle.fields.specs.Rows.{finite, allFinite};
-ghost use Rattle.writer.specs.Writer.{digits, laid, numbersIn, laidAll, headOf, jobOf, jobIn, refusalOfNumbers, refusalOfCounts, refusalOf, ended, writeOf};
+ghost use Rattle.writer.specs.Writer.{digits, laid, numbersIn, laidAll, headOf, jobOf, jobIn};
+ghost use Rattle.writer.specs.Writer.{refusalOfNumbers, refusalOfCounts, refusalOf, ended, writeOf};
 ghost use Rattle.writer.specs.Back.{ReadsBack, WritesAgain};
 
 // What writing a job answers: 0 and the number of its bytes, or the refusal and 0.
