@@ -76,7 +76,7 @@ pub fn refusal(
 pub fn is_corner(r: f64, rc: f64) -> bool
     ensures { λ b. ⌜ b ≡ isCorner r rc ⌝ }
 {
-    if 0.0 <= rc { rc <= r } else { false }
+    0.0 <= rc && rc <= r
 }
 
 // The number of a verdict.

@@ -172,18 +172,14 @@ fn upper_from(s: Bracket, best: f64) -> f64
 fn finite(x: f64) -> bool
     ensures { λ r. ⌜ r ≡ finiteOf x ⌝ }
 {
-    if MINUS_ONE / 0.0 < x {
-        x < 1.0 / 0.0
-    } else {
-        false
-    }
+    MINUS_ONE / 0.0 < x && x < 1.0 / 0.0
 }
 
 // Whether both are finite.
 fn both_finite(v1: f64, v2: f64) -> bool
     ensures { λ r. ⌜ r ≡ (finiteOf v1 && finiteOf v2) ⌝ }
 {
-    if finite(v1) { finite(v2) } else { false }
+    finite(v1) && finite(v2)
 }
 
 // Whether all three are minus infinity.
@@ -191,11 +187,7 @@ fn all_low(v1: f64, v2: f64, best: f64) -> bool
     ensures { λ r. ⌜ r ≡ allLow v1 v2 best ⌝ }
 {
     let low = MINUS_ONE / 0.0;
-    if v1 == low {
-        if v2 == low { best == low } else { false }
-    } else {
-        false
-    }
+    v1 == low && (v2 == low && best == low)
 }
 
 // The largest of the best value and the bounds of the three stretches.

@@ -227,11 +227,7 @@ pub fn bary(t: Triangle, x: f64, y: f64) -> Spot
 pub fn at_least(p: Weights, least: f64) -> bool
     ensures { λ r. ⌜ r ≡ atLeast p least ⌝ }
 {
-    if p.u >= least {
-        if p.v >= least { p.w >= least } else { false }
-    } else {
-        false
-    }
+    p.u >= least && (p.v >= least && p.w >= least)
 }
 
 // The distance of (x, y) from the nearest edge of a triangle.

@@ -1,19 +1,8 @@
-use Rattle.rules.proofs.Branches.{branches}
+use Rattle.rules.proofs.Branches.{and-on, and-off}
 use Rattle.plane.specs.Distance.{atLeast}
 use Rattle.plane.proofs.at_least.Statement.{statement}
 use Rattle.plane.proofs.at_least.Tie as tie
 
-returns : tie.Need-returns
-unfolding atLeast
-returns c = search branches
-
-returns-2 : tie.Need-returns-2
-unfolding atLeast
-returns-2 c = search branches
-
-returns-3 : tie.Need-returns-3
-unfolding atLeast
-returns-3 c = search branches
-
 pub at-least-spec : {M : Type 1} → statement M
-at-least-spec = tie.close (tie.spec returns returns-2 returns-3)
+unfolding atLeast
+at-least-spec = tie.close (tie.spec (λ c. search (and-on, and-off)) (λ c. search (and-on, and-off)) (λ c. search (and-on, and-off)))
