@@ -202,9 +202,6 @@ no-number (fin s m e) L = (refl, refl)
 abbrev Past : Float → Float → Type 0
 Past L u = (w : Float) → (le (u ⊕ w ⊗ w) L ≡ false) × (le (w ⊗ w ⊕ u) L ≡ false)
 
-nan-past : (L : Float) → Past L nan
-nan-past L w = no-number (w ⊗ w) L
-
 square-past : (L c : Float) → le (c ⊗ c) L ≡ false → Past L (c ⊗ c)
 square-past L c h w = go (square c) (square w)
   where

@@ -11,7 +11,7 @@ use lib.IntN.{pos, negsuc}
 use lib.Pow.{pow-pos, pow-mono, shl-lt}
 use lib.Ieee.{Float, nan, inf, fin, binary64, round, sum, add, sub, neg, le, fits, ofBits}
 use lib.Ieee.Exact.{HasValue, round-exact}
-use lib.Ieee.Fits.{round-fits, add-fits, sub-fits, neg-fits}
+use lib.Ieee.Fits.{add-fits, sub-fits, neg-fits}
 use lib.Ieee.Scale.{finite}
 use lib.Ieee.Positive.{den, den-pos}
 use Rattle.numbers.specs.Reals.{_⊕_, _⊖_, _⊗_}
@@ -142,9 +142,6 @@ module _ (a : Float) (u : Unit a) where
       (is-sub binary64 a (neg R) fa (neg-finite R (at-R .0))) one-is)
 
   -- so the two differences from 1 stay within it
-  fit-R : T (fits binary64 R)
-  fit-R = round-fits binary64 false q (2 ^ 53)
-
   self : T (le O (a ⊖ a))
   self =
       is-le binary64 _ _ _ _ _ _ _ _ (omega arith) (mul-pos (den-pos a) (den-pos a)) (omega (arith, zero-mul (den a * den a), mul-one (signed.upper a * den a + signed.lower a * den a)))
@@ -211,9 +208,6 @@ module _ (a b : Float) (u : Unit a) (v : Unit b) where
 
   abbrev w : Float
   w = b ⊖ a
-
-  fit-w : T (fits binary64 w)
-  fit-w = sub-fits binary64 b a
 
   w-low : T (le (neg a) w)
   w-low = le-trans (neg a) (O ⊖ a) w (minus-is a u) (sub-mono binary64 O b a tt B A (v .low))

@@ -1,30 +1,26 @@
 -- The cutter's height over its tip is nowhere below its base, so a vertex gives no tip above its height less the base.
-use mathlib.Core.Bool.{Bool, true, false, cond, _&&_}
-use mathlib.Core.Path.{_≡_, refl, ap, sym, _∙_, subst}
+use mathlib.Core.Bool.{true, false}
+use mathlib.Core.Path.{_≡_, refl, sym, _∙_, subst}
 use Prim.Native.Nat.{ℕ}
 use lib.Dec.{T}
-use lib.IntN.{pos}
-use lib.Ieee.{Float, nan, inf, fin, binary64, sub, neg, add, div, lt, le, eq, fits, isNan, ofBits}
+use lib.Ieee.{Float, binary64, div, le, isNan, ofBits}
 use lib.Ieee.Fits.{mul-fits}
 use lib.Ieee.Scale.{finite}
-use lib.Ieee.Bits.{is-true}
 use Rattle.numbers.specs.Reals.{_⊖_, _⊗_, _⊘_, f0, minOf}
 use Rattle.roots.specs.Root.{rootOf}
 use Rattle.roots.specs.Hypot.{hypotOf}
-use Rattle.rules.proofs.Branches.{taken, left, either, by-test, both-true, no, holds}
+use Rattle.rules.proofs.Branches.{either, by-test, both-true, no, holds}
 use Rattle.plane.specs.declared.Contact.{Contact}
 use Rattle.plane.specs.declared.Contact.the-variants.{Nothing, Height}
-use Rattle.plane.specs.Contacts.{corner, takeOf}
+use Rattle.plane.specs.Contacts.{corner}
 use Rattle.above.specs.Above.{offerOf}
 use Rattle.above.specs.Inside.{limitOf}
 use Rattle.above.proofs.Above.{stays-under}
 use Rattle.plane.specs.Ranges.{isCoordinate, isRadius}
-use Rattle.order.proofs.Ranges.{finite-between}
 use Rattle.order.proofs.Extremes.{min-either, min-first, min-second}
 use Rattle.order.proofs.Order.{O, le-trans}
 use Rattle.order.proofs.Roots.{root-finite, root-le}
 use Rattle.bound.proofs.Small.{M, Small, small, small-finite, small-up, small-radius, small-sub, square-small, square-limit, square-finite, square-nonneg, root-limit, small-distance}
-use Rattle.caps.proofs.Places.{not-less}
 use Rattle.caps.proofs.Drops.{drop-nan, drop-more}
 use Rattle.bull.specs.declared.Bull.{Bull}
 use Rattle.bull.specs.Bull.{bullProfile, bullOver, bullVertex}
@@ -45,12 +41,6 @@ unfolding baseOf
 base-there k p b e h q m = rw (e, h, ← q) m
 
 -- ---- a base that is a number
-never : (x : Float) → le x (f0 ⊘ f0) ≡ true → ⊥
-unfolding ofBits div le lt eq
-never nan h = no h
-never (inf s) h = no h
-never (fin s m e) h = no h
-
 none-is : isNan (f0 ⊘ f0) ≡ true
 unfolding ofBits div isNan
 none-is = refl

@@ -1,6 +1,6 @@
 -- What a stretch of an edge adds to a contact.
 use mathlib.Core.Bool.{false}
-use mathlib.Core.Path.{_≡_, refl, sym, _∙_}
+use mathlib.Core.Path.{_≡_, sym, _∙_}
 use lib.Ieee.{Float}
 use Rattle.rules.proofs.Branches.{left}
 use Rattle.plane.specs.declared.Touch.{Touch}
@@ -29,9 +29,6 @@ module _ (k : Bull) (e : Edge) (c : Contact) (s : Stretch) where
   between-on r lo hi p q = rw p q
 
 -- the contact and the height, as calls answer them
-pub taken-on : (r c d : Contact) (z : Float) (t : Touch) → c ≡ d → r ≡ takeOf d z t → r ≡ takeOf c z t
-taken-on r c d z t p q = rw p q
-
 pub taken-at : (r c : Contact) (z w b : Float) (t : Touch) → b ≡ limitOf c → Alike b z w → r ≡ takeOf c z t → r ≡ takeOf c w t
 taken-at r c z w b t p q e = e ∙ q c t (sym p)
 

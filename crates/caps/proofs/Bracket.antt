@@ -1,18 +1,18 @@
 -- Both inner points of a bracket a..b within 0..1 lie from a to b, as they are computed. All is counted in smallest f64s: b - a is a whole number of them, its rounding
 -- goes at most a part in 2 ^ 52 too far, or not at all where it is below 2 ^ 53, and phi is much less than 1.
-use mathlib.Core.Bool.{Bool, true, false}
+use mathlib.Core.Bool.{true, false}
 use mathlib.Core.Logic.{_⊎_, inl, inr, ⊎-elim}
 use mathlib.Core.Path.{_≡_, refl, ap, sym, _∙_, subst}
 use Prim.Native.Nat.{ℕ, zero, suc, _+_, _-_, _*_, _^_, _≤_, _<_}
-use native.Mathlib.Nat.{add-comm, mul-sub, mul-right-comm, mul-mul-mul-comm, zero-mul, mul-zero, mul-one, one-mul, mul-comm, mul-assoc, mul-left-comm, add-mul, mul-add, mul-pos, mul-le-mul-right, mul-le-mul-left, le-trans, le-of-eq, le-of-mul-le-mul-right, le-of-mul-le-mul-left, lt-of-lt-of-le}
+use native.Mathlib.Nat.{add-comm, mul-sub, mul-right-comm, mul-mul-mul-comm, zero-mul, mul-zero, mul-one, mul-comm, mul-assoc, mul-left-comm, add-mul, mul-pos, mul-le-mul-right, mul-le-mul-left, le-trans, le-of-eq, le-of-mul-le-mul-right, le-of-mul-le-mul-left, lt-of-lt-of-le}
 use native.Mathlib.Omega.{arith}
 use borrow.Author.Tests.{ltb-true, ltb-false, leb-true, leb-false, le-leb, lt-leb}
 use lib.Dec.{T, ltb, leb, lit≤}
-use lib.IntN.{pos, negsuc}
+use lib.IntN.{pos}
 use lib.Pow.{pow-pos, pow-mono}
-use lib.Ieee.{Float, nan, inf, fin, binary64, up, down, round, add, sub, mul, neg, lt, le, fits}
+use lib.Ieee.{Float, nan, inf, fin, binary64, down, round, sub, neg, lt, le, fits}
 use lib.Ieee.Exact.{HasValue, round-exact}
-use lib.Ieee.Fits.{add-fits, sub-fits, mul-fits}
+use lib.Ieee.Fits.{sub-fits}
 use lib.Ieee.Scale.{finite, grid, round-same, round-val, round-under}
 use lib.Ieee.Positive.{den, den-pos}
 use Rattle.numbers.specs.Reals.{_⊕_, _⊖_, _⊗_}
@@ -404,9 +404,6 @@ module _ (a b : Float) (u : Unit a) (v : Unit b) (o : T (le b a)) where
 
   fp : T (finite (neg (d ⊗ Φ)))
   fp = neg-finite (d ⊗ Φ) (fy b a v u o)
-
-  fq : T (finite (neg d ⊗ Φ))
-  fq = finite-between (neg (d ⊗ Φ)) (neg d ⊗ Φ) (neg (d ⊗ Φ)) fp fp (parts .1) (parts .0)
 
   up₁ : T (le (m ⊗ Φ) (neg (d ⊗ Φ)))
   up₁ = le-on (m ⊗ Φ) (neg d ⊗ Φ) (neg (d ⊗ Φ)) (mul-up m (neg d) Φ fm fn tt (ways .0) refl) (parts .0)

@@ -1,13 +1,13 @@
 -- The search in a function's loop, for any objective f and either rule of what a step drops: where it starts, a step, a turn, and what it answers.
 use mathlib.Core.Bool.{Bool}
-use mathlib.Core.Path.{_≡_, refl, ap, _∙_, sym}
-use Prim.Native.Nat.{ℕ, suc, _+_, _≤_}
+use mathlib.Core.Path.{_≡_}
+use Prim.Native.Nat.{ℕ, _+_, _≤_}
 use native.Mathlib.Numerals.{add-one}
 use native.Mathlib.Omega.{arith}
 use lib.Ieee.{Float}
 use Rattle.numbers.specs.Reals.{_⊕_, _⊘_, f2}
 use Rattle.golden.specs.declared.Golden.{Golden}
-use Rattle.golden.specs.Search.{lower, upper, rises, falls, probeOf, narrowedOf, startOf, goldenStart, goldenStep, goldenAt, bestOf, goldenMax, goldenArgmin, boundOf, goldenMaxBound}
+use Rattle.golden.specs.Search.{lower, upper, rises, falls, probeOf, narrowedOf, startOf, goldenStart, goldenStep, goldenAt, bestOf, goldenMax, goldenArgmin}
 
 pub begins : (f : Float → Float) (lo hi u v fu fv : Float) (g : Golden) → u ≡ lower lo hi → v ≡ upper lo hi → fu ≡ f u → fv ≡ f v → g ≡ startOf lo hi fu fv → g ≡ goldenStart f lo hi
 unfolding goldenStart
@@ -34,9 +34,5 @@ module _ (f : Float → Float) (lo hi : Float) (k n : ℕ) (g : Golden) (below :
   pub min-ends : (r : Float) → g ≡ goldenAt falls f lo hi k → r ≡ (g .a ⊕ g .b) ⊘ f2 → r ≡ goldenArgmin f lo hi n
   unfolding goldenArgmin
   min-ends r i p = let e : k ≡ n = omega arith in rw (p, i, e)
-
-pub bound-ends : (f : Float → Float) (lo hi lipschitz m r : Float) → m ≡ goldenMax f lo hi 60 → r ≡ boundOf m lo hi lipschitz → r ≡ goldenMaxBound f lo hi lipschitz
-unfolding goldenMaxBound
-bound-ends f lo hi lipschitz m r p q = rw (q, p)
 
 pub ruleset search-laws = (begins, steps, first, turns, max-ends, min-ends)

@@ -1,10 +1,9 @@
 -- The order in which heights take each other's place, on all floats: a height that was taken or passed over once is passed over ever after.
 use mathlib.Core.Bool.{true, false, cond}
-use mathlib.Core.Path.{_≡_, sym, _∙_, subst}
+use mathlib.Core.Path.{_≡_, sym, _∙_}
 use lib.Dec.{not-T}
 use lib.Ieee.{Float, lt, isNan}
 use lib.Ieee.Bits.{is-true, is-false}
-use Rattle.numbers.specs.Reals.{maxOf}
 use Rattle.rules.proofs.Branches.{either, by-test, no}
 use Rattle.order.proofs.Strict.{lt-goes-on, lt-never-same, lt-number}
 use Rattle.plane.specs.declared.Touch.{Touch}
@@ -49,14 +48,6 @@ still-waits b z w h l =
     (λ n. absurd (no (sym h ∙ (beside-nan z b n ∙ rw m))))
     (λ n. let up = sym (beside-number w b n) ∙ l in
     beside-number z w (lt-number b w up) ∙ never w z (λ g. no (sym h ∙ (beside-number z b n ∙ lt-goes-on b w z up g)))))
-
--- a height that the larger of two leaves as it was takes no place
-pub larger-waits : (b z : Float) → maxOf b z ≡ b → exceedsOf z b ≡ false
-unfolding maxOf
-larger-waits b z e =
-    by-test (isNan b)
-    (λ n. nan-waits z b (subst (λ x. isNan x ≡ true) (sym (sym (rw n) ∙ e)) n))
-    (λ n. beside-number z b n ∙ never b z (λ l. lt-never-same b (subst (λ x. lt b x ≡ true) (sym (rw (n, l)) ∙ e) l)))
 
 -- taking z again would change nothing, whatever it touches
 abbrev pub Settled : Contact → Float → Type 0

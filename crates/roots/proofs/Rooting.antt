@@ -3,12 +3,12 @@
 -- down: 1 where low is r or more.
 use mathlib.Core.Path.{_≡_, refl, sym, ap, _∙_, subst}
 use Prim.Native.Nat.{ℕ, zero, suc, _+_, _-_, _*_, _/_, _%_, _^_, _≤_, _<_}
-use native.Mathlib.Nat.{mul-assoc, mul-left-comm, mul-one, add-mul, lt-of-mul-lt-mul-right, mul-le-mul-right, pow-succ'}
+use native.Mathlib.Nat.{mul-assoc, mul-left-comm, add-mul, lt-of-mul-lt-mul-right, mul-le-mul-right, pow-succ'}
 use native.Mathlib.Omega.{arith}
 use lib.Dec.{lit<}
 use lib.Pow.{pow-pos}
 use lib.Bits.{bitAnd, and-mask, and-mod}
-use Rattle.roots.proofs.Squares.{square-add, square-twice}
+use Rattle.roots.proofs.Squares.{square-add}
 use Rattle.roots.specs.Root.{Nearest}
 use Rattle.roots.specs.Hypot.{NearestEven}
 use Rattle.roots.proofs.Evens.{odd-square, down, up, tie}
@@ -168,9 +168,6 @@ module _ (v rest q : ℕ) (e : v ≡ 2 * (q * q) + rest) (h : v < 2 * ((q + 1) *
 
       next : (s : ℕ) → 2 * s + 1 + 1 ≡ 2 * (s + 1)
       next s = omega arith
-
-  digits-of : (b : ℕ) → b < 2 → q % 2 ≡ b → q ≡ 2 * (q / 2) + b
-  digits-of b h e = omega arith
 
   pub rounded : (rest ≡ 0 → ⊥) → NearestEven v 2 (q / 2 + bitAnd q 1)
   rounded n = subst (λ (z : ℕ). NearestEven v 2 (q / 2 + z)) (sym (and-mask q 1)) (go (q % 2) (omega arith) refl)

@@ -178,9 +178,6 @@ module _ (stamp other : ℕ) (apart : other ≡ stamp → ⊥) (ms m : List ℕ)
   abbrev marks-are : m′ ≡ fold (look other step) w ms .marks
   marks-are = ap (λ (u : Walk Best). u .marks) e
 
-  pub left-many : length m′ ≡ length m
-  left-many = ap length marks-are ∙ as-many other step ms w ∙ b .size
-
   pub left-fresh : Fresh stamp m′ ms
   left-fresh = subst (λ (l : List ℕ). Fresh stamp l ms) (sym marks-are) (fresh-again stamp other apart ms m fresh step w b)
 
