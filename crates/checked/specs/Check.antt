@@ -6,6 +6,7 @@ use Prim.Native.Nat.{ℕ, _%_}
 use lib.Dec.{ltb, eqb}
 use lib.ListN.{length}
 use Rattle.rules.specs.Ladder.{refuse, demand}
+use Rattle.rules.specs.Limits.{most}
 use Rattle.grid.specs.Grid.{trianglesIn}
 use Rattle.grid.specs.Boxes.{isBoxed}
 use Rattle.grid.specs.Index.{Index, BuiltFrom}
@@ -15,7 +16,7 @@ use Rattle.grid.specs.Index.{Index, BuiltFrom}
 unfoldable pub refusalOf : Index → ℕ
 refusalOf ix =
     demand (eqb (length (ix .mesh) % 9) 0) 1
-    (refuse (ltb 65536 (trianglesIn (ix .mesh))) 1
+    (refuse (ltb most (trianglesIn (ix .mesh))) 1
     (demand (isBoxed (ix .mesh) (ix .boxes)) 23
     7))
 

@@ -6,6 +6,7 @@ use Prim.Native.Nat.{ℕ, _+_, _*_, _≤_, _<_}
 use lib.Dec.{leb, ltb, eqb}
 use lib.Ieee.{Float}
 use lib.ListN.{length, getD}
+use Rattle.rules.specs.Limits.{most}
 use Rattle.plane.specs.declared.Bounds.{Bounds}
 use Rattle.spans.specs.Axis.{stretchOf}
 use Rattle.cells.specs.Cover.{Cover, covers, startOf, startsOf, membersTable, stretch}
@@ -40,8 +41,8 @@ boxCovers boxes g i c = covers (g .columns) (cellsUnder g (boxAt boxes i)) c
 -- A grid of at least one cell and not too many, and boxes of n triangles that lie near it.
 pub record Boxed (n : ℕ) (g : Grid) (boxes : List Float) : Type 0 where
   pub some : (0 < g .columns) × (0 < g .rows)
-  pub few : g .rows * g .columns ≤ 65536 * 65536
-  pub small : n ≤ 65536
+  pub few : g .rows * g .columns ≤ most * most
+  pub small : n ≤ most
   pub five : length boxes ≡ n * 5
   pub near : (i : ℕ) → i < n → NearBox g (boxAt boxes i)
 

@@ -2,7 +2,8 @@
 use mathlib.Core.Bool.{Bool, true, cond}
 use Prim.Native.Nat.{ℕ}
 use lib.Dec.{ltb}
+use Rattle.rules.specs.Limits.{most}
 
 -- over 65,536 or over the lent room
 unfoldable pub tooMany : ℕ → ℕ → Bool
-tooMany n room = cond (ltb 65536 n) true (ltb room n)
+tooMany n room = cond (ltb most n) true (ltb room n)

@@ -18,6 +18,7 @@ use Rattle.grid.specs.Grid.{trianglesIn, gridOf, cellsIn, coverOf}
 use Rattle.grid.specs.Boxes.{isBoxed, boxesOf}
 use Rattle.grid.specs.Header.{headerOf}
 use Rattle.rules.specs.Ladder.{refuse, demand}
+use Rattle.rules.specs.Limits.{most, mostCells}
 
 -- No place was found.
 unfoldable pub isNowhere : Place → Bool
@@ -45,7 +46,7 @@ refusalOfNumbers mesh floor r =
 unfoldable pub refusalOfMesh : List Float → Float → Float → List Float → ℕ
 refusalOfMesh mesh floor r x =
     demand (eqb (length mesh % 9) 0) 1
-    (refuse (ltb 65536 (trianglesIn mesh)) 1
+    (refuse (ltb most (trianglesIn mesh)) 1
     (demand (isBoxed mesh x) 23
     (refuse (eqb (trianglesIn mesh) 0) 3
     (refusalOfNumbers mesh floor r))))
@@ -53,9 +54,9 @@ refusalOfMesh mesh floor r x =
 -- 5: columns or rows over 65,536, cells over 1,048,576, or cells + 1 over the lent starts.
 unfoldable pub refusalOfGrid : ℕ → ℕ → ℕ → ℕ
 refusalOfGrid columns rows lent =
-    refuse (ltb 65536 columns) 5
-    (refuse (ltb 65536 rows) 5
-    (refuse (ltb 1048576 (rows * columns)) 5
+    refuse (ltb most columns) 5
+    (refuse (ltb most rows) 5
+    (refuse (ltb mostCells (rows * columns)) 5
     (refuse (ltb lent (rows * columns + 1)) 5
     0)))
 

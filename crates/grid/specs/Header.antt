@@ -7,6 +7,7 @@ use Rattle.numbers.specs.Reals.{f0, millionth, twoMillion, twoMillionths}
 use Rattle.plane.specs.Ranges.{isCoordinate, isRadius}
 use Rattle.spans.specs.Mesh.{epsOf}
 use Rattle.rules.specs.Every.{isFrom}
+use Rattle.rules.specs.Limits.{most, mostCells}
 use Rattle.grid.specs.declared.Grid.{Grid}
 use Rattle.grid.specs.declared.Header.{Header}
 
@@ -33,9 +34,9 @@ gridIn h = record { x = h .«origin_x»; y = h .«origin_y»; size = h .cell; co
 -- refusal 5; 0 < eps <= 2e-6; r 0 to 1e6.
 unfoldable pub inRanges : Header → Bool
 inRanges h =
-    isFrom 1 65536 (h .n)
+    isFrom 1 most (h .n)
     && (isCoordinate (h .«origin_x») && (isCoordinate (h .«origin_y») && (isCoordinate (h .floor)
     && ((le millionth (h .cell) && le (h .cell) twoMillion)
-    && (isFrom 1 65536 (h .columns) && (isFrom 1 65536 (h .rows) && (isFrom 1 1048576 (h .rows * h .columns)
+    && (isFrom 1 most (h .columns) && (isFrom 1 most (h .rows) && (isFrom 1 mostCells (h .rows * h .columns)
     && ((lt f0 (h .eps) && le (h .eps) twoMillionths)
     && isRadius (h .r)))))))))

@@ -3,6 +3,7 @@ use mathlib.Core.List.{List}
 use Prim.Native.Nat.{ℕ, _*_, _≤_, _<_}
 use lib.ListN.{length}
 use lib.Ieee.{Float}
+use Rattle.rules.specs.Limits.{most}
 use Rattle.plane.specs.declared.Bounds.{Bounds}
 use Rattle.spans.specs.Mesh.{boxOf}
 use Rattle.spans.specs.Inside.{AllGood, Near}
@@ -18,9 +19,9 @@ pub record NearBox (g : Grid) (b : Bounds) : Type 0 where
 -- n triangles of coordinates, and a grid of at least one cell and not too many.
 pub record Gridded (mesh : List Float) (n : ℕ) (g : Grid) : Type 0 where
   pub nine : n * 9 ≤ length mesh
-  pub few : n ≤ 65536
+  pub few : n ≤ most
   pub some : (0 < g .columns) × (0 < g .rows)
-  pub wide : g .columns ≤ 65536
-  pub tall : g .rows ≤ 65536
+  pub wide : g .columns ≤ most
+  pub tall : g .rows ≤ most
   pub numbers : AllGood mesh
   pub near : (i : ℕ) → i < n → NearBox g (boxOf mesh i)

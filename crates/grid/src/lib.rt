@@ -131,7 +131,7 @@ pub fn refusal_of_mesh(mesh: &[f64], floor: f64, r: f64, boxes: &[f64]) -> Reaso
         };
     }
     let n = mesh.len() / 9;
-    if 65536 < n {
+    if rules::MOST < n {
         return Reason {
             refusal: 1,
             place: 0,
@@ -205,14 +205,14 @@ pub fn grid_of(mesh: &[f64], n: usize, r: f64) -> Grid
 pub fn refusal_of_grid(columns: usize, rows: usize, lent: usize) -> u32
     ensures { λ k. ⌜ k ≡ refusalOfGrid columns rows lent ⌝ }
 {
-    if 65536 < columns {
+    if rules::MOST < columns {
         return 5;
     }
-    if 65536 < rows {
+    if rules::MOST < rows {
         return 5;
     }
     let cells = rows * columns;
-    if 1048576 < cells {
+    if rules::MOST_CELLS < cells {
         return 5;
     }
     if lent < cells + 1 {

@@ -7,6 +7,7 @@ use lib.Ieee.{Float, lt, le}
 use lib.ListN.{length}
 use Rattle.numbers.specs.Reals.{f0, millionth, twoMillion, twoMillionths}
 use Rattle.rules.specs.Every.{isFrom}
+use Rattle.rules.specs.Limits.{most, mostCells}
 use Rattle.plane.specs.Ranges.{isRadius}
 use Rattle.grid.specs.declared.Header.{Header}
 use Rattle.grid.specs.Header.{inRanges}
@@ -20,6 +21,6 @@ headUsable mesh h starts =
 unfoldable pub sizesInRanges : Float → ℕ → ℕ → Float → Float → Bool
 sizesInRanges cell columns rows eps r =
     (le millionth cell && le cell twoMillion)
-    && (isFrom 1 65536 columns && (isFrom 1 65536 rows && (isFrom 1 1048576 (rows * columns)
+    && (isFrom 1 most columns && (isFrom 1 most rows && (isFrom 1 mostCells (rows * columns)
     && ((lt f0 eps && le eps twoMillionths)
     && isRadius r))))

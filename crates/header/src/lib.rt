@@ -4,6 +4,7 @@ ghost use mathlib.Core.Bool.{_&&_};
 ghost use Prim.Native.Nat.{_*_};
 ghost use lib.Ieee.{lt, le};
 ghost use Rattle.numbers.specs.Reals.{f0, millionth, twoMillion, twoMillionths};
+ghost use Rattle.rules.specs.Limits.{most, mostCells};
 ghost use Rattle.rules.specs.Every.{isFrom};
 ghost use Rattle.plane.specs.Ranges.{isCoordinate, isRadius};
 ghost use Rattle.grid.specs.Header.{inRanges};
@@ -23,7 +24,7 @@ pub fn in_ranges(h: Header) -> bool
     let floor = h.floor;
     let eps = h.eps;
     let r = h.r;
-    is_from(1, 65536, n)
+    is_from(1, rules::MOST, n)
         && (places_in_ranges(x, y, floor) && sizes_in_ranges(cell, columns, rows, eps, r))
 }
 
@@ -53,9 +54,10 @@ fn places_in_ranges(x: f64, y: f64, floor: f64) -> bool
 
 // Whether a grid has at least one cell, and columns, rows and cells are within refusal 5.
 fn counts_in_ranges(columns: usize, rows: usize) -> bool
-    ensures { λ r. ⌜ r ≡ (isFrom 1 65536 columns && (isFrom 1 65536 rows && isFrom 1 1048576 (rows * columns))) ⌝ }
+    ensures { λ r. ⌜ r ≡ (isFrom 1 most columns && (isFrom 1 most rows && isFrom 1 mostCells (rows * columns))) ⌝ }
 {
-    is_from(1, 65536, columns) && (is_from(1, 65536, rows) && is_from(1, 1048576, rows * columns))
+    is_from(1, rules::MOST, columns)
+        && (is_from(1, rules::MOST, rows) && is_from(1, rules::MOST_CELLS, rows * columns))
 }
 
 // Whether a cell size is in its range.

@@ -8,6 +8,7 @@ use lib.Dec.{eqb, ltb}
 use lib.ListN.{length}
 use Rattle.fields.specs.Little.{value}
 use Rattle.rules.specs.Ladder.{refuse}
+use Rattle.rules.specs.Limits.{most}
 use Rattle.fields.specs.Room.{tooMany}
 use Rattle.fields.specs.Length.{wholeIn, lengthRule, refuseLength}
 use Rattle.fields.specs.declared.Shape.{Shape}
@@ -52,6 +53,6 @@ pub record Headed (w v : ℕ) (bytes : List ℕ) (nroom mroom : ℕ) : Type 0 wh
   pub first : value version bytes ≡ v
   pub clear : value zeroByte bytes ≡ 0
   pub some : 1 ≤ value triangles bytes
-  pub few : (value triangles bytes ≤ 65536) × (value triangles bytes ≤ nroom)
-  pub few-questions : (value questions bytes ≤ 65536) × (value questions bytes ≤ mroom)
+  pub few : (value triangles bytes ≤ most) × (value triangles bytes ≤ nroom)
+  pub few-questions : (value questions bytes ≤ most) × (value questions bytes ≤ mroom)
   pub whole : length bytes ≡ bytesOf w (value triangles bytes) (value questions bytes)

@@ -10,6 +10,7 @@ use Rattle.numbers.specs.Reals.{f0}
 use Rattle.fields.specs.Little.{value}
 use Rattle.fields.specs.Rows.{finite, row, firstBad, somewhere}
 use Rattle.rules.specs.Ladder.{refuse}
+use Rattle.rules.specs.Limits.{most}
 use Rattle.fields.specs.Copies.{ToldApart}
 use Rattle.fields.specs.declared.Shape.{Shape}
 use Rattle.job.specs.Layout.{mark, version, zeroByte, triangles, questions, number, letters, wide, numbers, meshFrom, questionsFrom, bytesOf}
@@ -74,8 +75,8 @@ pub record Sound (bytes : List ℕ) (nroom mroom : ℕ) : Type 0 where
   pub first : value version bytes ≡ 1
   pub clear : value zeroByte bytes ≡ 0
   pub some : 1 ≤ value triangles bytes
-  pub few : (value triangles bytes ≤ 65536) × (value triangles bytes ≤ nroom)
-  pub few-questions : (value questions bytes ≤ 65536) × (value questions bytes ≤ mroom)
+  pub few : (value triangles bytes ≤ most) × (value triangles bytes ≤ nroom)
+  pub few-questions : (value questions bytes ≤ most) × (value questions bytes ≤ mroom)
   pub whole : length bytes ≡ bytesOf wide (value triangles bytes) (value questions bytes)
   pub finite-all : (k : ℕ) → k < numbers (value triangles bytes) (value questions bytes) → finite (numberOf bytes k) ≡ true
 

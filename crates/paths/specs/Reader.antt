@@ -10,6 +10,7 @@ use Rattle.fields.specs.declared.Shape.{Shape}
 use Rattle.fields.specs.Little.{value}
 use Rattle.fields.specs.Rows.{finite, firstBad, somewhere}
 use Rattle.rules.specs.Ladder.{refuse}
+use Rattle.rules.specs.Limits.{most}
 use Rattle.fields.specs.Length.{lengthRule, refuseLength, wholeIn}
 use Rattle.fields.specs.Copies.{ToldApart}
 use Rattle.paths.specs.Layout.{mark, version, zeroByte, count, kindByte, number, shape, numbers, letters}
@@ -66,7 +67,7 @@ refusalOfLength bytes n = refuseLength (lengthRule (shape n) (length bytes)) (re
 
 -- 18 count over 65,536; 0 passes
 unfoldable pub refusalOfCount : List ℕ → ℕ → ℕ
-refusalOfCount bytes n = refuse (ltb 65536 n) 18 (refusalOfLength bytes n)
+refusalOfCount bytes n = refuse (ltb most n) 18 (refusalOfLength bytes n)
 
 -- 14 under 34 bytes; 15 mark; 16 version; 17 sixth byte not 0
 unfoldable pub refusalOf : List ℕ → ℕ
@@ -83,7 +84,7 @@ pub record Sound (bytes : List ℕ) : Type 0 where
   pub marked : value mark bytes ≡ letters
   pub first : value version bytes ≡ 1
   pub clear : value zeroByte bytes ≡ 0
-  pub few : value count bytes ≤ 65536
+  pub few : value count bytes ≤ most
   pub whole : length bytes ≡ 34 + 25 * value count bytes
   pub finite-all : (k : ℕ) → k < numbers (value count bytes) → finite (numberOf bytes k) ≡ true
   pub known : (t : ℕ) → t < value count bytes → value (kindByte t) bytes ≤ 1

@@ -5,10 +5,11 @@ use Prim.Native.Nat.{ℕ, _*_, _≤_, _<_}
 use lib.Dec.{eqb, leb}
 use lib.Ieee.{Float}
 use lib.ListN.{length, getD}
+use Rattle.rules.specs.Limits.{most}
 
 -- 1: the mesh is nine numbers for each mark, of which there are at most 65,536.
 unfoldable pub isMarked : List Float → List ℕ → Bool
-isMarked mesh marks = leb (length marks) 65536 && eqb (length mesh) (length marks * 9)
+isMarked mesh marks = leb (length marks) most && eqb (length mesh) (length marks * 9)
 
 -- 7, of the marks: none is above the stamp that is handed with them.
 abbrev pub NoneAbove : ℕ → List ℕ → Type 0

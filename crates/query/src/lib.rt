@@ -32,7 +32,7 @@ pub fn is_marked(mesh: &[f64], marks: &[u32]) -> bool
     ensures { λ r. ⌜ r ≡ isMarked (now (mesh .entry)) (now (marks .entry)) ⌝ }
 {
     let n = marks.len();
-    n <= 65536 && mesh.len() == n * 9
+    n <= rules::MOST && mesh.len() == n * 9
 }
 
 // The cells from lo to hi on an axis of so many.

@@ -15,6 +15,7 @@ use Rattle.spans.specs.Mesh.{firstBad, epsOf}
 use Rattle.grid.specs.declared.Header.{Header}
 use Rattle.grid.specs.declared.Built.{Built}
 use Rattle.rules.specs.Ladder.{refuse, demand}
+use Rattle.rules.specs.Limits.{most}
 use Rattle.grid.specs.Grid.{trianglesIn}
 use Rattle.grid.specs.Header.{inRanges}
 use Rattle.grid.specs.Boxes.{boxAt, isBoxed, fiveOf}
@@ -75,7 +76,7 @@ refusalOfIndex mesh h amount =
 unfoldable pub refusalOf : List Float → List Float → Header → Float → ℕ
 refusalOf mesh boxes h amount =
     demand (eqb (length mesh % 9) 0) 1
-    (refuse (ltb 65536 (trianglesIn mesh)) 1
+    (refuse (ltb most (trianglesIn mesh)) 1
     (demand (isBoxed mesh boxes) 23
     (demand (isCoordinate amount) 2
     (refusalOfIndex mesh h amount))))

@@ -73,7 +73,7 @@ fn refusal(mesh: &[f64], boxes: &[f64], h: Header, amount: f64) -> Reason
             place: 0,
         };
     }
-    if 65536 < mesh.len() / 9 {
+    if rules::MOST < mesh.len() / 9 {
         return Reason {
             refusal: 1,
             place: 0,

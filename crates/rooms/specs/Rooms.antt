@@ -9,6 +9,7 @@ use lib.ListN.{length}
 use Rattle.cells.specs.Cover.{startOf}
 use Rattle.grid.specs.declared.Grid.{Grid}
 use Rattle.rules.specs.Ladder.{refuse, demand}
+use Rattle.rules.specs.Limits.{most}
 use Rattle.grid.specs.Grid.{trianglesIn, gridOf, cellsIn, coverOf}
 use Rattle.grid.specs.Boxes.{isBoxed}
 use Rattle.grid.specs.Build.{refusalOfNumbers, refusalOfGrid, refusalOfMembers, buildOf}
@@ -19,7 +20,7 @@ use Rattle.rooms.specs.declared.Rooms.{Rooms}
 unfoldable pub refusalOf : List Float → Float → Float → ℕ
 refusalOf mesh floor r =
     demand (eqb (length mesh % 9) 0) 1
-    (refuse (ltb 65536 (trianglesIn mesh)) 1
+    (refuse (ltb most (trianglesIn mesh)) 1
     (refuse (eqb (trianglesIn mesh) 0) 3
     (refusalOfNumbers mesh floor r)))
 

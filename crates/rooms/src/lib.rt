@@ -45,7 +45,7 @@ fn refusal(mesh: &[f64], floor: f64, r: f64) -> u32
         return 1;
     }
     let n = mesh.len() / 9;
-    if 65536 < n {
+    if rules::MOST < n {
         return 1;
     }
     if n == 0 {

@@ -9,6 +9,7 @@ use Rattle.walk.specs.Walk.{Walk, block, looked, walked, nextStamp, readyMarks}
 use Rattle.rules.specs.Ladder.{demand}
 use Rattle.query.specs.declared.Patch.{Patch}
 use Rattle.rules.specs.Every.{every}
+use Rattle.rules.specs.Limits.{most}
 use Rattle.query.specs.Usable.{cellsUsable}
 use Rattle.ask.specs.Ask.{begun, Outcome, ended}
 use Rattle.micro.specs.Micro.{isCoordinate, numberAt}
@@ -23,7 +24,7 @@ use Rattle.setup.specs.Question.{isQuestion, reachOf, stepOf, fromFloor,
 
 -- 1: the mesh is nine numbers for each mark, of which there are at most 65,536.
 unfoldable pub isMarked : List ℤ → List ℕ → Bool
-isMarked mesh marks = leb (length marks) 65536 && eqb (length mesh) (length marks * 9)
+isMarked mesh marks = leb (length marks) most && eqb (length mesh) (length marks * 9)
 
 -- 7, the header: in its ranges, its n the mesh's, and starts has cells + 1 entries.
 unfoldable pub headUsable : List ℤ → Header → List ℕ → Bool

@@ -3,6 +3,7 @@ use mathlib.Core.Bool.{Bool, _&&_}
 use mathlib.Core.List.{List}
 use Prim.Native.Nat.{ℕ, _*_, _≤_, _<_, _^_}
 use Rattle.rules.specs.Every.{isFrom}
+use Rattle.rules.specs.Limits.{most, mostCells}
 use Rattle.micro.specs.Micro.{isCoordinate, isRadius}
 use Rattle.walk.specs.Walk.{Walk}
 use Rattle.setup.specs.declared.Best.{Best}
@@ -31,4 +32,4 @@ unfoldable pub placesIn : ℕ → ℕ → ℕ → ℕ → Bool
 placesIn x y floor r = isCoordinate x && (isCoordinate y && (isCoordinate floor && isRadius r))
 
 unfoldable pub countsIn : ℕ → ℕ → Bool
-countsIn columns rows = isFrom 1 65536 columns && (isFrom 1 65536 rows && isFrom 1 1048576 (rows * columns))
+countsIn columns rows = isFrom 1 most columns && (isFrom 1 most rows && isFrom 1 mostCells (rows * columns))

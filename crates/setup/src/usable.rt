@@ -15,7 +15,7 @@ pub fn is_marked(mesh: &[i32], marks: &[u32]) -> bool
     ensures { λ r. ⌜ r ≡ isMarked (now (mesh .entry)) (now (marks .entry)) ⌝ }
 {
     let n = marks.len();
-    n <= 65536 && mesh.len() == n * 9
+    n <= rules::MOST && mesh.len() == n * 9
 }
 
 // Whether the header is in its ranges, its n is the mesh's, and starts has an entry for each cell and one more.
@@ -36,7 +36,7 @@ fn in_ranges(h: Header) -> bool
     let columns = h.columns;
     let rows = h.rows;
     let cell = h.cell;
-    is_from(1, 65536, n)
+    is_from(1, rules::MOST, n)
         && (places_in(h.x, h.y, h.floor, h.r) && (counts_in(columns, rows) && is_power(cell)))
 }
 
@@ -59,7 +59,8 @@ fn places_in(x: u64, y: u64, floor: u64, r: u64) -> bool
 fn counts_in(columns: usize, rows: usize) -> bool
     ensures { λ r. ⌜ r ≡ countsIn columns rows ⌝ }
 {
-    is_from(1, 65536, columns) && (is_from(1, 65536, rows) && is_from(1, 1048576, rows * columns))
+    is_from(1, rules::MOST, columns)
+        && (is_from(1, rules::MOST, rows) && is_from(1, rules::MOST_CELLS, rows * columns))
 }
 
 // Whether a cell is a power of two from 1 to 2^31.

@@ -10,6 +10,7 @@ use Rattle.fields.specs.declared.Shape.{Shape}
 use Rattle.fields.specs.Little.{value}
 use Rattle.fields.specs.Rows.{finite, row, firstBad, somewhere}
 use Rattle.rules.specs.Ladder.{refuse}
+use Rattle.rules.specs.Limits.{most}
 use Rattle.fields.specs.Room.{tooMany}
 use Rattle.fields.specs.Length.{lengthRule, refuseLength, wholeIn}
 use Rattle.fields.specs.Copies.{ToldApart}
@@ -82,7 +83,7 @@ readOf bytes mesh =
 
 pub record Sound (bytes : List ℕ) (room : ℕ) : Type 0 where
   pub some : 1 ≤ value count bytes
-  pub few : (value count bytes ≤ 65536) × (value count bytes ≤ room)
+  pub few : (value count bytes ≤ most) × (value count bytes ≤ room)
   pub whole : length bytes ≡ 84 + 50 * value count bytes
   pub finite-all : (k : ℕ) → k < 9 * value count bytes → finite (numberOf bytes k) ≡ true
 

@@ -11,6 +11,7 @@ use Rattle.fields.specs.declared.Place.the-variants.{Nowhere, At}
 use Rattle.rules.specs.Every.{isFrom}
 use Rattle.cells.specs.Cover.{startOf, startsOf, membersTable}
 use Rattle.rules.specs.Ladder.{refuse, demand}
+use Rattle.rules.specs.Limits.{most, mostCells}
 use Rattle.grid.specs.Build.{refusalOfMembers}
 use Rattle.micro.specs.Micro.{isCoordinate, isRadius, numberAt, firstWhere}
 use Rattle.um.specs.declared.Grid.{Grid}
@@ -37,10 +38,10 @@ isPower cell = somewhere (firstWhere (λ k. eqb (2 ^ k) cell) 0 32)
 -- columns, rows and cells at least 1 and within refusal 5; the cell a power of two.
 unfoldable pub inRanges : Header → Bool
 inRanges h =
-    isFrom 1 65536 (h .n)
+    isFrom 1 most (h .n)
     && (isCoordinate (h .x) && (isCoordinate (h .y) && (isCoordinate (h .floor)
     && (isRadius (h .r)
-    && (isFrom 1 65536 (h .columns) && (isFrom 1 65536 (h .rows) && (isFrom 1 1048576 (h .rows * h .columns)
+    && (isFrom 1 most (h .columns) && (isFrom 1 most (h .rows) && (isFrom 1 mostCells (h .rows * h .columns)
     && isPower (h .cell))))))))
 
 -- ---- the refusals
@@ -70,7 +71,7 @@ refusalOfNumbers mesh floor r =
 unfoldable pub refusalOfMesh : List ℤ → ℕ → ℕ → ℕ
 refusalOfMesh mesh floor r =
     demand (eqb (length mesh % 9) 0) 1
-    (refuse (ltb 65536 (trianglesIn mesh)) 1
+    (refuse (ltb most (trianglesIn mesh)) 1
     (refuse (eqb (trianglesIn mesh) 0) 3
     (refusalOfNumbers mesh floor r)))
 

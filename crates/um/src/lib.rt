@@ -111,7 +111,7 @@ fn refusal_of_mesh(mesh: &[i32], floor: u64, r: u64) -> Reason
         };
     }
     let n = mesh.len() / 9;
-    if 65536 < n {
+    if rules::MOST < n {
         return Reason {
             refusal: 1,
             place: 0,

@@ -11,6 +11,7 @@ use Rattle.job.specs.Layout.{mark, version, zeroByte, triangles, questions, num
 use Rattle.fields.specs.Little.{Field}
 use Rattle.fields.specs.Rows.{allFinite}
 use Rattle.rules.specs.Ladder.{refuse}
+use Rattle.rules.specs.Limits.{most}
 use Rattle.writer.specs.declared.Written.{Written}
 
 -- ---- the bytes of a job
@@ -69,14 +70,14 @@ module _ (mesh : List Float) (floor radius : Float) (qs : List Float) (room : �
   unfoldable pub refusalOfCounts : ℕ
   refusalOfCounts =
       refuse (eqb (length mesh) 0) 18
-      (refuse (ltb 65536 (length qs / 5)) 18
+      (refuse (ltb most (length qs / 5)) 18
       refusalOfNumbers)
 
   -- 1 mesh not a multiple of nine or over 65,536 triangles, or questions not a multiple of five
   unfoldable pub refusalOf : ℕ
   refusalOf =
       refuse (not (eqb (length mesh % 9) 0)) 1
-      (refuse (ltb 65536 (length mesh / 9)) 1
+      (refuse (ltb most (length mesh / 9)) 1
       (refuse (not (eqb (length qs % 5) 0)) 1
       refusalOfCounts))
 

@@ -25,8 +25,6 @@ const NUMBERS: usize = 14;
 
 const WIDE: usize = 8;
 
-const MOST: usize = 65536;
-
 // Writes a job into the lent bytes, nine numbers a triangle, five a question; bytes beyond the job stay unchanged.
 pub fn write_job(
     mesh: &[f64],
@@ -60,7 +58,7 @@ fn refusal(mesh: &[f64], floor: f64, radius: f64, questions: &[f64], room: usize
     if mesh.len() % 9 != 0 {
         return 1;
     }
-    if mesh.len() / 9 > MOST {
+    if mesh.len() / 9 > rules::MOST {
         return 1;
     }
     if questions.len() % 5 != 0 {
@@ -77,7 +75,7 @@ fn refusal_of_counts(mesh: &[f64], floor: f64, radius: f64, questions: &[f64], r
     if mesh.len() == 0 {
         return 18;
     }
-    if questions.len() / 5 > MOST {
+    if questions.len() / 5 > rules::MOST {
         return 18;
     }
     refusal_of_numbers(mesh, floor, radius, questions, room)
