@@ -4,7 +4,8 @@ use mathlib.Core.Bool.{Bool, true, false, cond}
 use mathlib.Core.List.{List, [], _∷_, _++_}
 use Prim.Native.Nat.{ℕ, zero, suc, _+_, _-_, _*_}
 use lib.Dec.{eqb}
-use lib.ListN.{length, getD, set, take, drop, replicate}
+use lib.ListN.{length, getD, set, replicate}
+use Rattle.cells.specs.Cover.{stretch}
 
 -- ---- the numbers of a question's cells
 
@@ -13,9 +14,9 @@ unfoldable pub over : (ℕ → List ℕ) → ℕ → ℕ → List ℕ
 over f a zero = []
 over f a (suc n) = f a ++ over f (a + 1) n
 
--- The numbers of one cell are a stretch of the member table: what stands between the cell's start and the next one.
+-- The numbers of one cell: what is read of it, a stretch of the member table.
 abbrev pub cell : List ℕ → List ℕ → ℕ → List ℕ
-cell starts members c = take (getD starts (c + 1) 0 - getD starts c 0) (drop (getD starts c 0) members)
+cell = stretch
 
 -- Those of row y, from column x0 up to x1. Cell number is y * columns + x.
 abbrev pub row : List ℕ → List ℕ → ℕ → ℕ → ℕ → ℕ → List ℕ
