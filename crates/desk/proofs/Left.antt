@@ -1,4 +1,4 @@
--- What the builder leaves, refused and accepted, that a header in its ranges fits the arrays of C, and a verdict's number.
+-- What the builder leaves, refused and accepted; and that a header in its ranges fits the arrays of C.
 use mathlib.Core.Bool.{Bool, true, _&&_}
 use mathlib.Core.List.{List, [], _∷_}
 use mathlib.Core.Path.{_≡_, refl}
@@ -15,11 +15,8 @@ use Rattle.grid.specs.declared.Header.{Header}
 use Rattle.grid.specs.Header.{inRanges}
 use Rattle.grid.specs.Build.{Outcome}
 use Rattle.header.proofs.Ands.{from-is}
-use Rattle.ask.specs.declared.Finding.{Finding}
-use Rattle.ask.specs.declared.Finding.the-variants.{Neither, Clear, Blocked}
-use Rattle.ask.specs.Ask.{findingNumber}
 use Rattle.handed.specs.Handed.{measuresOf, sizesOf}
-use Rattle.desk.specs.Doors.{BuiltLeft, builtLeft, builtLeftBy, findingFrom}
+use Rattle.desk.specs.Doors.{BuiltLeft, builtLeft, builtLeftBy}
 
 pub record Narrow (h : Header) : Type 0 where
   pub n : h .n < 2 ^ 32
@@ -59,10 +56,3 @@ refused-left o some = left (eqb (o .built .refusal) 0) (zeros o) (header o) (zer
 pub accepted-left : (o : Outcome) → o .built .refusal ≡ 0 → header o ≡ builtLeftBy o
 unfolding builtLeftBy
 accepted-left o none = taken (eqb (o .built .refusal) 0) (header o) (header o) (zeros o) (eq-eqb _ 0 none) refl
-
--- C's number of a verdict says which it is.
-pub finding-back : (f : Finding) → findingFrom (findingNumber f) ≡ f
-unfolding findingNumber
-finding-back Neither = refl
-finding-back Clear = refl
-finding-back Blocked = refl

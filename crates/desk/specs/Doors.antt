@@ -9,9 +9,6 @@ use Rattle.numbers.specs.Reals.{f0, num}
 use Rattle.grid.specs.Build.{Outcome}
 use Rattle.handed.specs.Handed.{measuresOf, sizesOf}
 use Rattle.ask.specs.declared.Answer.{Answer}
-use Rattle.ask.specs.declared.Ruling.{Ruling}
-use Rattle.ask.specs.declared.Finding.{Finding}
-use Rattle.ask.specs.declared.Finding.the-variants.{Neither, Clear, Blocked}
 use Rattle.ask.specs.Ask as asked
 
 -- An index built: the refusal, the three tables, measures and sizes, and which number was bad; a refusal leaves zeros in measures and sizes, and any outcome
@@ -65,24 +62,3 @@ answerFrom k fs ns ts =
       kind = getD ts 1 0;
       which = getD ts 2 0;
     }
-
--- A chord asked: the refusal, the marks; the verdict's number, the count and the stamp afterwards.
-pub record VerdictLeft : Type 0 where
-  pub refusal : ℕ
-  pub marks : List ℕ
-  pub counts : List ℕ
-
-abbrev pub verdictLeft : ℕ → List ℕ → List ℕ → VerdictLeft
-verdictLeft k ms ns = record { refusal = k; marks = ms; counts = ns }
-
-unfoldable pub verdictLeftBy : asked.Outcome Ruling → VerdictLeft
-verdictLeftBy o =
-    let a = o .answer in
-    verdictLeft (a .refusal) (o .marks) (asked.findingNumber (a .finding) ∷ a .count ∷ a .stamp ∷ [])
-
--- The ruling that C reads off its array: the verdict's number is 1 for clear, 2 for blocked, else there is none.
-abbrev pub findingFrom : ℕ → Finding
-findingFrom n = cond (eqb n 1) Clear (cond (eqb n 2) Blocked Neither)
-
-abbrev pub rulingFrom : ℕ → List ℕ → Ruling
-rulingFrom k ns = record { refusal = k; finding = findingFrom (getD ns 0 0); count = getD ns 1 0; stamp = getD ns 2 0 }

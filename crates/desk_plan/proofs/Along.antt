@@ -20,7 +20,7 @@ use Rattle.plan.specs.declared.Planned.{Planned}
 use Rattle.plan.specs.Plan.{Outcome, outcome, refusedBy, planOf, NeverSeven}
 use Rattle.plan.proofs.Answering.{rung, either-way, planned-seven}
 use Rattle.plan.specs.Lost.{NothingLost}
-use Rattle.desk.specs.Plans.{axisFrom, planAlong, narrowed, planLeft, planLeftBy}
+use Rattle.desk_plan.specs.Plans.{axisFrom, planAlong, narrowed, planLeft, planLeftBy}
 
 module _ (ix : Index) (marks : List ℕ) (levels runs : List Float) (p : Parameters) (axis : ℕ) where
   pub along-x : (o : Outcome) → axis ≡ 0 → o ≡ planOf ix marks levels runs p X → o ≡ planAlong ix marks levels runs p axis

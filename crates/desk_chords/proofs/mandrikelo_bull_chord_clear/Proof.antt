@@ -3,9 +3,9 @@ use Rattle.reach.specs.declared.Chord.{Chord}
 use Rattle.grid.specs.Index.{indexOf}
 use Rattle.chords.specs.Chords.{bullChordOf, BullChordPromise}
 use Rattle.handed.specs.Handed.{headerFrom}
-use Rattle.desk.proofs.Asked.{verdict-told}
-use Rattle.desk.proofs.mandrikelo_bull_chord_clear.Statement.{statement}
-use Rattle.desk.proofs.mandrikelo_bull_chord_clear.Tie as tie
+use Rattle.desk_chords.proofs.Asked.{verdict-told}
+use Rattle.desk_chords.proofs.mandrikelo_bull_chord_clear.Statement.{statement}
+use Rattle.desk_chords.proofs.mandrikelo_bull_chord_clear.Tie as tie
 
 returns : tie.Need-returns
 returns c =

@@ -1,7 +1,7 @@
 use borrow.Author.Needs.{needs}
-use Rattle.desk.proofs.Along.{along-x, along-y, along-none, lost-x, lost-y, lost-none}
-use Rattle.desk.proofs.plan_along.Statement.{statement}
-use Rattle.desk.proofs.plan_along.Tie as tie
+use Rattle.desk_plan.proofs.Along.{along-x, along-y, along-none, lost-x, lost-y, lost-none}
+use Rattle.desk_plan.proofs.plan_along.Statement.{statement}
+use Rattle.desk_plan.proofs.plan_along.Tie as tie
 
 returns : tie.Need-returns
 returns c =

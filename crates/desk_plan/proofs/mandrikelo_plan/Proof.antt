@@ -6,10 +6,10 @@ use Rattle.parameters.specs.declared.Parameters.{Parameters}
 use Rattle.plan.specs.Plan.{outcome}
 use Rattle.plan.specs.Lost.{NothingLost}
 use Rattle.handed.specs.Handed.{headerFrom}
-use Rattle.desk.specs.Plans.{axisFrom, planAlong, planLeftBy}
-use Rattle.desk.proofs.Along.{laid, along-never, lost-laid}
-use Rattle.desk.proofs.mandrikelo_plan.Statement.{statement}
-use Rattle.desk.proofs.mandrikelo_plan.Tie as tie
+use Rattle.desk_plan.specs.Plans.{axisFrom, planAlong, planLeftBy}
+use Rattle.desk_plan.proofs.Along.{laid, along-never, lost-laid}
+use Rattle.desk_plan.proofs.mandrikelo_plan.Statement.{statement}
+use Rattle.desk_plan.proofs.mandrikelo_plan.Tie as tie
 
 returns : tie.Need-returns
 returns c =

@@ -1,7 +1,7 @@
 use borrow.Author.Needs.{needs}
-use Rattle.desk.specs.Plans.{parametersFrom}
-use Rattle.desk.proofs.parameters_from.Statement.{statement}
-use Rattle.desk.proofs.parameters_from.Tie as tie
+use Rattle.desk_plan.specs.Plans.{parametersFrom}
+use Rattle.desk_plan.proofs.parameters_from.Statement.{statement}
+use Rattle.desk_plan.proofs.parameters_from.Tie as tie
 
 returns : tie.Need-returns
 unfolding parametersFrom
