@@ -10,7 +10,7 @@ ghost use Rattle.plane.specs.Contacts.{corner};
 ghost use Rattle.roots.specs.Hypot.{hypotOf};
 ghost use Rattle.capsule.specs.Region.{normalOf, capsuleOf, offerOf, offeredAll, Among, contactOf};
 ghost use Rattle.capsule.specs.Inside.{onTop, Higher, NotAbove, Away, Ordinary, Single, firsts};
-ghost use Rattle.capsule.specs.Candidates.{each, corners, edgeOf, edges, ends, onEdge, reached, circled, sided, sides, crossed, determinantOf, riseOf};
+ghost use Rattle.capsule.specs.Candidates.{each, corners, edgeOf, edges, ends, onEdge, reached, circled, sided, sides, crossed, riseOf};
 ghost use Rattle.capsule.specs.Candidates.{tangents, flank, flanks, places, planeOver, inner, candidates, highestIn, maxInCapsule};
 use plane::Contact;
 use plane::Spot;

@@ -1,7 +1,6 @@
 // Lent tables of five numbers an entry: what levels and runs are written to.
 ghost use mathlib.Core.Path.{_≡_};
 ghost use mathlib.Core.List.{_∷_, []};
-ghost use lib.ListN.{length};
 ghost use Rattle.fives.specs.Tables.{putAt, zeroed};
 
 // Five numbers put as entry m, where there is room for it; the rest of the table stays.

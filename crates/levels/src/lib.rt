@@ -2,14 +2,12 @@
 ghost use mathlib.Core.Path.{_≡_};
 ghost use mathlib.Core.List.{_++_, map};
 ghost use Prim.Native.Nat.{_+_, _*_, _≤_, _<_};
-ghost use lib.ListN.{length, getD, take, drop};
-ghost use Rattle.numbers.specs.Reals.{_⊕_};
-ghost use Rattle.plane.specs.Mesh.{triangleOf};
+ghost use lib.ListN.{length, take, drop};
 ghost use Rattle.plane.specs.Distance.{baryOf};
 ghost use Rattle.fives.specs.Tables.{putAt, written};
 ghost use Rattle.sort.specs.Inside.{Within};
 ghost use Rattle.levels.specs.Flats.{nearTo, evenOf, answers, isFlat, flatsOf};
-ghost use Rattle.levels.specs.Levels.{openedBy, widenedBy, levelsFrom, sortedFlats, listLeft, levelsOf, fiveOf};
+ghost use Rattle.levels.specs.Levels.{openedBy, widenedBy, levelsFrom, listLeft, levelsOf, fiveOf};
 ghost use Rattle.levels.specs.Inside.{listed, gatheredOne, grown, grownBy, levelIn};
 use plane::Bounds;
 use plane::Spot;

@@ -1,7 +1,6 @@
 // Reads one job from standard input and writes its listing to standard output.
 use libc::STDIN_FILENO;
 use libc::STDOUT_FILENO;
-ghost use Prim.Native.Nat.{_≤_};
 ghost use lib.ListN.{length};
 ghost use Rattle.list.specs.Inside.{Within};
 

@@ -1,8 +1,7 @@
 // Moves for the runs of a plan: lift, then for each run approach, descend, plunge, cut, retract and rise. One step gives the next move.
 ghost use mathlib.Core.Path.{_≡_};
 ghost use mathlib.Core.Bool.{true, false};
-ghost use Prim.Native.Nat.{_+_, _*_, _≤_, _<_};
-ghost use lib.ListN.{length};
+ghost use Prim.Native.Nat.{_+_, _*_, _<_};
 ghost use Rattle.fives.specs.Tables.{roomOf};
 ghost use Rattle.moves.specs.Phases.{point, lineOf, legOf, sameOf, phaseNumber, kindNumber, isLift, isEnded};
 ghost use Rattle.moves.specs.Begin.{largest, runsOf, inOrder, areHeights, isRun, areRuns, areIds, refusalOfRuns, refusalOfBegin, stateAt, beginOf};

@@ -2,8 +2,7 @@
 ghost use mathlib.Core.Path.{_≡_};
 ghost use mathlib.Core.List.{map};
 ghost use mathlib.Core.Bool.{true, false};
-ghost use Prim.Native.Nat.{_+_, _*_, _≤_, _<_};
-ghost use lib.ListN.{length};
+ghost use Prim.Native.Nat.{_+_, _≤_};
 ghost use Rattle.grid.specs.Index.{indexOf};
 ghost use Rattle.rows.specs.Stretches.{stretchesOf};
 ghost use Rattle.probe.specs.Probe.{heightUnder, onLevel};

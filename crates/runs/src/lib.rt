@@ -1,7 +1,7 @@
 // Runs: what the run search keeps is joined where it touches and written to a lent table; what it drops is added up.
 ghost use mathlib.Core.Path.{_≡_};
 ghost use mathlib.Core.Bool.{_&&_};
-ghost use Prim.Native.Nat.{_+_, _≤_, _<_};
+ghost use Prim.Native.Nat.{_+_, _<_};
 ghost use mathlib.Core.Bool.{true};
 ghost use Rattle.runs.specs.Runs.{lengthOf, touchesOf, lengthened};
 ghost use Rattle.runs.specs.Pieces.{firstHalf};

@@ -1,6 +1,6 @@
 // The index of a mesh in whole micrometres: a grid over it whose cell is a power of two, and for each cell the triangles that cover it, in two lent tables.
 ghost use mathlib.Core.Path.{_≡_};
-ghost use Prim.Native.Nat.{ℕ, _+_, _*_, _/_, _^_, _<_, _≤_};
+ghost use Prim.Native.Nat.{_+_, _*_, _/_, _^_, _<_, _≤_};
 ghost use lib.ListN.{length};
 ghost use Rattle.cells.specs.Cover.{startsOf, membersTable};
 ghost use Rattle.cells.specs.Inside.{Room, CountedAll, Ready, Filled, Fits};

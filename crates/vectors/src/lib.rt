@@ -1,7 +1,7 @@
 // The lines of the fixed lists that the replay programs read: a letter, then numbers of 16 hex digits each with a blank before them, every NaN written
 // 7ff8000000000000.
 ghost use mathlib.Core.Path.{_≡_};
-ghost use Prim.Native.Nat.{_+_, _*_, _≤_, _<_};
+ghost use Prim.Native.Nat.{_+_, _*_, _≤_};
 ghost use lib.ListN.{length};
 ghost use Rattle.vectors.specs.Lines.{digitOf, hexOf, floatOf, bitsOf, askedOf, triangleOf, unlikeOf, heightsIn, differsFrom};
 use plane::Contact;

@@ -1,6 +1,6 @@
 // What refusal 7 tests of the plan: every cell of the grid and every triangle of the mesh, and no mark.
 ghost use mathlib.Core.Path.{_≡_};
-ghost use Prim.Native.Nat.{_+_, _*_, _/_, _≤_, _<_};
+ghost use Prim.Native.Nat.{_+_, _*_, _/_, _<_};
 ghost use lib.Dec.{ltb};
 ghost use lib.ListN.{length};
 ghost use Rattle.grid.specs.Index.{indexOf};
