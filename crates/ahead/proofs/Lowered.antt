@@ -1,5 +1,5 @@
 -- What lies a margin under a height has no contact above it: the cutter's height over its tip is nowhere below 0, so no candidate is above a point of the triangle.
-use mathlib.Core.Bool.{Bool, true, false, cond}
+use mathlib.Core.Bool.{true, false, cond}
 use mathlib.Core.Logic.{_⊎_, inl, inr}
 use mathlib.Core.Path.{_≡_, refl, ap, sym, _∙_}
 use lib.Dec.{T}

@@ -1,6 +1,6 @@
 -- A triangle that passes the test has the same contact on top of `from`, whatever lower best so far its candidates are taken beside; and none there where its top is not above.
-use mathlib.Core.Bool.{Bool, true, false}
-use mathlib.Core.Path.{_≡_, refl}
+use mathlib.Core.Bool.{true, false}
+use mathlib.Core.Path.{_≡_}
 use lib.Dec.{T}
 use lib.Ieee.{Float, binary64, lt, le, fits, isNan}
 use lib.Ieee.Bits.{is-true}

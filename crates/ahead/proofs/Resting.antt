@@ -13,7 +13,7 @@ use lib.Ieee.Positive.{den, den-pos, num, positive}
 use lib.Ieee.Scale.{finite}
 use Rattle.numbers.specs.Reals.{_⊕_, _⊖_, _⊗_, _⊘_, f0, f1, noSlope, million-is}
 use Rattle.roots.specs.Root.{rootOf, rootOfUnits, nearestRoot, wholeRoot}
-use Rattle.rules.proofs.Branches.{either, no}
+use Rattle.rules.proofs.Branches.{either}
 use Rattle.cutters.specs.declared.Gradient.{Gradient}
 use Rattle.cutters.specs.declared.Rest.{Rest}
 use Rattle.cutters.specs.Touch.{restOf}

@@ -1,11 +1,10 @@
 -- The contact of one triangle on top of `from` is the same whether the floor is `from` or lies under it, where no edge has its higher end under `from` and its tip above.
-use mathlib.Core.Bool.{Bool, true, false}
+use mathlib.Core.Bool.{true, false}
 use mathlib.Core.Path.{_≡_, refl, ap, sym, _∙_, subst}
-use lib.Dec.{T}
 use lib.Ieee.{Float, inf, lt, le, div, isNan, ofBits}
 use lib.Ieee.Bits.{is-true}
 use Rattle.numbers.specs.Reals.{maxOf}
-use Rattle.rules.proofs.Branches.{left, either, by-test, no, holds}
+use Rattle.rules.proofs.Branches.{either, by-test, no, holds}
 use Rattle.golden.specs.Upper.{minusInfinity}
 use Rattle.plane.specs.declared.Touch.{Touch}
 use Rattle.plane.specs.declared.Triangle.{Triangle}

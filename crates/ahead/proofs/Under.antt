@@ -15,7 +15,7 @@ use Rattle.plane.specs.declared.Spot.{Spot}
 use Rattle.plane.specs.declared.Spot.the-variants.{Nowhere, At}
 use Rattle.plane.specs.declared.Contact.{Contact}
 use Rattle.plane.specs.declared.Contact.the-variants.{Nothing, Height}
-use Rattle.plane.specs.Contacts.{corner, edge, face, exceedsOf}
+use Rattle.plane.specs.Contacts.{corner, face, exceedsOf}
 use Rattle.plane.specs.Distance.{baryOf, atLeast}
 use Rattle.cutters.specs.declared.Edge.{Edge}
 use Rattle.cutters.specs.declared.Facing.{Facing}

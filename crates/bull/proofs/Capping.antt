@@ -1,10 +1,10 @@
 -- No place of an edge from lo to hi gives a tip above the cap. So an edge whose cap is at most the best so far does not change it, and where the cap is at most the larger of the two
 -- ends' values the search finds that.
-use mathlib.Core.Bool.{Bool, true, false, cond}
-use mathlib.Core.Path.{_≡_, refl, ap, sym, _∙_, subst}
+use mathlib.Core.Bool.{true, false}
+use mathlib.Core.Path.{_≡_, sym, subst}
 use Prim.Native.Nat.{ℕ}
 use lib.Dec.{T}
-use lib.Ieee.{Float, nan, inf, fin, binary64, div, lt, le, eq, fits, isNan, ofBits}
+use lib.Ieee.{Float, binary64, div, lt, le, eq, fits, ofBits}
 use lib.Ieee.Scale.{finite}
 use lib.Ieee.Bits.{is-true}
 use Rattle.numbers.specs.Reals.{_⊖_, _⊘_, f0, minOf, maxOf}
@@ -16,7 +16,7 @@ use Rattle.above.specs.Inside.{limitOf}
 use Rattle.above.proofs.Above.{stays-under}
 use Rattle.golden.specs.Search.{goldenMax}
 use Rattle.cutters.specs.declared.Edge.{Edge}
-use Rattle.cutters.specs.Touch.{along, distanceAt}
+use Rattle.cutters.specs.Touch.{distanceAt}
 use Rattle.order.proofs.Ranges.{finite-between, sub-mono}
 use Rattle.order.proofs.Extremes.{min-either, min-second, min-up}
 use Rattle.order.proofs.Order.{O, le-trans, sub-turns}

@@ -1,7 +1,7 @@
 -- Where the square of a distance is at most that of the flat part's radius, the profile is 0.
-use mathlib.Core.Bool.{Bool, true, false, cond}
-use mathlib.Core.Path.{_≡_, refl}
-use Prim.Native.Nat.{ℕ, _+_, _*_}
+use mathlib.Core.Bool.{true}
+use mathlib.Core.Path.{_≡_}
+use Prim.Native.Nat.{_+_, _*_}
 use native.Mathlib.Nat.{mul-pos, mul-one, zero-mul}
 use native.Mathlib.Omega.{arith}
 use lib.Dec.{T}
@@ -9,7 +9,6 @@ use lib.Ieee.{Float, binary64, lt, le, eq, ofBits}
 use lib.Ieee.Scale.{finite}
 use lib.Ieee.Positive.{den, den-pos}
 use lib.Ieee.Bits.{is-true}
-use Rattle.rules.proofs.Branches.{holds}
 use Rattle.numbers.specs.Reals.{_⊕_, _⊖_, _⊗_, f0, minus1, minOf, f0-is}
 use Rattle.roots.specs.Hypot.{hypotOf}
 use Rattle.plane.specs.Ranges.{isRadius}

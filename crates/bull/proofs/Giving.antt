@@ -13,8 +13,7 @@ use Rattle.caps.proofs.Narrow.{found-last}
 use Rattle.caps.proofs.Beside.{same-beside, ends-beside}
 use Rattle.bull.specs.declared.Bull.{Bull}
 use Rattle.bull.specs.declared.Way.{Way}
-use Rattle.bull.specs.Bull.{bullAt}
-use Rattle.bull.specs.Inside.{baseOf, capOf, wayOf, wayAt, Begun}
+use Rattle.bull.specs.Inside.{baseOf, capOf, wayAt, Begun}
 use Rattle.bull.proofs.Capping.{ordered, capped}
 use Rattle.bull.proofs.Taking.{way-at}
 

@@ -1,14 +1,14 @@
 -- The candidates of a cutter that go on from the floor: the edges that the floor leaves out are the same, since a best so far that is the floor does not raise the larger of the two.
-use mathlib.Core.Bool.{Bool, true, false, cond}
+use mathlib.Core.Bool.{true, false}
 use mathlib.Core.Path.{_≡_, refl, ap, sym, _∙_}
 use lib.Ieee.{Float, nan, inf, fin, lt, le, isNan, div, ofBits}
 use Rattle.numbers.specs.Reals.{maxOf}
-use Rattle.rules.proofs.Branches.{by-test, no}
+use Rattle.rules.proofs.Branches.{by-test}
 use Rattle.plane.specs.declared.Touch.{Touch}
 use Rattle.plane.specs.declared.Triangle.{Triangle}
 use Rattle.plane.specs.declared.Contact.{Contact}
 use Rattle.plane.specs.declared.Contact.the-variants.{Nothing, Height}
-use Rattle.plane.specs.Contacts.{exceedsOf, takeOf}
+use Rattle.plane.specs.Contacts.{exceedsOf}
 use Rattle.above.specs.Above.{offerOf, soFar}
 use Rattle.above.proofs.Above.{takes, waits, offers}
 use Rattle.golden.specs.Upper.{minusInfinity}

@@ -1,20 +1,17 @@
 -- Beyond the flat part the profile grows with the distance, as it is computed.
-use mathlib.Core.Bool.{Bool, true, false, cond, _||_}
-use mathlib.Core.Path.{_≡_, refl, ap, sym, _∙_}
-use Prim.Native.Nat.{ℕ}
-use native.Mathlib.Omega.{arith}
+use mathlib.Core.Bool.{Bool, true, false, _||_}
+use mathlib.Core.Path.{_≡_, refl, sym, _∙_}
 use lib.Dec.{T}
-use lib.IntN.{pos}
-use lib.Ieee.{Float, fin, binary64, sum, round, add, sub, mul, neg, lt, le, eq, fits, ofBits}
+use lib.Ieee.{Float, binary64, sum, round, add, sub, mul, neg, lt, le, eq, fits, ofBits}
 use lib.Ieee.Fits.{sub-fits, mul-fits}
 use lib.Ieee.Scale.{finite}
 use lib.Ieee.Bits.{is-true}
-use Rattle.numbers.specs.Reals.{_⊕_, _⊖_, _⊗_, f0, maxOf}
+use Rattle.numbers.specs.Reals.{_⊖_, _⊗_, f0, maxOf}
 use Rattle.roots.specs.Root.{rootOf}
 use Rattle.rules.proofs.Branches.{left, no, by-test}
 use Rattle.order.proofs.Ranges.{finite-between, sub-mono}
 use Rattle.plane.proofs.Ranges.{two, minus-two}
-use Rattle.order.proofs.Extremes.{either-of, le-self, not-below, max-least, max-up}
+use Rattle.order.proofs.Extremes.{either-of, not-below, max-least, max-up}
 use Rattle.order.proofs.Order.{O, le-trans, sub-turns, square-up}
 use Rattle.order.proofs.Roots.{root-finite, root-le}
 use Rattle.bound.proofs.Small.{M, small-up, small-finite, small-sub, small-range, square-nonneg, square-small, square-limit, square-finite, root-limit}

@@ -1,17 +1,16 @@
 -- A block's height less the profile at its least distance from the strip is an upper bound of the tip's height over all that lies in it, wherever on the strip the axis stands.
 use mathlib.Core.Bool.{Bool, true, false, cond}
-use mathlib.Core.Path.{_≡_, refl, ap, sym, _∙_}
+use mathlib.Core.Path.{_≡_, refl, sym, _∙_}
 use native.Mathlib.Nat.{zero-mul, mul-one}
 use native.Mathlib.Omega.{arith}
 use native.Mathlib.Nat.{mul-pos}
-use Prim.Native.Nat.{ℕ, _+_, _*_, _≤_}
+use Prim.Native.Nat.{_+_, _*_, _≤_}
 use lib.Dec.{T}
-use lib.IntN.{pos}
-use lib.Ieee.{Float, fin, binary64, sum, round, add, sub, mul, neg, lt, le, fits, ofBits}
+use lib.Ieee.{Float, binary64, sum, round, add, sub, mul, neg, lt, le, fits, ofBits}
 use lib.Ieee.Fits.{sub-fits, mul-fits}
 use lib.Ieee.Scale.{finite}
 use lib.Ieee.Positive.{den, den-pos}
-use Rattle.numbers.specs.Reals.{_⊕_, _⊖_, _⊗_, f0, minOf, maxOf, f0-is}
+use Rattle.numbers.specs.Reals.{_⊖_, _⊗_, f0, minOf, maxOf, f0-is}
 use Rattle.roots.specs.Root.{rootOf}
 use Rattle.roots.specs.Hypot.{countOf, hypotOf}
 use Rattle.rules.proofs.Branches.{either, left, taken, no, both-true, by-test, holds}
@@ -20,14 +19,14 @@ use Rattle.plane.specs.Ranges.{isCoordinate}
 use Rattle.order.proofs.Signed.{upper, lower, is-le, is-sub}
 use Rattle.order.proofs.Ranges.{finite-between, sub-mono, zero-is}
 use Rattle.plane.proofs.Ranges.{two, minus-two}
-use Rattle.order.proofs.Extremes.{either-of, le-self, not-below, max-least, min-either, lt-le, min-second, min-up}
+use Rattle.order.proofs.Extremes.{either-of, le-self, not-below, max-least, min-either, min-second, min-up}
 use Rattle.bound.specs.Inside.{nearerOf}
 use Rattle.order.proofs.Order.{O, le-trans, sub-turns, square-up, own}
 use Rattle.order.proofs.Roots.{root-finite, root-le, distance-low}
 use Rattle.bound.proofs.Along.{nearest-count, sub-parts}
 use Rattle.bound.proofs.Small.{M, Small, small, small-finite, small-up, small-sub, small-range, small-radius, small-distance, square-nonneg, square-finite}
 use Rattle.bull.specs.Bull.{bullProfile}
-use Rattle.bull.proofs.Profile.{profile-finite, profile-finite′, profile-up}
+use Rattle.bull.proofs.Profile.{profile-finite, profile-up}
 use Rattle.bull_pass.specs.declared.Strip.{Strip}
 use Rattle.bull_pass.specs.declared.Block.{Block}
 use Rattle.bull_pass.specs.Inside.{cutterFair, sideTame, tameOf, leastOf, loweredOf, underOf}

@@ -1,29 +1,24 @@
 -- Where a weight is below -1e-12 at all places of a box, none of them is on the triangle, so the facet has no candidate.
 use mathlib.Core.Bool.{Bool, true, false, cond, _&&_}
 use mathlib.Core.Logic.{_⊎_, inl, inr}
-use mathlib.Core.Path.{_≡_, refl, ap, sym, _∙_}
-use native.Mathlib.Omega.{arith}
+use mathlib.Core.Path.{_≡_, refl, sym}
 use lib.Dec.{T}
-use lib.Ieee.{Float, nan, inf, fin, binary64, add, sub, mul, div, neg, lt, le, eq, ofBits}
+use lib.Ieee.{Float, nan, inf, fin, binary64, neg, lt, le, eq, ofBits}
 use lib.Ieee.Scale.{finite}
 use lib.Ieee.Positive.{positive}
-use Rattle.numbers.specs.Reals.{_⊕_, _⊖_, _⊗_, _⊘_, f0, f1, tiny, minusSlack, noSlope, absOf, minOf, maxOf}
+use Rattle.numbers.specs.Reals.{_⊕_, _⊖_, _⊗_, _⊘_, f1, tiny, minusSlack, noSlope, absOf, minOf, maxOf}
 use Rattle.roots.specs.Root.{rootOf}
-use Rattle.rules.proofs.Branches.{either, both-true, no, by-test, holds}
+use Rattle.rules.proofs.Branches.{both-true, no, by-test}
 use Rattle.plane.specs.declared.Triangle.{Triangle}
-use Rattle.plane.specs.declared.Weights.{Weights}
-use Rattle.plane.specs.declared.Contact.{Contact}
-use Rattle.plane.specs.declared.Contact.the-variants.{Nothing, Height}
-use Rattle.plane.specs.declared.Spot.{Spot}
-use Rattle.plane.specs.declared.Spot.the-variants.{Nowhere, At}
+use Rattle.plane.specs.declared.Contact.the-variants.{Nothing}
 use Rattle.plane.specs.Distance.{baryOf, atLeast}
 use Rattle.cutters.specs.declared.Gradient.{Gradient}
 use Rattle.cutters.specs.declared.Rest.{Rest}
-use Rattle.cutters.specs.Touch.{weighedOf, spotHeight, facetHeight, restOf}
+use Rattle.cutters.specs.Touch.{weighedOf, spotHeight, restOf}
 use Rattle.plane.specs.Ranges.{isCoordinate}
 use Rattle.order.proofs.Ranges.{finite-between, sub-mono}
 use Rattle.order.proofs.Extremes.{either-of, not-below, above-finite, min-either}
-use Rattle.order.proofs.Order.{O, le-trans, sub-turns, add-left}
+use Rattle.order.proofs.Order.{le-trans, sub-turns, add-left}
 use Rattle.bound.proofs.Along.{Between, add-parts, sub-parts}
 use Rattle.bound.proofs.Small.{Small, small, small-finite, small-sub}
 use Rattle.bull.specs.declared.Bull.{Bull}

@@ -1,40 +1,34 @@
 -- Where the boxes say that the cutter passes, no contact on that part of the chord, lifted, stands above the tip.
-use mathlib.Core.Bool.{Bool, true, false, cond, _&&_}
-use mathlib.Core.Path.{_≡_, refl, ap, sym, _∙_, subst}
+use mathlib.Core.Bool.{Bool, true, false, cond}
+use mathlib.Core.Path.{_≡_, refl, sym, _∙_, subst}
 use Prim.Native.Nat.{ℕ, zero, suc}
-use native.Mathlib.Omega.{arith}
 use lib.Dec.{T}
-use lib.IntN.{pos}
-use lib.Ieee.{Float, nan, inf, fin, binary64, add, sub, mul, div, neg, lt, le, eq, fits, isNan, ofBits}
+use lib.Ieee.{Float, nan, inf, fin, binary64, add, sub, div, neg, lt, le, eq, fits, isNan, ofBits}
 use lib.Ieee.Fits.{div-fits}
 use lib.Ieee.Scale.{finite}
 use Rattle.numbers.specs.Reals.{_⊕_, _⊖_, _⊗_, _⊘_, f0, f1, f2, f4, minOf, maxOf, f0-is, f1-is}
 use Rattle.roots.specs.Root.{rootOf}
 use Rattle.roots.specs.Hypot.{hypotOf}
-use Rattle.rules.proofs.Branches.{either, left, taken, no, both-true, by-test, holds}
+use Rattle.rules.proofs.Branches.{either, left, no, both-true, by-test, holds}
 use Rattle.plane.specs.declared.Triangle.{Triangle}
 use Rattle.plane.specs.declared.Touch.{Touch}
 use Rattle.plane.specs.declared.Contact.{Contact}
 use Rattle.plane.specs.declared.Contact.the-variants.{Nothing, Height}
 use Rattle.plane.specs.Contacts.{exceedsOf, takeOf}
-use Rattle.golden.specs.Search.{goldenMax}
 use Rattle.golden.specs.Upper.{minusInfinity}
 use Rattle.cutters.specs.declared.Edge.{Edge}
-use Rattle.cutters.specs.declared.Stretch.{Stretch}
 use Rattle.cutters.specs.declared.Stretch.the-variants.{Nowhere, Between as Part}
 use Rattle.cutters.specs.declared.Facing.{Facing}
 use Rattle.cutters.specs.declared.Facing.the-variants.{Upright, Leaning}
-use Rattle.cutters.specs.declared.Gradient.{Gradient}
 use Rattle.above.specs.Above.{offerOf}
 use Rattle.cutters.specs.Touch.{edgeAb, edgeBc, edgeCa, along, distanceAt, length2, crossedOf, reachedOf, facingOf, facetHeight}
-use Rattle.plane.specs.Ranges.{isCoordinate}
-use Rattle.order.proofs.Ranges.{finite-between, sub-mono}
+use Rattle.order.proofs.Ranges.{sub-mono}
 use Rattle.order.proofs.Extremes.{either-of, le-self, not-below, min-either, lt-le, not-above, le-not-nan}
 use Rattle.order.proofs.Order.{O, le-trans, sub-turns, add-left}
 use Rattle.bound.proofs.Unit.{I, Unit, unit-finite}
 use Rattle.bound.proofs.Held.{max-under}
 use Rattle.bound.proofs.Along.{Between, sub-parts, add-parts}
-use Rattle.bound.proofs.Small.{Small, small, small-finite}
+use Rattle.bound.proofs.Small.{small, small-finite}
 use Rattle.bull.specs.declared.Bull.{Bull}
 use Rattle.bull.specs.Bull.{bullProfile, bullOver, bullVertex, bullVertices, bullAt, bullStretch, tooLow, bullEdge, bullEdges, bullRest, bullFacet, bullContactAbove, bullContact}
 use Rattle.reach.specs.declared.Chord.{Chord}

@@ -1,13 +1,12 @@
 -- What operations make of numbers that lie between two others.
 use mathlib.Core.Bool.{Bool, true, false, cond}
 use mathlib.Core.Logic.{_⊎_, inl, inr}
-use mathlib.Core.Path.{_≡_, refl, ap, sym, _∙_, subst}
+use mathlib.Core.Path.{_≡_, refl, sym, _∙_}
 use lib.Dec.{T, eqb}
-use lib.IntN.{pos}
-use lib.Ieee.{Float, nan, inf, fin, binary64, unlike, add, sub, mul, div, neg, lt, le}
+use lib.Ieee.{Float, nan, inf, fin, binary64, unlike, mul, div, neg, lt, le}
 use lib.Ieee.Scale.{finite}
 use lib.Ieee.Positive.{positive}
-use Rattle.numbers.specs.Reals.{_⊕_, _⊖_, _⊗_, _⊘_, minOf, maxOf}
+use Rattle.numbers.specs.Reals.{_⊖_, _⊗_, _⊘_}
 use Rattle.rules.proofs.Branches.{no, by-test}
 use Rattle.order.proofs.Ranges.{finite-between, sub-mono, div-up}
 use Rattle.order.proofs.Extremes.{not-below, lt-le, not-above}

@@ -1,6 +1,6 @@
 -- When a bull-nose cutter surely passes over a triangle on a part of a chord. No answer is defined here: where this says so, no contact there, lifted, stands
 -- above the tip, which proofs/Passing shows; where it does not, the search decides.
-use mathlib.Core.Bool.{Bool, true, false, cond, _&&_, _||_}
+use mathlib.Core.Bool.{Bool, true, false, cond, _&&_}
 use Prim.Native.Nat.{ℕ, zero, suc}
 use lib.Ieee.{Float, lt, le}
 use Rattle.numbers.specs.Reals.{_⊕_, _⊖_, _⊗_, _⊘_, f0, f1, f2, minusSlack, maxOf, minOf}

@@ -1,11 +1,11 @@
 -- A search given up beside a contact: where no value that it can still find is taken there, the larger end's value is as good as what it would have found.
-use mathlib.Core.Bool.{Bool, true, false, cond}
+use mathlib.Core.Bool.{true, false}
 use mathlib.Core.Path.{_≡_, refl, ap, sym, _∙_, subst}
 use Prim.Native.Nat.{ℕ, _≤_}
 use lib.Dec.{T}
 use lib.Ieee.{Float, nan, inf, fin, binary64, add, div, lt, le, eq, isNan, ofBits}
-use Rattle.numbers.specs.Reals.{_⊕_, _⊘_, f0, maxOf}
-use Rattle.rules.proofs.Branches.{by-test, no, holds}
+use Rattle.numbers.specs.Reals.{_⊕_, maxOf}
+use Rattle.rules.proofs.Branches.{no, holds}
 use Rattle.plane.specs.declared.Touch.{Touch}
 use Rattle.plane.specs.declared.Contact.{Contact}
 use Rattle.plane.specs.declared.Contact.the-variants.{Nothing, Height}

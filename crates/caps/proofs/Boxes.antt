@@ -1,26 +1,23 @@
 -- An edge from lo to hi: its heights are at most the higher of the two at lo and hi, and its distances at least that of its box.
-use mathlib.Core.Bool.{Bool, true, false, cond, _&&_}
-use mathlib.Core.Path.{_≡_, refl, ap, sym, _∙_}
-use Prim.Native.Nat.{ℕ, _≤_}
+use mathlib.Core.Bool.{true}
+use mathlib.Core.Path.{_≡_}
+use Prim.Native.Nat.{_≤_}
 use lib.Dec.{T}
-use lib.IntN.{pos}
-use lib.Ieee.{Float, fin, binary64, lt, le, fits, ofBits}
+use lib.Ieee.{Float, binary64, le, fits}
 use lib.Ieee.Scale.{finite}
-use Rattle.numbers.specs.Reals.{_⊖_, f0, f1, minOf, maxOf, f0-is, f1-is}
-use Rattle.roots.specs.Hypot.{countOf, hypotOf}
+use Rattle.numbers.specs.Reals.{_⊖_, f0, f1, f0-is, f1-is}
+use Rattle.roots.specs.Hypot.{countOf}
 use Rattle.rules.proofs.Branches.{both-true, holds}
 use Rattle.roots.proofs.Distances.{hypot-counts}
 use Rattle.cutters.specs.declared.Edge.{Edge}
-use Rattle.cutters.specs.Touch.{along, distanceAt}
-use Rattle.plane.specs.Ranges.{isCoordinate}
+use Rattle.cutters.specs.Touch.{distanceAt}
 use Rattle.order.proofs.Ranges.{finite-between}
 use Rattle.order.proofs.Extremes.{either-of}
-use Rattle.bound.specs.Inside.{nearerOf}
 use Rattle.order.proofs.Order.{O, le-trans}
 use Rattle.order.proofs.Roots.{distance-low}
 use Rattle.bound.proofs.Unit.{I, Unit, unit-finite}
 use Rattle.bound.proofs.Along.{Between, at, sub-parts, along-on, side-on, nearest-below, nearest-fine}
-use Rattle.bound.proofs.Small.{M, M′, Small, small, small-finite, small-between, small-distance}
+use Rattle.bound.proofs.Small.{Small, small, small-finite, small-between, small-distance}
 use Rattle.caps.specs.Inside.{highOn, sideOn, leastOn, sideTame, inOrder, tameOn}
 use Rattle.caps.proofs.Bracket.{In}
 

@@ -1,5 +1,5 @@
 -- A height less a drop, beside a limit, whatever the height.
-use mathlib.Core.Bool.{Bool, true, false}
+use mathlib.Core.Bool.{Bool, true}
 use mathlib.Core.Path.{_≡_, refl, sym, _∙_, subst}
 use lib.Dec.{T}
 use lib.Ieee.{Float, nan, inf, fin, binary64, sub, neg, add, lt, le, eq, isNan}

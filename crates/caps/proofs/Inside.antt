@@ -1,9 +1,9 @@
 -- A search on lo..hi looks at the objective at numbers from lo to hi alone, so what holds of each value there holds of the largest that it finds.
-use mathlib.Core.Bool.{Bool, true, false, cond}
+use mathlib.Core.Bool.{Bool, true, false}
 use mathlib.Core.Path.{_≡_, refl, ap, sym, _∙_, subst}
 use Prim.Native.Nat.{ℕ, zero, suc}
 use lib.Dec.{T}
-use lib.Ieee.{Float, lt, le, isNan}
+use lib.Ieee.{Float, le}
 use Rattle.numbers.specs.Reals.{maxOf}
 use Rattle.golden.specs.declared.Golden.{Golden}
 use Rattle.golden.specs.Search.{rises, probeOf, narrowedOf, startOf, goldenStart, goldenStep, goldenAt, bestOf, goldenMax}

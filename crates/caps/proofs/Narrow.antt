@@ -12,7 +12,7 @@ use Rattle.golden.specs.declared.Golden.{Golden}
 use Rattle.golden.specs.Search.{rises, probeOf, narrowedOf, startOf, goldenStart, goldenStep, goldenAt, bestOf, goldenMax}
 use Rattle.order.proofs.Order.{O, le-trans}
 use Rattle.order.proofs.Extremes.{lt-le}
-use Rattle.bound.proofs.Unit.{I, Unit}
+use Rattle.bound.proofs.Unit.{I}
 use Rattle.caps.specs.Inside.{InnerOf}
 use Rattle.caps.proofs.Bracket.{In}
 use Rattle.caps.proofs.Inside.{Stays, narrows, found-in, found-ends, low-in, high-in}

@@ -1,18 +1,16 @@
 -- Where a search looks: a stretch of an edge is none, or lies from 0 to 1.
-use mathlib.Core.Bool.{Bool, true, false, cond}
-use mathlib.Core.Path.{_≡_, refl, ap, sym, _∙_, subst}
+use mathlib.Core.Bool.{true, false, cond}
+use mathlib.Core.Path.{_≡_, refl, sym}
 use lib.Dec.{T}
 use lib.Ieee.{Float, nan, inf, fin, binary64, neg, lt, le, eq, fits, isNan, ofBits}
 use lib.Ieee.Fits.{div-fits}
-use lib.Ieee.Scale.{finite}
-use Rattle.numbers.specs.Reals.{_⊕_, _⊖_, _⊗_, _⊘_, f0, f1, f2, f4, maxOf, minOf, f0-is, f1-is}
-use Rattle.roots.specs.Root.{rootOf}
-use Rattle.rules.proofs.Branches.{either, by-test, no}
+use Rattle.numbers.specs.Reals.{_⊕_, _⊖_, _⊗_, _⊘_, f0, f1, f2, maxOf, minOf, f0-is, f1-is}
+use Rattle.rules.proofs.Branches.{either, no}
 use Rattle.cutters.specs.declared.Edge.{Edge}
 use Rattle.cutters.specs.declared.Stretch.{Stretch}
 use Rattle.cutters.specs.declared.Stretch.the-variants.{Nowhere, Between}
 use Rattle.cutters.specs.Touch.{length2, crossedOf, reachedOf}
-use Rattle.order.proofs.Extremes.{either-of, not-below, lt-le}
+use Rattle.order.proofs.Extremes.{either-of, not-below}
 use Rattle.order.proofs.Order.{O, le-trans}
 use Rattle.bound.proofs.Unit.{I, Unit}
 

@@ -3,7 +3,7 @@ use mathlib.Core.Bool.{Bool, true, cond, _&&_}
 use mathlib.Core.Path.{_≡_}
 use lib.Dec.{T}
 use lib.Ieee.{Float, binary64, ofBits, le, fits}
-use Rattle.numbers.specs.Reals.{_⊕_, _⊖_, _⊗_, f0, f1, minOf, maxOf}
+use Rattle.numbers.specs.Reals.{_⊖_, f0, f1, minOf, maxOf}
 use Rattle.roots.specs.Hypot.{hypotOf}
 use Rattle.plane.specs.declared.Touch.{Touch}
 use Rattle.plane.specs.declared.Contact.{Contact}

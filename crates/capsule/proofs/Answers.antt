@@ -1,5 +1,5 @@
 -- Whatever the points of a list make of no contact is the height of one of them.
-use mathlib.Core.Bool.{Bool, true, false, cond}
+use mathlib.Core.Bool.{true}
 use mathlib.Core.List.{List, [], _∷_, List·Memᴰ, List·Memᴰ·head, List·Memᴰ·tail}
 use mathlib.Core.Path.{_≡_, refl}
 use Rattle.rules.proofs.Branches.{either}

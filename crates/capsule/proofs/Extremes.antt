@@ -1,21 +1,19 @@
 -- The extreme points of the capsule, one by one, and the point of a triangle over each.
 use mathlib.Core.Bool.{Bool, true, false, cond}
-use mathlib.Core.List.{List, [], _∷_, _++_}
+use mathlib.Core.List.{[], _++_}
 use mathlib.Core.Path.{_≡_, refl, sym, ap, _∙_}
 use Prim.Native.Nat.{ℕ, _-_, _<_, _≤_}
 use native.Mathlib.Omega.{arith}
-use lib.Ieee.{Float, lt}
+use lib.Ieee.{lt}
 use lib.ListN.{length, getD}
 use Rattle.numbers.specs.Reals.{f0, tiny, minusSlack, absOf}
 use Rattle.plane.specs.declared.Triangle.{Triangle}
 use Rattle.plane.specs.declared.Weights.{Weights}
 use Rattle.plane.specs.declared.Contact.{Contact}
-use Rattle.plane.specs.declared.Spot.{Spot}
 use Rattle.plane.specs.declared.Spot.the-variants.{Nowhere, At}
 use Rattle.plane.specs.Distance.{baryOf, atLeast}
 use Rattle.capsule.specs.declared.Capsule.{Capsule}
 use Rattle.capsule.specs.declared.Place.{Place}
-use Rattle.capsule.specs.declared.Point.{Point}
 use Rattle.capsule.specs.declared.Rise.{Rise}
 use Rattle.capsule.specs.Region.{offerOf, offeredAll}
 use Rattle.capsule.specs.Candidates.{each, ends, determinantOf, riseOf, tangents, flanks, places, pointOver, raised, planeOver, inner}

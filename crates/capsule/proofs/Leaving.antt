@@ -1,8 +1,8 @@
 -- Candidates that change nothing: what is not higher than the best so far, a point offered before, a way of no length.
-use mathlib.Core.Bool.{Bool, true, false, not, cond, _&&_, _||_, Bool·beq}
+use mathlib.Core.Bool.{Bool, true, false, cond, _||_, Bool·beq}
 use mathlib.Core.List.{List, [], _∷_, _++_}
 use mathlib.Core.Path.{_≡_, refl, sym, ap, _∙_, subst}
-use Prim.Native.Nat.{ℕ, _+_, _*_, _/_, _^_}
+use Prim.Native.Nat.{_+_, _*_, _^_}
 use native.Mathlib.Nat.{zero-mul, mul-one, zero-div}
 use native.Mathlib.Omega.{arith}
 use borrow.Author.Tests.{eqb-true, not-false}
@@ -23,7 +23,6 @@ use Rattle.plane.specs.declared.Touch.{Touch}
 use Rattle.plane.specs.declared.Triangle.{Triangle}
 use Rattle.plane.specs.declared.Contact.{Contact}
 use Rattle.plane.specs.declared.Contact.the-variants.{Nothing, Height}
-use Rattle.plane.specs.Contacts.{takeOf}
 use Rattle.above.specs.Above as above
 use Rattle.above.specs.Inside.{limitOf}
 use Rattle.above.proofs.Above.{goes-on, stays-under}
@@ -37,7 +36,6 @@ use Rattle.capsule.specs.Region.{inCapsule, offerOf, offeredAll}
 use Rattle.capsule.specs.Candidates.{each, cornerA, cornerB, cornerC, corners, edgeOf, edges, onEdge, pointOn, reached, squared, solved, circled, ends, sided, sides, crossed, tangents, flank, flanks, places, candidates, highestIn}
 use Rattle.capsule.specs.Inside.{onTop, Higher, NotAbove, Outside, Away, Ordinary, centre, Single, firsts}
 use Rattle.capsule.proofs.Gathering.{offeredAll-append, both}
-use Rattle.capsule.proofs.Equal.{place}
 use Rattle.capsule.proofs.Again.{Held, held-on, held-now, held-same}
 
 -- ---- candidates on top of a best so far give what their contact gives on top of it

@@ -1,7 +1,7 @@
 -- Document 01, the row of `max_in_capsule`: the points of a triangle where its height can peak in the capsule. The height is linear, so it peaks at a corner,
 -- where an edge crosses the capsule's boundary, or inside the triangle at an extreme point of the capsule. In the order of the Rust. Each carries what it
 -- touches: a corner its number, a crossing its edge's, and all inner points the face.
-use mathlib.Core.Bool.{Bool, true, false, cond, _&&_}
+use mathlib.Core.Bool.{Bool, cond, _&&_}
 use mathlib.Core.List.{List, [], _∷_, _++_}
 use Prim.Native.Nat.{ℕ}
 use lib.Ieee.{Float, lt, le, ne, neg}

@@ -1,6 +1,6 @@
 -- Document 01, rows `bull_contact` and `section_contact`: what the contacts of round cutters share. A round cutter that stands over a triangle rests on a
 -- vertex, on an edge or on the facet; each is a candidate, none or a height with its touch, and the candidates are taken in this order.
-use mathlib.Core.Bool.{Bool, true, false, cond}
+use mathlib.Core.Bool.{cond}
 use lib.Ieee.{Float, lt, le, neg}
 use Rattle.numbers.specs.Reals.{_⊕_, _⊖_, _⊗_, _⊘_, f0, f1, f2, f4, tiny, minusSlack, maxOf, minOf, absOf}
 use Rattle.roots.specs.Root.{rootOf}

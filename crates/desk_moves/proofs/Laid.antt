@@ -15,7 +15,7 @@ use Rattle.moves.specs.declared.Step.the-variants.{Nothing}
 use Rattle.moves.specs.declared.Stepped.{Stepped}
 use Rattle.moves.specs.declared.Phase.{Phase}
 use Rattle.moves.specs.declared.Phase.the-variants.{Lift, Approach, Descend, Plunge, Cut, Retract, Rise, Ended}
-use Rattle.moves.specs.Phases.{point, phaseNumber}
+use Rattle.moves.specs.Phases.{phaseNumber}
 use Rattle.moves.specs.Begin.{beginOf}
 use Rattle.moves.specs.Next.{stepped, nextOf}
 use Rattle.moves.specs.Laws.{Followed}

@@ -1,6 +1,5 @@
 -- The length rule of a file: a head, n entries of one size and then m of another (none, where a file has one kind of entry).
 use mathlib.Core.Bool.{cond}
-use mathlib.Core.Path.{_≡_}
 use Prim.Native.Nat.{ℕ, _+_, _-_, _*_, _/_, _≤_, _<_, min}
 use lib.Dec.{ltb}
 use Rattle.fields.specs.declared.Shape.{Shape}

@@ -1,5 +1,5 @@
 -- Laws of groups: going through a list from the front, the groups done and the one that is open.
-use mathlib.Core.Bool.{Bool, true, false, cond}
+use mathlib.Core.Bool.{Bool, true, false}
 use mathlib.Core.List.{List, [], _∷_, _++_, append-assoc, append-nil}
 use mathlib.Core.Path.{_≡_, refl, sym, ap, _∙_}
 use Rattle.fives.specs.Groups.{grouping, grouped, Each}

@@ -1,6 +1,6 @@
 -- Laws of tables of five numbers an entry.
 use mathlib.Core.Bool.{Bool, true, false, cond}
-use mathlib.Core.List.{List, [], _∷_, _++_, map, append-assoc, append-nil}
+use mathlib.Core.List.{List, [], _∷_, _++_, map, append-assoc}
 use mathlib.Core.Logic.{_⊎_, inl, inr, ⊎-elim}
 use mathlib.Core.Path.{_≡_, refl, sym, ap, _∙_}
 use Prim.Native.Nat.{ℕ, zero, suc, _+_, _*_, _/_, _≤_, _<_}
@@ -9,10 +9,10 @@ use native.Mathlib.Omega.{arith}
 use borrow.Author.Tests.{le-leb, lt-leb, leb-true, leb-false}
 use lib.Dec.{leb}
 use lib.Ieee.{Float}
-use lib.ListN.{length, getD, List·getD-append, set, take, drop, replicate, length-append, length-drop, length-take}
-use lib.Seq.{getD-append-add, sets-eq, take-append-add, drop-append-add, drop-cons, set-at}
+use lib.ListN.{length, getD, List·getD-append, set, take, drop, replicate, length-append, length-drop}
+use lib.Seq.{getD-append-add, sets-eq, take-append-add, drop-append-add}
 use Rattle.rules.proofs.Branches.{taken, left}
-use Rattle.fives.specs.Tables.{roomOf, putAt, written}
+use Rattle.fives.specs.Tables.{putAt, written}
 
 on-or-off : (b : Bool) → (b ≡ true) ⊎ (b ≡ false)
 on-or-off true = inl refl

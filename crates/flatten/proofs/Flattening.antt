@@ -8,7 +8,7 @@ use native.Mathlib.Omega.{arith}
 use borrow.Author.Tests.{leb-true}
 use lib.Dec.{leb}
 use lib.Ieee.{Float}
-use lib.ListN.{length, set, take, drop, length-take, length-append}
+use lib.ListN.{length, set, take, length-take, length-append}
 use lib.Seq.{sets-eq, take-at}
 use Rattle.section.specs.declared.Section.{Section}
 use Rattle.rules.proofs.Branches.{either}

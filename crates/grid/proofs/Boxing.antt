@@ -1,5 +1,5 @@
 -- Laws of the box table: it is filled from the front, five numbers a triangle, and what stands at a triangle's place is its box.
-use mathlib.Core.List.{List, [], _∷_, _++_, append-assoc, append-nil}
+use mathlib.Core.List.{List, _++_, append-nil}
 use mathlib.Core.Logic.{⊎-elim}
 use mathlib.Core.Path.{_≡_, refl, sym, ap, _∙_}
 use Prim.Native.Nat.{ℕ, zero, suc, _+_, _*_, _≤_, _<_}
@@ -8,7 +8,7 @@ use native.Mathlib.Numerals.{add-one}
 use native.Mathlib.Omega.{arith}
 use borrow.Author.Tests.{le-leb}
 use lib.Ieee.{Float, nan}
-use lib.ListN.{length, getD, List·getD-append, take, drop, length-append, length-drop, drop-of-length-le}
+use lib.ListN.{length, List·getD-append, take, drop, length-append, length-drop, drop-of-length-le}
 use lib.Seq.{getD-append-add, take-append-add, drop-append-add, drop-drop}
 use Rattle.numbers.specs.Reals.{num}
 use Rattle.rules.proofs.Branches.{taken}

@@ -14,9 +14,8 @@ use lib.Seq.{getD-set-same, getD-set-other}
 use Rattle.numbers.specs.Reals.{num}
 use Rattle.runs.specs.declared.Run.{Run}
 use Rattle.runs.specs.Runs.{lengthOf}
-use Rattle.runs.specs.Pieces.{Piece, piece, piecesOf, firstHalf, secondHalf, middle}
-use Rattle.runs.specs.Inside.{Work, work, takenBy, takenAll}
-use Rattle.runs.proofs.Tallying.{taken-append}
+use Rattle.runs.specs.Pieces.{Piece, piece, piecesOf, firstHalf, secondHalf}
+use Rattle.runs.specs.Inside.{Work, takenBy, takenAll}
 use Rattle.probe.specs.Inside.{splitsOf}
 
 clash : {A : Type 0} → true ≡ false → A

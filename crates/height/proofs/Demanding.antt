@@ -13,7 +13,7 @@ use Rattle.spans.specs.Mesh.{boxOf}
 use Rattle.grid.specs.Boxes.{boxAt}
 use Rattle.grid.specs.Index.{Index, BuiltFrom}
 use Rattle.grid.proofs.Indexing.{index-sound}
-use Rattle.query.specs.Looked.{Shares, lookedIn}
+use Rattle.query.specs.Looked.{lookedIn}
 use Rattle.query.proofs.Patches.{patch-inside}
 use Rattle.query.proofs.Using.{usable-head}
 use Rattle.query.proofs.Looks.{looks-shared}

@@ -11,12 +11,7 @@ use lib.ListN.{length, drop}
 use Rattle.rules.proofs.Branches.{taken, left, either}
 use Rattle.fields.specs.Little.{value}
 use Rattle.fields.specs.Rows.{finite, row}
-use Rattle.fields.specs.declared.Shape.{Shape}
-use Rattle.fields.specs.declared.Length.{Length}
-use Rattle.fields.specs.declared.Length.the-variants.{Exact}
-use Rattle.fields.specs.Length.{wholeIn, lengthRule, refuseLength}
-use Rattle.fields.proofs.Lengths.{rung-told, exact-length}
-use Rattle.job.specs.Layout.{triangles, questions, numbers, meshFrom, questionsFrom, bytesOf, shape, wide}
+use Rattle.job.specs.Layout.{triangles, questions, numbers, meshFrom, questionsFrom, bytesOf, wide}
 use Rattle.job.specs.Head.{refusalOfHead, Headed}
 use Rattle.job.specs.Reader.{numberOf, refusalOfNumbers, refusalOf, Outcome, ended, refusedBy, acceptedOf, readOf, SoundExactly}
 use Rattle.job.specs.declared.Read.{Read}

@@ -1,10 +1,10 @@
 -- What `join` answers: refused, and joined.
-use mathlib.Core.Bool.{Bool, true, false, cond}
+use mathlib.Core.Bool.{true, false}
 use mathlib.Core.List.{List, map, _++_}
-use mathlib.Core.Path.{_≡_, refl, sym, ap, _∙_}
-use Prim.Native.Nat.{ℕ, _*_, _/_, _≤_}
+use mathlib.Core.Path.{_≡_, refl, sym, _∙_}
+use Prim.Native.Nat.{ℕ, _*_, _≤_}
 use native.Mathlib.Omega.{arith}
-use borrow.Author.Tests.{eq-eqb, ne-eqb, eqb-true, eqb-false}
+use borrow.Author.Tests.{eq-eqb, ne-eqb, eqb-false}
 use lib.Dec.{eqb}
 use lib.Ieee.{Float}
 use lib.ListN.{length, take, drop, length-replicate}
@@ -12,8 +12,7 @@ use Rattle.numbers.specs.Reals.{f0}
 use Rattle.rules.proofs.Branches.{taken, left, by-test}
 use Rattle.fives.specs.Tables.{roomOf, written, zeroed}
 use Rattle.runs.specs.Runs.{joinedOf, fiveOf}
-use Rattle.runs.specs.declared.Run.{Run}
-use Rattle.join.specs.Join.{Outcome, outcome, refusalOf, runsIn, runsOf, joinOf}
+use Rattle.join.specs.Join.{Outcome, outcome, refusalOf, runsOf, joinOf}
 use Rattle.join.specs.Law.{WheneverJoined, HandedOn}
 use Rattle.join.proofs.Whenever.{whenever, joined-few}
 use Rattle.join.proofs.Tables.{read-back, cleared}

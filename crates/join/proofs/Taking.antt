@@ -1,8 +1,8 @@
 -- The runs of a table taken one after the other, while the joined ones are written over its front.
 use mathlib.Core.Bool.{Bool, true, false, cond}
-use mathlib.Core.List.{List, [], _∷_, _++_, map, append-assoc, append-nil}
+use mathlib.Core.List.{List, [], _∷_, _++_, map}
 use mathlib.Core.Path.{_≡_, refl, sym, ap, _∙_}
-use Prim.Native.Nat.{ℕ, zero, suc, _+_, _*_, _/_, _≤_, _<_, min}
+use Prim.Native.Nat.{ℕ, zero, suc, _+_, _≤_, min}
 use native.Mathlib.Numerals.{add-one}
 use native.Mathlib.Omega.{arith}
 use lib.Ieee.{Float}
@@ -13,8 +13,7 @@ use Rattle.runs.specs.Runs.{touchesOf, lengthened, joinedOf, fiveOf}
 use Rattle.runs.specs.Pieces.{Piece, piece, keptOf}
 use Rattle.runs.specs.Inside.{Work, work, takenBy, closedOf, begun}
 use Rattle.runs.specs.declared.Run.{Run}
-use Rattle.runs.specs.declared.Tally.{Tally}
-use Rattle.runs.proofs.Tallying.{Tallied, Written, tallied-starts, tallied-goes, tallied-ends}
+use Rattle.runs.proofs.Tallying.{Tallied, tallied-starts, tallied-goes, tallied-ends}
 use Rattle.join.specs.Join.{runIn, runsIn, runsOf}
 use Rattle.join.proofs.Whenever.{joined-few}
 use Rattle.join.proofs.Tables.{run-past}

@@ -1,10 +1,10 @@
 -- Document 01, "Levels and runs": levels. A level is five numbers (z, low x, low y, high x, high y).
 use mathlib.Core.Bool.{Bool}
-use mathlib.Core.List.{List, [], _∷_, _++_, map}
+use mathlib.Core.List.{List, [], _∷_, _++_}
 use Prim.Native.Nat.{ℕ}
 use lib.Ieee.{Float, le}
 use lib.ListN.{length, drop}
-use Rattle.numbers.specs.Reals.{num, _⊕_, _⊖_, minOf, maxOf}
+use Rattle.numbers.specs.Reals.{_⊕_, _⊖_, minOf, maxOf}
 use Rattle.plane.specs.Mesh.{triangleOf}
 use Rattle.plane.specs.declared.Triangle.{Triangle}
 use Rattle.plane.specs.declared.Bounds.{Bounds}

@@ -1,13 +1,12 @@
 -- A move's question, asked with the look's own marks after 7 was tested over the whole grid, has the answer that the question gives by itself.
 use mathlib.Core.Bool.{Bool, true, false, cond}
 use mathlib.Core.List.{List}
-use mathlib.Core.Path.{_≡_, refl, ap, sym, _∙_}
+use mathlib.Core.Path.{_≡_, refl, ap, sym}
 use Prim.Native.Nat.{ℕ, _*_, _/_, _≤_}
 use borrow.Author.Tests.{eqb-true}
 use native.Mathlib.Omega.{arith}
-use lib.Ieee.{Float}
 use lib.ListN.{length, replicate}
-use Rattle.walk.specs.Walk.{chased, clearOf, upTo, marked, nextStamp, readyMarks}
+use Rattle.walk.specs.Walk.{chased, clearOf, upTo, nextStamp, readyMarks}
 use Rattle.walk.specs.Inside.{Walkable}
 use Rattle.grid.specs.Boxes.{isBoxed}
 use Rattle.grid.specs.Index.{Index}
@@ -16,10 +15,8 @@ use Rattle.query.specs.declared.Patch.{Patch}
 use Rattle.query.specs.Usable.{usableWhole}
 use Rattle.query.specs.Looked.{within}
 use Rattle.whole.proofs.Wholly.{whole-head, whole-walkable}
-use Rattle.ask.specs.declared.Finding.{Finding}
 use Rattle.ask.specs.declared.Finding.the-variants.{Clear, Blocked}
-use Rattle.ask.specs.declared.Ruling.{Ruling}
-use Rattle.ask.specs.Ask.{refusalOf, begun, Outcome, rulingOf, askedChord}
+use Rattle.ask.specs.Ask.{refusalOf, begun, rulingOf, askedChord}
 use Rattle.chords.specs.Inside.{ruledChord}
 use Rattle.probe.specs.Inside.{Askable, Marked}
 use Rattle.probe.proofs.Asking.{looked-same, ready-alike, marked-below, ready-below}

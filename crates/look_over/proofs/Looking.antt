@@ -1,31 +1,26 @@
 -- A whole look: what is refused, what an accepted list may rely on, and what its verdict promises.
-use mathlib.Core.Bool.{Bool, true, false, cond, _&&_}
+use mathlib.Core.Bool.{true, false}
 use mathlib.Core.List.{List}
 use mathlib.Core.Path.{_≡_, refl, ap, sym, subst, _∙_}
 use Prim.Native.Nat.{ℕ, zero, suc, _+_, _*_, _≤_, _<_}
 use native.Mathlib.Nat.{zero-add}
 use native.Mathlib.Omega.{arith}
-use borrow.Author.Tests.{eq-eqb, ne-eqb, eqb-true, eqb-false, leb-true}
+use borrow.Author.Tests.{eq-eqb, ne-eqb, eqb-true, eqb-false}
 use lib.Dec.{eqb, leb, lit<}
-use lib.Ieee.{Float, toBits, le}
+use lib.Ieee.{Float, toBits}
 use lib.ListN.{length, getD, replicate, length-replicate}
-use Rattle.numbers.specs.Reals.{_⊕_}
 use Rattle.rules.proofs.Branches.{taken, left, both-true, by-test}
 use Rattle.fields.specs.Little.{value}
 use Rattle.grid.specs.Boxes.{isBoxed}
 use Rattle.grid.specs.Index.{Index}
 use Rattle.rules.proofs.Ladder.{demanded}
 use Rattle.query.specs.Asked.{isMarked}
-use Rattle.rules.specs.Every.{every}
 use Rattle.query.specs.Usable.{usableWhole}
 use Rattle.rules.proofs.Testing.{every-at}
 use Rattle.whole.proofs.Wholly.{whole-head}
 use Rattle.tool.specs.Tool.{isTool}
 use Rattle.runs.specs.declared.Run.{Run}
-use Rattle.runs.specs.Chains.{EachKept}
 use Rattle.runs.proofs.Chaining.{each-more}
-use Rattle.rows.specs.declared.Axis.{Axis}
-use Rattle.parameters.specs.declared.Parameters.{Parameters}
 use Rattle.probe.specs.Inside.{Marked}
 use Rattle.plan.specs.Plan.{planOf}
 use Rattle.plan.specs.Lost.{askedAgain, Safe, piecesOn}
@@ -34,13 +29,11 @@ use Rattle.paths.specs.Layout.{count}
 use Rattle.paths.specs.Reader.{pointOf, moveOf}
 use Rattle.paths.specs.Reader as reader
 use Rattle.paths.proofs.Ladder.{sound}
-use Rattle.look_over.specs.declared.Fault.{Fault}
-use Rattle.look_over.specs.declared.Fault.the-variants.{Sound, ChangedZ, TooDeep}
+use Rattle.look_over.specs.declared.Fault.the-variants.{Sound}
 use Rattle.look_over.specs.declared.Verdict.{Verdict}
-use Rattle.look_over.specs.declared.Verdict.the-variants.{Unsaid, Passes, Fails}
-use Rattle.look_over.specs.declared.Looked.{Looked}
+use Rattle.look_over.specs.declared.Verdict.the-variants.{Unsaid}
 use Rattle.look_over.specs.Look.{keepsZ, cutClear, faultOfCut, faultBy, faultOf}
-use Rattle.look_over.specs.Verdict.{isPlace, arePlaces, isTolerance, refusalOfTool, refusalOfNumbers, refusalOf, Outcome, ended, verdictOf, lookOverOf, Judged, FirstBad, cutOf, OwnCutsPass}
+use Rattle.look_over.specs.Verdict.{isPlace, arePlaces, isTolerance, refusalOfTool, refusalOfNumbers, refusalOf, ended, verdictOf, lookOverOf, Judged, cutOf, OwnCutsPass}
 use Rattle.look_over.specs.Inside.{Answerable, Readable, Placed}
 use Rattle.look_over.proofs.Listing.{passes-all, all-passes, fails-first}
 

@@ -1,12 +1,12 @@
 -- The test of one move: from what its walk found to its fault.
 use mathlib.Core.Bool.{Bool, true, false, not, cond, _&&_}
 use mathlib.Core.List.{List}
-use mathlib.Core.Path.{_≡_, refl, ap, sym, subst, _∙_}
-use Prim.Native.Nat.{ℕ, _*_, _≤_}
-use lib.Dec.{T, eqb}
-use lib.Ieee.{Float, nan, inf, fin, binary64, ofBits, toBits, le, isNan}
-use lib.ListN.{length, replicate}
-use Rattle.numbers.specs.Reals.{_⊕_, f0, absOf, million}
+use mathlib.Core.Path.{_≡_, refl, ap, sym, _∙_}
+use Prim.Native.Nat.{ℕ}
+use lib.Dec.{T}
+use lib.Ieee.{Float, nan, inf, fin, ofBits, le, isNan}
+use lib.ListN.{replicate}
+use Rattle.numbers.specs.Reals.{_⊕_, f0, absOf}
 use Rattle.rules.proofs.Branches.{both-true, taken, left, no}
 use Rattle.plane.specs.Ranges.{isCoordinate, isPoint}
 use Rattle.plane.specs.declared.Best.{Best}
@@ -15,17 +15,15 @@ use Rattle.grid.specs.Index.{Index}
 use Rattle.query.specs.declared.Patch.{Patch}
 use Rattle.query.specs.Patch.{patchOf}
 use Rattle.query.proofs.Patches.{patch-inside}
-use Rattle.reach.specs.declared.Chord.{Chord}
 use Rattle.ask.specs.declared.Finding.{Finding}
 use Rattle.ask.specs.declared.Ruling.{Ruling}
 use Rattle.ask.specs.Ask.{Outcome, ended}
-use Rattle.height.specs.Sweep.{sweep, sweepWalk}
+use Rattle.height.specs.Sweep.{sweepWalk}
 use Rattle.height.specs.Height.{arePoints, maxHeightOf}
 use Rattle.tool.specs.Tool.{sectionsIn, isTool, widestOf, lowestOf}
 use Rattle.chords.specs.Chords.{isEnd, isChord, blockedAtOnce, toolBlocksAt, sectionsChordOf}
 use Rattle.chords.specs.Inside.{ruledChord}
 use Rattle.runs.specs.declared.Run.{Run}
-use Rattle.probe.specs.Probe.{heightUnder}
 use Rattle.probe.specs.Inside.{Marked}
 use Rattle.probe.proofs.Asking.{swept-value, swept-marks, marked-is}
 use Rattle.plan.specs.Lost.{askedAgain}

@@ -19,7 +19,7 @@ use Rattle.paths.specs.declared.Move.{Move}
 use Rattle.look_over.specs.declared.Fault.{Fault}
 use Rattle.look_over.specs.declared.Fault.the-variants.{Sound, BlockedRapid, ChangedZ, TooDeep}
 use Rattle.look_over.specs.declared.Verdict.{Verdict}
-use Rattle.look_over.specs.declared.Verdict.the-variants.{Unsaid, Passes, Fails}
+use Rattle.look_over.specs.declared.Verdict.the-variants.{Passes, Fails}
 
 -- ---- one move
 

@@ -1,17 +1,16 @@
 -- An i32 as a whole number: counted from the least one, and back.
 use mathlib.Core.Bool.{Bool, cond}
 use mathlib.Core.Path.{_≡_, refl, sym, ap, _∙_, subst}
-use Prim.Native.Nat.{ℕ, zero, suc, _+_, _-_, _^_, _≤_, _<_}
+use Prim.Native.Nat.{ℕ, zero, suc, _-_, _^_, _<_}
 use native.Mathlib.Nat.{lt-of-lt-of-le}
 use native.Mathlib.Omega.{arith}
 use borrow.Author.Tests.{le-ltb}
 use lib.IntN.{ℤ, pos, negsuc, natAbs, _+ℤ_, _-ℤ_}
-use lib.Dec.{T, ltb, lit≤}
+use lib.Dec.{T, lit≤}
 use lib.Signed.{mag, nonNeg}
 use mir.Syntax.{w32, w64}
 use mir.Val.{Fits, SFits, toZ, ofZ}
 use mir.ValLaws.{toZ-pos, toZ-ofZ}
-use Rattle.rules.proofs.Branches.{left}
 use Rattle.numbers.proofs.Casts.{cast-fits, kept, pos-fits}
 use Rattle.micro.specs.Micro.{counted}
 

@@ -1,5 +1,5 @@
 -- Document 02, request 11: whole micrometres. Coordinates, radii and heights are i32; what is worked out from them is worked out in whole numbers.
-use mathlib.Core.Bool.{Bool, true, false, cond}
+use mathlib.Core.Bool.{Bool, cond}
 use mathlib.Core.List.{List}
 use Prim.Native.Nat.{ℕ, zero, suc, _+_, _-_, _*_, min, max}
 use lib.Dec.{ltb, leb}

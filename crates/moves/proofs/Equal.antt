@@ -1,5 +1,5 @@
 -- Floats that compare equal, and points: what compares equal to one of two equal ones compares equal to the other.
-use mathlib.Core.Bool.{Bool, true, false, _&&_}
+use mathlib.Core.Bool.{true, false}
 use mathlib.Core.Path.{_≡_, refl, sym, _∙_}
 use Prim.Native.Nat.{_*_}
 use borrow.Author.Tests.{eqb-true, eq-eqb}

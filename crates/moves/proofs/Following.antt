@@ -26,7 +26,6 @@ use Rattle.moves.specs.declared.State.{State}
 use Rattle.moves.specs.declared.Move.{Move}
 use Rattle.moves.specs.declared.Stepped.{Stepped}
 use Rattle.moves.specs.declared.Step.the-variants.{Nothing, Go}
-use Rattle.moves.specs.declared.Phase.the-variants.{Lift}
 use Rattle.moves.specs.Phases.{point, legOf, sameOf, phaseNumber, isLift, isEnded}
 use Rattle.moves.specs.Begin.{largest, inOrder, areHeights, isRun, areRuns, areIds, refusalOfRuns, refusalOfBegin, stateAt, begun, beginOf}
 use Rattle.moves.specs.Next.{moveBy, movedBy, passedBy, linesLeft, stepped, goOn, isWithin, isSpent, refusalOfState, nextOf}

@@ -1,16 +1,15 @@
 -- What holds of position and run at each phase, and that every line of the table keeps it: how high the tool is, and that it stands at the run's start before
 -- the cut.
-use mathlib.Core.Bool.{Bool, true, false, cond, _&&_}
+use mathlib.Core.Bool.{true, false}
 use mathlib.Core.List.{List, [], _∷_}
 use mathlib.Core.Logic.{inl, inr}
 use mathlib.Core.Path.{_≡_, refl, sym, ap, _∙_}
 use Prim.Native.Nat.{ℕ, suc, _+_, _-_, _<_}
 use native.Mathlib.Omega.{arith}
-use borrow.Author.Tests.{eqb-true, eqb-false}
+use borrow.Author.Tests.{eqb-true}
 use lib.Dec.{T, eqb}
 use lib.Ieee.{Float, le, eq}
 use lib.Ieee.Scale.{finite}
-use Rattle.numbers.specs.Reals.{maxOf}
 use Rattle.rules.proofs.Branches.{by-test, either, no}
 use Rattle.order.proofs.Extremes.{le-self}
 use Rattle.order.proofs.Order.{le-trans}
@@ -25,7 +24,7 @@ use Rattle.moves.specs.declared.Phase.{Phase}
 use Rattle.moves.specs.declared.Phase.the-variants.{Lift, Approach, Descend, Plunge, Cut, Retract, Rise, Ended}
 use Rattle.moves.specs.declared.Kind.{Kind}
 use Rattle.moves.specs.declared.Kind.the-variants as kind
-use Rattle.moves.specs.Phases.{point, startOf, endOf, leg, lineOf, sameOf, phaseNumber, kindNumber, isEnded}
+use Rattle.moves.specs.Phases.{point, startOf, endOf, lineOf, sameOf, phaseNumber, kindNumber, isEnded}
 use Rattle.moves.specs.Laws.{SafeRapid, cutsIn, fullOf, CutsAre}
 use Rattle.moves.proofs.Equal.{eq-le, eq-self, max-above, same-parts, same-of, same-to}
 

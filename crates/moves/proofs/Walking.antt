@@ -1,8 +1,8 @@
 -- The phase table walked line by line: what holds of the whole list, by the lines.
-use mathlib.Core.Bool.{Bool, true, false, cond}
-use mathlib.Core.List.{List, [], _∷_}
-use mathlib.Core.Path.{_≡_, refl, sym, ap}
-use Prim.Native.Nat.{ℕ, zero, suc, _+_, _≤_, _<_}
+use mathlib.Core.Bool.{true, false}
+use mathlib.Core.List.{List, []}
+use mathlib.Core.Path.{_≡_, refl}
+use Prim.Native.Nat.{ℕ, zero, suc, _≤_, _<_}
 use native.Mathlib.Omega.{arith}
 use lib.Ieee.{Float}
 use lib.ListN.{length}
@@ -14,7 +14,7 @@ use Rattle.moves.specs.declared.Move.{Move}
 use Rattle.moves.specs.declared.Phase.{Phase}
 use Rattle.moves.specs.declared.Phase.the-variants.{Lift, Approach, Descend, Plunge, Cut, Retract, Rise, Ended}
 use Rattle.moves.specs.Phases.{legOf, sameOf, phaseNumber, isEnded}
-use Rattle.moves.specs.Next.{moveBy, movedBy, passedBy, linesLeft, isWithin}
+use Rattle.moves.specs.Next.{movedBy, passedBy, linesLeft, isWithin}
 use Rattle.moves.specs.Whole.{walked}
 use Rattle.moves.specs.Laws.{Counted, Chained, Safe, cutsIn, fullOf, CutsAre}
 use Rattle.moves.proofs.Lines.{run-within}

@@ -1,5 +1,5 @@
 -- Document 02, request 9: what is proved of the whole list of moves from an accepted beginning.
-use mathlib.Core.Bool.{Bool, true, cond}
+use mathlib.Core.Bool.{true, cond}
 use mathlib.Core.List.{List, [], _∷_}
 use mathlib.Core.Logic.{_⊎_}
 use mathlib.Core.Path.{_≡_}

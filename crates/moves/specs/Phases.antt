@@ -1,5 +1,5 @@
 -- Document 02, request 9: the phase table, as the source has it. For each phase where its move ends, the move's kind, and the phase after it.
-use mathlib.Core.Bool.{Bool, true, false, cond, _&&_}
+use mathlib.Core.Bool.{Bool, cond, _&&_}
 use mathlib.Core.List.{List}
 use Prim.Native.Nat.{ℕ, _+_}
 use lib.Dec.{eqb}

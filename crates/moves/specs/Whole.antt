@@ -1,8 +1,7 @@
 -- Document 02, request 9: the whole list of moves, step after step; and the phase table walked line by line.
-use mathlib.Core.Bool.{Bool, cond}
+use mathlib.Core.Bool.{cond}
 use mathlib.Core.List.{List, [], _∷_}
 use Prim.Native.Nat.{ℕ, zero, suc}
-use lib.Dec.{eqb}
 use lib.Ieee.{Float}
 use Rattle.moves.specs.declared.Heights.{Heights}
 use Rattle.moves.specs.declared.State.{State}

@@ -1,6 +1,6 @@
 -- The order of floats by sign and size: `le` of ±a / c and ±b / d.
 use mathlib.Core.Bool.{Bool, true, false, _&&_, _||_}
-use mathlib.Core.Path.{_≡_, refl, ap, sym, _∙_, subst}
+use mathlib.Core.Path.{_≡_, ap, sym, _∙_, subst}
 use Prim.Native.Nat.{ℕ, _+_, _*_, _≤_, _<_}
 use native.Mathlib.Nat.{le-of-eq, le-of-mul-le-mul-right, zero-mul}
 use native.Mathlib.Omega.{arith}

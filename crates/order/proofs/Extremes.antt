@@ -1,7 +1,7 @@
 -- At most, below and not below; the larger and the smaller of two numbers keep the order.
 use mathlib.Core.Bool.{true, false, cond}
 use mathlib.Core.Path.{_≡_, refl}
-use Prim.Native.Nat.{_+_, _*_, _-_}
+use Prim.Native.Nat.{_+_, _*_}
 use native.Mathlib.Nat.{zero-mul}
 use native.Mathlib.Omega.{arith}
 use borrow.Author.Tests.{ltb-false, le-ltb}

@@ -5,9 +5,9 @@ use mathlib.Core.Path.{_≡_, refl}
 use Prim.Native.Nat.{ℕ, _+_, _-_, _*_, _^_, _≤_, _<_, min}
 use native.Mathlib.Nat.{zero-mul, mul-zero, mul-comm, mul-assoc, mul-left-comm, add-mul, mul-add, mul-pos, mul-le-mul-right, zero-div, le-of-mul-le-mul-right}
 use native.Mathlib.Omega.{arith}
-use lib.Dec.{T, ltb, ltb→lt}
+use lib.Dec.{T, ltb→lt}
 use lib.IntN.{pos}
-use lib.Ieee.{Float, nan, inf, fin, Format, binary64, up, down, sub, div, lt, le, toUnsigned, round}
+use lib.Ieee.{Float, nan, inf, fin, Format, binary64, up, down, sub, div, le, toUnsigned, round}
 use lib.Ieee.Fits.{down-pos, up-pos}
 use lib.Ieee.Nearest.{div-mono}
 use lib.Ieee.Scale.{finite}

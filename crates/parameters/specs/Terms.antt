@@ -1,5 +1,5 @@
 -- Document 01, "Levels and runs" and "Refusal numbers": a plan's parameters (9), and what its levels must be (11, 10, 12).
-use mathlib.Core.Bool.{Bool, true, false, cond, _&&_, _||_}
+use mathlib.Core.Bool.{Bool, false, _&&_, _||_}
 use mathlib.Core.List.{List, [], _∷_}
 use Prim.Native.Nat.{ℕ}
 use lib.Dec.{ltb}

@@ -1,5 +1,5 @@
 -- Read, build and ask, put together.
-use mathlib.Core.List.{List, _++_}
+use mathlib.Core.List.{List}
 use mathlib.Core.Path.{_≡_, refl, ap, sym, subst, _∙_}
 use Prim.Native.Nat.{ℕ, _*_, _/_, _≤_}
 use native.Mathlib.Omega.{arith}
@@ -9,7 +9,6 @@ use lib.ListN.{length, take, drop, length-append}
 use lib.Seq.{take-at}
 use Rattle.rules.proofs.Branches.{taken, left as passed-by}
 use Rattle.fields.specs.Little.{value}
-use Rattle.fields.specs.Rows.{row}
 use Rattle.fields.proofs.Rows.{row-length}
 use Rattle.grid.specs.declared.Built.{Built}
 use Rattle.grid.specs.Build as build
@@ -23,7 +22,7 @@ use Rattle.height.specs.Height.{maxHeightOf}
 use Rattle.height.specs.Demand.{DiskPromise}
 use Rattle.stl.specs.Layout.{count}
 use Rattle.stl.specs.Reader as reader
-use Rattle.stl.specs.Reader.{numberOf, refusalOf, acceptedOf, readOf, SoundExactly}
+use Rattle.stl.specs.Reader.{numberOf, refusalOf, acceptedOf, readOf}
 use Rattle.stl.proofs.Reading.{refusal-is}
 use Rattle.part.specs.Part.{meshOf, Asked, asked, askedAfter, meshHeightOf, left, leftAfter, partHeightOf, MeetsDemand3}
 

@@ -6,7 +6,7 @@ use Prim.Native.Nat.{ℕ, _+_, _≤_}
 use native.Mathlib.Omega.{arith}
 use borrow.Author.Tests.{le-ltb}
 use lib.Dec.{eqb, ltb}
-use lib.ListN.{length, take}
+use lib.ListN.{take}
 use Rattle.fields.specs.Little.{Field, value}
 use Rattle.rules.specs.Ladder.{refuse}
 use Rattle.rules.proofs.Ladder.{refuse-next, agrees}

@@ -1,10 +1,10 @@
 -- Nothing is lost between the halves: the pieces of each stretch lead from its first point to its last, and a kept one can be asked again.
-use mathlib.Core.Bool.{Bool, true, false, cond, _&&_}
-use mathlib.Core.List.{List, [], _∷_, _++_}
+use mathlib.Core.Bool.{Bool, true, false, _&&_}
+use mathlib.Core.List.{List, [], _∷_}
 use mathlib.Core.Path.{_≡_, refl, sym, ap, subst, _∙_}
 use Prim.Native.Nat.{ℕ, zero, suc, _+_, _-_, _*_, _≤_, _<_}
 use native.Mathlib.Omega.{arith}
-use borrow.Author.Tests.{eq-eqb, ne-eqb, le-leb, ltb-true, eqb-true, eqb-false}
+use borrow.Author.Tests.{eq-eqb, le-leb, ltb-true, eqb-true, eqb-false}
 use lib.Dec.{eqb, ltb, leb, lit<}
 use lib.Ieee.{Float, lt, le}
 use lib.ListN.{length, getD, replicate, length-replicate}
@@ -14,7 +14,6 @@ use Rattle.rules.specs.Every.{isFrom, every, each}
 use Rattle.plane.specs.Ranges.{isCoordinate, isRadius}
 use Rattle.grid.specs.Index.{Index}
 use Rattle.grid.specs.Header.{inRanges}
-use Rattle.rules.specs.Ladder.{demand}
 use Rattle.rules.proofs.Ladder.{demand-next, demanded}
 use Rattle.walk.specs.Walk.{cell}
 use Rattle.header.specs.Head.{headUsable}
@@ -31,16 +30,16 @@ use Rattle.height.specs.Height.{isSweep, maxHeightOf}
 use Rattle.runs.specs.declared.Run.{Run}
 use Rattle.fives.specs.Tables.{roomOf}
 use Rattle.runs.specs.Runs.{joinedOf}
-use Rattle.runs.specs.Pieces.{Piece, keptOf, droppedBy}
-use Rattle.runs.specs.Chains.{firstOf, lastOf, Chained, EachKept, Whole, LieIn}
+use Rattle.runs.specs.Pieces.{keptOf, droppedBy}
+use Rattle.runs.specs.Chains.{EachKept, Whole}
 use Rattle.runs.proofs.Chaining.{each-append, each-more, each-both, whole, joined-lie, kept-each, lie-made}
 use Rattle.rows.specs.declared.Axis.{Axis}
 use Rattle.parameters.specs.declared.Parameters.{Parameters}
 use Rattle.parameters.specs.Terms.{areTerms, tooFine, anyOf, refusalOfLevels}
 use Rattle.probe.specs.Probe.{heightUnder}
-use Rattle.row_runs.specs.Search.{Found, levelsFound}
-use Rattle.row_runs.specs.Sampled.{Sampled, levelsSampled, clearAt, halvesOf, halvesOfAll}
-use Rattle.row_runs.proofs.Sampling.{foundFrom, levels-halved}
+use Rattle.row_runs.specs.Search.{Found}
+use Rattle.row_runs.specs.Sampled.{clearAt, halvesOf, halvesOfAll}
+use Rattle.row_runs.proofs.Sampling.{levels-halved}
 use Rattle.plan.specs.declared.Planned.{Planned}
 use Rattle.plan.specs.Plan.{refusalOfInput, refusalOfTables, levelsUnder, foundOn, Outcome, outcome, workedOf, planOf}
 use Rattle.plan.specs.Lost.{askedAgain, Safe, stretchesOn, piecesOn, halvesOn, NothingLost}

@@ -1,5 +1,5 @@
 -- Document 01, the row of `dist2_to_segment`, `bary` and `distance_xy`: distances seen from above.
-use mathlib.Core.Bool.{Bool, true, false, cond, _&&_}
+use mathlib.Core.Bool.{Bool, false, cond, _&&_}
 use mathlib.Core.Path.{_≡_, refl}
 use lib.Ieee.{Float, inf, binary64, ofBits, lt, le}
 use Rattle.numbers.specs.Reals.{_⊕_, _⊖_, _⊗_, _⊘_, f0, f1, tiny, clampUnit, absOf, minOf}

@@ -1,6 +1,5 @@
 -- Document 01, "Levels and runs": heights along a row. A sample is on the level where the tool rests there; a run is kept where it is clear.
 use mathlib.Core.Bool.{Bool}
-use mathlib.Core.List.{List}
 use Prim.Native.Nat.{ℕ}
 use lib.Ieee.{Float, le}
 use lib.ListN.{replicate}

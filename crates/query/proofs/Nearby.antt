@@ -1,18 +1,18 @@
 -- Numbers whose squares have a sum of at most 9e11 are coordinates: what is farther out than 1e6 has a square of 1e12 or more, and a sum is not below its parts.
-use mathlib.Core.Bool.{Bool, true, false, not, _&&_}
+use mathlib.Core.Bool.{Bool, true, false, not}
 use mathlib.Core.List.{List}
 use mathlib.Core.Path.{_≡_, refl, sym, subst}
 use Prim.Native.Nat.{ℕ, _+_, _*_, _≤_, _<_}
 use native.Mathlib.Nat.{mul-pos, mul-le-mul, le-of-lt, mul-assoc, mul-comm, mul-left-comm, add-mul}
 use native.Mathlib.Omega.{arith}
 use lib.Dec.{T}
-use lib.IntN.{ℤ, pos}
+use lib.IntN.{pos}
 use lib.Ieee.{Float, nan, inf, fin, binary64, ofBits, up, down, round, sum, add, mul, fits, le}
-use lib.Ieee.Fits.{up-pos, down-pos, add-fits, mul-fits}
+use lib.Ieee.Fits.{down-pos, add-fits, mul-fits}
 use lib.Ieee.Order.{le-of-values, round-mono}
 use lib.Ieee.Scale.{finite}
 use lib.Ieee.Bits.{is-true}
-use Rattle.numbers.specs.Reals.{num, _⊕_, _⊗_, absOf, million, million-is}
+use Rattle.numbers.specs.Reals.{num, _⊕_, _⊗_, absOf, million-is}
 use Rattle.grid.specs.Boxes.{boxAt}
 use Rattle.numbers.proofs.Counts.{round-self}
 use Rattle.cells.proofs.Sets.{by-lt}

@@ -1,8 +1,8 @@
 -- A sound index passes what refusal 7 tests.
 use mathlib.Core.Bool.{Bool, true}
-use mathlib.Core.List.{List, [], _∷_}
-use mathlib.Core.Path.{_≡_, refl}
-use Prim.Native.Nat.{ℕ, zero, suc, _+_, _-_, _*_, _/_, _≤_, _<_}
+use mathlib.Core.List.{List}
+use mathlib.Core.Path.{_≡_}
+use Prim.Native.Nat.{ℕ, _+_, _*_, _/_, _≤_, _<_}
 use native.Mathlib.Omega.{arith}
 use borrow.Author.Tests.{eq-eqb, le-leb, lt-ltb}
 use lib.Dec.{lit<}
@@ -13,14 +13,12 @@ use Rattle.plane.specs.Mesh.{triangleOf, lowest, highest, topOf, boundsOf}
 use Rattle.plane.specs.Ranges.{isCoordinate}
 use Rattle.spans.specs.Mesh.{boxOf}
 use Rattle.order.proofs.Extremes.{min-either, either-of}
-use Rattle.walk.specs.Walk.{cell}
 use Rattle.grid.specs.Boxes.{isBoxed}
 use Rattle.grid.specs.Index.{Index, SoundIndex}
 use Rattle.header.specs.Head.{headUsable}
 use Rattle.header.proofs.Ranges.{in-ranges-is}
 use Rattle.query.specs.declared.Patch.{Patch}
 use Rattle.query.specs.Asked.{isMarked, NoneAbove}
-use Rattle.rules.specs.Every.{every}
 use Rattle.query.specs.Usable.{cornersUsable, areCoordinates, boxUsable, triangleUsable, memberUsable, cellUsable, usable}
 use Rattle.rules.proofs.Testing.{every-all}
 use Rattle.query.proofs.Stretches.{cell-stands, cells-pass}

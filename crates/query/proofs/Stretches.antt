@@ -12,7 +12,7 @@ use Rattle.rules.proofs.Branches.{both-true}
 use Rattle.walk.specs.Walk.{cell}
 use Rattle.walk.specs.Inside.{Walkable}
 use Rattle.query.specs.declared.Patch.{Patch}
-use Rattle.rules.specs.Every.{every, each}
+use Rattle.rules.specs.Every.{each}
 use Rattle.query.specs.Usable.{cellUsable, rowUsable, cellsUsable}
 use Rattle.rules.proofs.Testing.{in-rows, every-at, each-at, every-all, each-all}
 

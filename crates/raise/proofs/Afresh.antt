@@ -1,19 +1,16 @@
 -- A raised index is the one built afresh: nothing that the grid and the cells are made of has changed.
-use mathlib.Core.Bool.{true, false, cond}
+use mathlib.Core.Bool.{true}
 use mathlib.Core.List.{List}
 use mathlib.Core.Path.{_≡_, refl, sym, ap, ap₂, fun-ext, _∙_}
-use Prim.Native.Nat.{ℕ, zero, suc, _+_, _*_, _/_, _%_, _≤_, _<_}
+use Prim.Native.Nat.{ℕ, zero, suc, _+_, _*_, _/_, _≤_}
 use native.Mathlib.Omega.{arith}
 use borrow.Author.Tests.{eq-eqb, ne-eqb, eqb-true, eqb-false, ltb-false}
 use lib.Dec.{eqb, lit<}
 use lib.Ieee.{Float}
 use lib.ListN.{length}
 use Rattle.rules.proofs.Branches.{taken, left as passed-by, by-test}
-use Rattle.plane.specs.declared.Bounds.{Bounds}
-use Rattle.plane.specs.Mesh.{triangleOf, lowest, highest, topOf, boundsOf}
-use Rattle.plane.specs.Ranges.{isCoordinate}
-use Rattle.spans.specs.Mesh.{firstBad, boxOf, widened, extentOf, epsOf}
-use Rattle.spans.specs.declared.Extent.{Extent}
+use Rattle.plane.specs.Mesh.{triangleOf, topOf, boundsOf}
+use Rattle.spans.specs.Mesh.{firstBad, boxOf, widened, extentOf}
 use Rattle.spans.specs.declared.Place.{Place}
 use Rattle.spans.specs.declared.Place.the-variants.{Nowhere, At}
 use Rattle.spans.specs.Inside.{AllGood}
@@ -23,11 +20,10 @@ use Rattle.cells.specs.declared.Cells.{Cells}
 use Rattle.grid.specs.declared.Grid.{Grid}
 use Rattle.grid.specs.declared.Header.{Header}
 use Rattle.grid.specs.declared.Built.{Built}
-use Rattle.rules.specs.Ladder.{demand, refuse}
 use Rattle.rules.proofs.Ladder.{demanded, refused-not}
 use Rattle.grid.specs.Grid.{trianglesIn, gridOf, cellsIn, cellsOf, coverOf}
-use Rattle.grid.specs.Header.{headerOf, inRanges}
-use Rattle.grid.specs.Boxes.{boxAt, isBoxed, fiveOf, boxesOf}
+use Rattle.grid.specs.Header.{headerOf}
+use Rattle.grid.specs.Boxes.{isBoxed, boxesOf}
 use Rattle.grid.proofs.Boxing.{boxes-at}
 use Rattle.grid.specs.Build.{isNowhere, toldWith, refusalOfNumbers, refusalOfMesh, refusalOfGrid, refusalOfMembers, Outcome, outcome, refusedBy, acceptedWith, unless, filledOf, gridded, buildOf}
 use Rattle.grid.specs.Index.{indexOf, BuiltFrom}

@@ -1,16 +1,15 @@
 -- Laws of the box table with new tops: it is filled from the front, and what is not yet written stands as it was handed.
-use mathlib.Core.List.{List, [], _∷_, _++_, append-nil}
+use mathlib.Core.List.{List, _++_, append-nil}
 use mathlib.Core.Path.{_≡_, refl, sym, ap, _∙_}
-use Prim.Native.Nat.{ℕ, zero, suc, _+_, _*_, _≤_, _<_}
+use Prim.Native.Nat.{ℕ, zero, suc, _+_, _*_, _≤_}
 use native.Mathlib.Numerals.{add-one}
 use native.Mathlib.Omega.{arith}
 use borrow.Author.Tests.{le-leb}
 use lib.Ieee.{Float, nan}
-use lib.ListN.{length, getD, take, drop, length-append, length-drop, drop-of-length-le}
+use lib.ListN.{length, take, drop, length-append, length-drop, drop-of-length-le}
 use lib.Seq.{getD-append-add, getD-drop, take-append-add, drop-append-add, drop-drop}
 use Rattle.numbers.specs.Reals.{num}
 use Rattle.rules.proofs.Branches.{taken}
-use Rattle.plane.specs.declared.Bounds.{Bounds}
 use Rattle.plane.specs.Mesh.{triangleOf, topOf}
 use Rattle.fives.specs.Tables.{putAt}
 use Rattle.grid.specs.Boxes.{boxAt, fiveOf}

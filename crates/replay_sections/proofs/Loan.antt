@@ -11,7 +11,7 @@ use base.Logic.{SProp, ent, sep, ex}
 use base.Fml.{Lft, GName, Fml, fsep, fat, froom, fdead, flent}
 use prog.Wp.{Heap}
 use ghost.Atoms.{Atoms, sem}
-use types.Kit.{Given, ‵, raw, _⊛_, mean, some, later, _$_, _∵_, !, qed, by, move, use1, use2, rewrite, split, join, pick, drop, fsplit, fjoin, fpack, feqI, feqL, await, updating, now, show, frame, done}
+use types.Kit.{Given, ‵, _⊛_, some, later, _$_, _∵_, !, qed, by, move, use1, use2, rewrite, split, pick, drop, fsplit, fjoin, fpack, feqI, feqL, await, updating, now, show, frame, done}
 use types.Tokens.{lent-back}
 use types.SemTy.{cells}
 use types.Share.{arr-parts}

@@ -1,16 +1,16 @@
 -- hypot as a distance: it is nearest by squares (`hypot-between`), grows with each magnitude (`hypot-mono`), is the magnitude itself beside a zero (`hypot-zero`), is not below either
 -- magnitude (`hypot-least`), and not above w where the exact squares say so (`hypot-under`).
 use mathlib.Core.Path.{_≡_, refl, sym, ap, _∙_, subst}
-use mathlib.Core.Bool.{Bool, true, false, not, cond, _||_, false≢true}
+use mathlib.Core.Bool.{Bool, true, false, not, cond, false≢true}
 use mathlib.Core.Logic.{_⊎_, inl, inr}
-use Prim.Native.Nat.{ℕ, zero, suc, _+_, _-_, _*_, _/_, _%_, _^_, _≤_, _<_}
-use native.Mathlib.Nat.{add-comm, add-zero, mul-assoc, mul-right-comm, mul-one, zero-mul, add-mul, mul-lt-mul-of-pos-right, mul-le-mul, mul-le-mul-right, mul-le-mul-left, mul-div-cancel, le-trans, le-of-eq, le-refl, eq-or-lt-of-le, lt-irrefl, lt-of-lt-of-le, lt-of-le-of-lt, pow-succ', pow-le-pow-right}
+use Prim.Native.Nat.{ℕ, zero, suc, _+_, _-_, _*_, _/_, _^_, _≤_, _<_}
+use native.Mathlib.Nat.{add-zero, mul-assoc, mul-right-comm, add-mul, mul-lt-mul-of-pos-right, mul-le-mul, mul-le-mul-right, mul-le-mul-left, mul-div-cancel, le-trans, le-of-eq, eq-or-lt-of-le, lt-irrefl, lt-of-lt-of-le, lt-of-le-of-lt, pow-succ', pow-le-pow-right}
 use native.Mathlib.Omega.{arith}
 use borrow.Author.Tests.{le-ltb}
-use lib.IntN.{ℤ, pos}
-use lib.Dec.{T, leb, ltb, leb→le, nleb→lt, ltb→lt, nltb→le, lit<, lit≤}
+use lib.IntN.{ℤ}
+use lib.Dec.{T, leb, ltb, leb→le, nleb→lt, ltb→lt, nltb→le, lit<}
 use lib.Pow.{pow-add, pow-pos, pow-mono}
-use lib.Ieee.{Float, nan, inf, fin, binary64, up, down, size, odd, units, fits, isNan, le, lt, eq, ofBits, toBits}
+use lib.Ieee.{Float, nan, inf, fin, binary64, up, down, size, odd, units, fits, isNan, le, lt, eq, ofBits}
 use lib.Ieee.Bits.{ofBits-fits}
 use lib.Ieee.Digits.{size-lt, size-reaches}
 use lib.Ieee.Exact.{HasValue, units-val}
@@ -28,8 +28,8 @@ use Rattle.roots.proofs.Halves.{mul-lt}
 use Rattle.roots.specs.Inside.{placeOf, digitsOf, infiniteBits}
 use Rattle.roots.proofs.Evens.{odd-square, even-mono, even-root, down as lies-down}
 use Rattle.roots.proofs.Scales.{Hits, hit, four-pos, square-power, few-digits, all-digits}
-use Rattle.roots.proofs.Packing.{packed, count-of-value}
-use Rattle.roots.proofs.Sized.{Sized, sized, Finite, Magnitude, magnitude}
+use Rattle.roots.proofs.Packing.{packed}
+use Rattle.roots.proofs.Sized.{sized, Magnitude, magnitude}
 
 three-ways : (k j : ℕ) → (k < j) ⊎ ((k ≡ j) ⊎ (j < k))
 three-ways k j = go (ltb k j) (ltb→lt k j) (nltb→le k j)

@@ -1,11 +1,11 @@
 -- The whole number nearest to a root, ties to even: `evenRoot` is nearest, only one number is, and a larger n has one that is no smaller. No floats here.
 use mathlib.Core.Path.{_≡_, refl, sym, ap, _∙_, subst}
-use mathlib.Core.Bool.{Bool, true, false, not, cond}
+use mathlib.Core.Bool.{Bool, true, false, cond}
 use Prim.Native.Nat.{ℕ, zero, suc, _+_, _-_, _*_, _/_, _%_, _^_, _≤_, _<_}
-use native.Mathlib.Nat.{mul-comm, mul-assoc, mul-add, add-mul, mul-le-mul, mul-le-mul-right, mul-lt-mul-of-pos-right, le-antisymm, le-trans, le-of-eq, lt-irrefl, lt-of-not-le, le-of-suc-le-suc, lt-of-lt-of-le, lt-of-le-of-lt, le-of-mul-le-mul-right, lt-of-mul-lt-mul-right, eq-of-mul-eq-mul-right, div-mul-le-self, lt-div-mul-add, div-lt-iff-lt-mul, pow-succ'}
+use native.Mathlib.Nat.{mul-assoc, add-mul, mul-le-mul, mul-le-mul-right, mul-lt-mul-of-pos-right, le-antisymm, le-trans, le-of-eq, lt-irrefl, lt-of-not-le, le-of-suc-le-suc, lt-of-lt-of-le, lt-of-le-of-lt, le-of-mul-le-mul-right, eq-of-mul-eq-mul-right, div-mul-le-self, lt-div-mul-add, div-lt-iff-lt-mul}
 use native.Mathlib.Omega.{arith}
 use borrow.Author.Tests.{ltb-true, ltb-false}
-use lib.Dec.{T, ltb, lit<, lit≤}
+use lib.Dec.{ltb, lit<, lit≤}
 use Rattle.roots.specs.Root.{wholeRoot}
 use Rattle.roots.proofs.Squares.{square-add, square-twice, whole-root}
 use Rattle.roots.specs.Hypot.{NearestEven, evenRoot}

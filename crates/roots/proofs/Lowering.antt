@@ -1,8 +1,8 @@
 -- Wide numbers and their lowering: what stands for v / 2 ^ c compares with every even number as v / 2 ^ c does.
-use mathlib.Core.Path.{_≡_, refl, sym, ap, _∙_, subst}
-use mathlib.Core.Logic.{_⊎_, inl, inr}
+use mathlib.Core.Path.{_≡_, sym, ap, _∙_, subst}
+use mathlib.Core.Logic.{inl, inr}
 use Prim.Native.Nat.{ℕ, zero, suc, _+_, _-_, _*_, _/_, _%_, _^_, _≤_, _<_}
-use native.Mathlib.Nat.{mul-assoc, mul-right-comm, mul-comm, mul-one, one-mul, add-mul, mul-le-mul-right, mul-lt-mul-of-pos-right, mul-mul-mul-comm, le-trans, le-of-eq, lt-of-le-of-lt, lt-of-lt-of-le, lt-irrefl, eq-of-mul-eq-mul-right, div-add-mod', mod-lt, pow-suc, div-lt-iff-lt-mul, mul-add, mul-div-cancel, mul-mod-left, add-zero, lt-of-mul-lt-mul-right}
+use native.Mathlib.Nat.{mul-assoc, mul-right-comm, mul-comm, mul-one, one-mul, add-mul, mul-le-mul-right, mul-lt-mul-of-pos-right, mul-mul-mul-comm, le-trans, le-of-eq, lt-of-le-of-lt, lt-of-lt-of-le, eq-of-mul-eq-mul-right, div-add-mod', mod-lt, pow-suc, div-lt-iff-lt-mul, mul-div-cancel, mul-mod-left, add-zero, lt-of-mul-lt-mul-right}
 use native.Mathlib.Omega.{arith}
 use lib.Arith.{mod-mul}
 use lib.Dec.{lit<}

@@ -3,18 +3,17 @@
 use mathlib.Core.Path.{_≡_, refl, sym, ap, _∙_, subst}
 use mathlib.Core.Bool.{Bool, true, false, not, cond}
 use mathlib.Core.Logic.{_⊎_, inl, inr}
-use Prim.Native.Nat.{ℕ, zero, suc, _+_, _-_, _*_, _/_, _%_, _^_, _≤_, _<_}
-use native.Mathlib.Nat.{zero-add, mul-assoc, mul-one, mul-le-mul, mul-div-cancel, le-antisymm, le-trans, le-of-eq, le-of-suc-le-suc, eq-or-lt-of-le, lt-of-not-le, lt-of-lt-of-le, not-le-of-lt, pow-succ'}
+use Prim.Native.Nat.{ℕ, zero, suc, _+_, _-_, _*_, _/_, _^_, _≤_, _<_}
+use native.Mathlib.Nat.{zero-add, mul-assoc, mul-one, mul-le-mul, mul-div-cancel, le-trans, le-of-eq, le-of-suc-le-suc, eq-or-lt-of-le, pow-succ'}
 use native.Mathlib.Omega.{arith}
 use borrow.Author.Tests.{le-ltb}
-use lib.Dec.{T, leb, ltb, eqb, lit<, lit≤}
-use lib.Pow.{pow-add, pow-pos, pow-mono}
+use lib.Dec.{T, leb, ltb, lit<, lit≤}
+use lib.Pow.{pow-add, pow-mono}
 use lib.Count.{trailingZeros}
-use lib.Bits.{bitAnd, and-mask}
-use lib.Ieee.{Float, nan, inf, fin, binary64, up, down, size, odd, units, ofFields, ofBits, nanBits, fits, toBits}
+use lib.Ieee.{Float, nan, inf, fin, binary64, down, odd, units, ofFields, ofBits, nanBits}
 use lib.Ieee.Fits.{down-pos}
 use lib.Ieee.Exact.{HasValue}
-use Rattle.numbers.proofs.Patterns.{apart, exponentOf, fractionOf, exponent-lt, fraction-lt, made, made-no-nan, special, subnormal, normal-value, subnormal-value}
+use Rattle.numbers.proofs.Patterns.{made, made-no-nan, subnormal, normal-value, subnormal-value}
 use Rattle.numbers.proofs.Significands.{in-range, odd-enough, plain-pattern, plain-no-nan}
 use Rattle.roots.specs.Hypot.{countOf}
 use Rattle.roots.specs.Inside.{placeOf, digitsOf, infiniteBits}

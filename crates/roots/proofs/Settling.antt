@@ -1,8 +1,8 @@
 -- Why the check of a candidate is right in 64 bits: 2 * s is a * 2 ^ 27 + b, its square is subtracted in three pieces, and each test bounds the next piece.
-use mathlib.Core.Path.{_≡_, refl, sym, ap, _∙_, subst}
+use mathlib.Core.Path.{_≡_, sym, ap, _∙_, subst}
 use mathlib.Core.Logic.{_⊎_, inl, inr}
 use Prim.Native.Nat.{ℕ, zero, suc, _+_, _-_, _*_, _/_, _%_, _^_, _≤_, _<_}
-use native.Mathlib.Nat.{mul-assoc, mul-right-comm, mul-comm, mul-one, add-mul, mul-add, mul-le-mul-right, mul-lt-mul-of-pos-right, mul-mul-mul-comm, le-of-eq, lt-of-le-of-lt, lt-of-lt-of-le, lt-of-mul-lt-mul-right, mod-eq-of-lt, mul-div-mul-right, div-add-mod', pow-suc}
+use native.Mathlib.Nat.{mul-assoc, mul-right-comm, mul-comm, mul-one, add-mul, mul-le-mul-right, mul-lt-mul-of-pos-right, mul-mul-mul-comm, le-of-eq, lt-of-le-of-lt, lt-of-lt-of-le, lt-of-mul-lt-mul-right, mod-eq-of-lt, mul-div-mul-right, div-add-mod', pow-suc}
 use native.Mathlib.Omega.{arith}
 use lib.Dec.{lit<}
 use lib.Pow.{pow-add, pow-pos}

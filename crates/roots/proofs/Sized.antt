@@ -1,14 +1,14 @@
 -- What the bits of magnitudes tell: their places and digits, their counts, and so what `hypotOf` is of two of them.
 use mathlib.Core.Path.{_≡_, refl, sym, ap, _∙_, subst}
-use mathlib.Core.Bool.{Bool, true, false, not, cond, _||_, false≢true}
+use mathlib.Core.Bool.{Bool, true, false, not, cond, _||_}
 use mathlib.Core.Logic.{_⊎_, inl, inr}
 use Prim.Native.Nat.{ℕ, zero, suc, _+_, _-_, _*_, _/_, _%_, _^_, _≤_, _<_, max, min}
-use native.Mathlib.Nat.{add-comm, le-of-suc-le-suc, eq-or-lt-of-le, mod-lt}
+use native.Mathlib.Nat.{add-comm, le-of-suc-le-suc, eq-or-lt-of-le}
 use native.Mathlib.Omega.{arith}
 use borrow.Author.Tests.{eqb-true}
-use lib.Dec.{T, leb, ltb, eqb, lit<, le→leb, leb→le, nleb→lt, not-T}
+use lib.Dec.{T, leb, eqb, le→leb, leb→le, nleb→lt, not-T}
 use lib.Bits.{bitAnd, and-mask}
-use lib.Ieee.{Float, nan, inf, fin, binary64, units, ofFields, ofBits, nanBits, fits, toBits, isNan}
+use lib.Ieee.{Float, nan, inf, fin, binary64, ofFields, ofBits, nanBits, fits, toBits, isNan}
 use lib.Ieee.Bits.{is-true, is-false}
 use lib.Ieee.Exact.{HasValue}
 use Rattle.numbers.proofs.Patterns.{apart, exponentOf, fractionOf, exponent-lt, fraction-lt, special}

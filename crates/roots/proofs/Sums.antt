@@ -1,10 +1,10 @@
 -- The sum of two squares, as f64s compute it, is a NaN exactly where one of the two numbers is.
-use mathlib.Core.Path.{_≡_, refl, sym, ap, _∙_, subst}
+use mathlib.Core.Path.{_≡_, refl, sym, _∙_, subst}
 use mathlib.Core.Bool.{Bool, true, false, not, cond, _||_, _&&_, Bool·beq}
 use Prim.Native.Nat.{ℕ, zero, suc, _+_, _-_, _*_, _/_, _%_, _^_, compare}
 use lib.Dec.{T, ltb}
-use lib.Ieee.{Float, nan, inf, fin, binary64, emax, low, up, down, unlike, size, nearest, odd, units, round, sum, add, mul, ne, isNan}
-use Rattle.rules.proofs.Branches.{either, by-test, no, nan-left}
+use lib.Ieee.{Float, nan, inf, fin, binary64, up, down, unlike, size, nearest, odd, units, round, sum, add, mul, ne, isNan}
+use Rattle.rules.proofs.Branches.{either, by-test, no}
 use Rattle.numbers.proofs.Patterns.{no-nan}
 
 abbrev squares : Float → Float → Float

@@ -11,7 +11,6 @@ use Rattle.rows.specs.declared.Axis.{Axis}
 use Rattle.rows.specs.declared.Lane.{Lane}
 use Rattle.rows.specs.Lanes.{between}
 use Rattle.rows.specs.Stretches.{Ends, stretchesOf}
-use Rattle.probe.specs.declared.Aim.{Aim}
 use Rattle.probe.specs.Probe.{onLevel, clear}
 use Rattle.parameters.specs.declared.Parameters.{Parameters}
 use Rattle.row_runs.specs.Search.{Found, piecesAlong, empty, directed, rowFound, rowsFound, levelFound, levelsFound, aimOf, laneOf}

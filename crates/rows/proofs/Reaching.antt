@@ -29,7 +29,7 @@ use Rattle.rows.specs.declared.Axis.the-variants.{X, Y}
 use Rattle.rows.specs.declared.Spread.{Spread}
 use Rattle.rows.specs.declared.Lane.{Lane}
 use Rattle.rows.specs.Lanes.{real, spreadOf, partsOf, crossOf, alongOf, laidOf, between}
-use Rattle.rows.specs.Stretches.{Ends, ends, sampled, endedAt, stretchesFrom, stretchesOf, turned, backward}
+use Rattle.rows.specs.Stretches.{Ends, sampled, endedAt, stretchesFrom, stretchesOf, turned, backward}
 use Rattle.rows.proofs.Turning.{sampled-length}
 
 -- ---- the box grown by the radius

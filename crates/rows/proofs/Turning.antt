@@ -1,14 +1,13 @@
 -- A row sampled from its other end has the same stretches, in the other order and each from its other end.
 use mathlib.Core.Bool.{Bool, true, false, cond}
 use mathlib.Core.List.{List, [], _∷_, _++_, map, reverse, reverse-cons, reverse-append, map-append, map-map, append-assoc, append-nil}
-use mathlib.Core.Logic.{_⊎_, inl, inr, ⊎-elim}
 use mathlib.Core.Path.{_≡_, refl, sym, ap, _∙_}
 use Prim.Native.Nat.{ℕ, zero, suc, _+_, _-_, _≤_, _<_}
 use native.Mathlib.Numerals.{add-one}
 use native.Mathlib.Omega.{arith}
 use borrow.Author.Tests.{ltb-true}
 use lib.Dec.{ltb}
-use lib.ListN.{length, replicate, length-reverse, replicate-append-replicate}
+use lib.ListN.{length, replicate, length-reverse}
 use Rattle.rows.specs.Stretches.{Ends, ends, sampled, endedAt, stretchesFrom, stretchesOf, turned, backward}
 
 -- ends as they stand d samples further on, and as they stand in a row of n samples from its other end

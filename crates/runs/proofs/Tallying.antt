@@ -1,16 +1,16 @@
 -- Laws of the tally: what stands in the table and in the tally once some pieces are taken.
-use mathlib.Core.Bool.{Bool, true, false, cond, _&&_}
+use mathlib.Core.Bool.{Bool, true, false, cond}
 use mathlib.Core.List.{List, [], _∷_, _++_, map, append-assoc, append-nil}
 use mathlib.Core.Logic.{_⊎_, inl, inr, ⊎-elim}
 use mathlib.Core.Path.{_≡_, refl, sym, ap, _∙_}
-use Prim.Native.Nat.{ℕ, zero, suc, _+_, _*_, _/_, _≤_, _<_, min}
+use Prim.Native.Nat.{ℕ, _+_, _*_, _/_, _≤_, _<_, min}
 use native.Mathlib.Omega.{arith}
-use borrow.Author.Tests.{le-leb, lt-leb, leb-true, leb-false}
+use borrow.Author.Tests.{lt-leb, leb-true, leb-false}
 use lib.Dec.{leb}
 use lib.Ieee.{Float}
 use lib.ListN.{length, length-append}
 use Rattle.numbers.specs.Reals.{_⊕_, f0}
-use Rattle.rules.proofs.Branches.{taken, left}
+use Rattle.rules.proofs.Branches.{left}
 use Rattle.fives.specs.Tables.{roomOf, putAt, written}
 use Rattle.fives.specs.Groups.{grouped}
 use Rattle.fives.proofs.Writing.{written-more, written-length}

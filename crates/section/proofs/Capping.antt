@@ -1,38 +1,34 @@
 -- The section's surface is nowhere below z0. So no vertex gives a tip above its height less z0, and no edge a bound above its higher end less z0 and what the search's bound adds at most.
-use mathlib.Core.Bool.{Bool, true, false, cond, _&&_}
-use mathlib.Core.Logic.{_⊎_, inl, inr, ⊎-elim}
-use mathlib.Core.Path.{_≡_, refl, ap, sym, _∙_, subst}
-use Prim.Native.Nat.{ℕ, _+_, _*_}
-use native.Mathlib.Nat.{mul-pos, zero-mul, mul-one}
+use mathlib.Core.Bool.{Bool, true, false, cond}
+use mathlib.Core.Logic.{⊎-elim}
+use mathlib.Core.Path.{_≡_, refl, sym, _∙_, subst}
+use Prim.Native.Nat.{ℕ}
+use native.Mathlib.Nat.{zero-mul}
 use native.Mathlib.Omega.{arith}
 use lib.Dec.{T}
 use lib.IntN.{pos, negsuc}
-use lib.Ieee.{Float, nan, inf, fin, binary64, down, sum, round, add, sub, mul, neg, lt, le, eq, fits, isNan, ofBits}
+use lib.Ieee.{Float, nan, inf, fin, binary64, down, sum, round, add, sub, mul, neg, lt, le, fits, isNan, ofBits}
 use lib.Ieee.Fits.{add-fits}
-use lib.Ieee.Positive.{den, den-pos}
 use lib.Ieee.Scale.{finite}
 use lib.Ieee.Bits.{is-true}
-use Rattle.numbers.specs.Reals.{_⊕_, _⊖_, _⊗_, f0, f1, million, billion, minOf, maxOf, absOf, million-is, f0-is}
+use Rattle.numbers.specs.Reals.{_⊕_, _⊖_, _⊗_, f0, f1, million, billion, minOf, absOf, million-is, f0-is}
 use Rattle.golden.specs.Phi.{phi60}
 use Rattle.roots.specs.Root.{rootOf}
 use Rattle.rules.proofs.Branches.{either, by-test, both-true, no, holds}
 use Rattle.plane.specs.declared.Contact.{Contact}
-use Rattle.plane.specs.declared.Contact.the-variants.{Nothing, Height}
-use Rattle.plane.specs.Contacts.{corner, edge, takeOf}
+use Rattle.plane.specs.Contacts.{corner, edge}
 use Rattle.above.specs.Above.{offerOf}
 use Rattle.above.specs.Inside.{limitOf}
 use Rattle.above.proofs.Above.{stays-under}
 use Rattle.golden.specs.Search.{goldenMax, boundOf, goldenMaxBound}
 use Rattle.cutters.specs.declared.Edge.{Edge}
-use Rattle.cutters.specs.declared.Stretch.{Stretch}
-use Rattle.cutters.specs.declared.Stretch.the-variants.{Nowhere, Between}
-use Rattle.cutters.specs.Touch.{along, distanceAt, length2, reachedOf}
+use Rattle.cutters.specs.Touch.{length2}
 use Rattle.plane.specs.Ranges.{isCoordinate}
-use Rattle.order.proofs.Signed.{upper, lower, parts→le, is-le, is-sub}
-use Rattle.order.proofs.Ranges.{finite-between, sub-mono, zero-is}
-use Rattle.plane.proofs.Ranges.{two, minus-two}
-use Rattle.order.proofs.Extremes.{either-of, le-self, not-below, max-least, lt-le}
-use Rattle.order.proofs.Order.{O, le-trans, sub-turns, add-left, add-right, mul-up, mul-down, mul-swap, no-lower, no-upper, is-mul, own}
+use Rattle.order.proofs.Signed.{lower, parts→le}
+use Rattle.order.proofs.Ranges.{finite-between, sub-mono}
+use Rattle.plane.proofs.Ranges.{two}
+use Rattle.order.proofs.Extremes.{either-of, le-self, lt-le}
+use Rattle.order.proofs.Order.{O, le-trans, sub-turns, add-left, add-right, mul-up, mul-down, mul-swap, no-lower}
 use Rattle.order.proofs.Roots.{root-finite}
 use Rattle.bound.proofs.Unit.{I, Unit, unit-finite}
 use Rattle.bound.proofs.Along.{at, along-between, Between as Lies}

@@ -1,33 +1,32 @@
 -- The surface grows with the distance from the axis, so no place of an edge from lo to hi gives a tip above the cap; where that is at most the larger of the two ends' values the search
 -- finds that.
-use mathlib.Core.Bool.{Bool, true, false, cond}
-use mathlib.Core.Logic.{_⊎_, inl, inr, ⊎-elim}
-use mathlib.Core.Path.{_≡_, refl, ap, sym, _∙_, subst}
+use mathlib.Core.Bool.{true, false}
+use mathlib.Core.Logic.{⊎-elim}
+use mathlib.Core.Path.{_≡_, sym, _∙_, subst}
 use Prim.Native.Nat.{ℕ}
 use lib.Dec.{T}
-use lib.Ieee.{Float, nan, inf, fin, binary64, div, lt, le, eq, fits, isNan, ofBits}
+use lib.Ieee.{Float, binary64, div, le, fits, isNan, ofBits}
 use lib.Ieee.Scale.{finite}
 use lib.Ieee.Bits.{is-true}
 use Rattle.numbers.specs.Reals.{_⊕_, _⊖_, _⊗_, _⊘_, f0, minOf, maxOf}
 use Rattle.rules.proofs.Branches.{by-test, no, holds}
 use Rattle.golden.specs.Search.{goldenMax}
 use Rattle.cutters.specs.declared.Edge.{Edge}
-use Rattle.cutters.specs.Touch.{along, distanceAt}
+use Rattle.cutters.specs.Touch.{distanceAt}
 use Rattle.order.proofs.Ranges.{sub-mono}
-use Rattle.order.proofs.Order.{O, le-trans, sub-turns, add-right, mul-up, no-lower}
+use Rattle.order.proofs.Order.{le-trans, sub-turns, add-right, mul-up, no-lower}
 use Rattle.order.proofs.Extremes.{min-up}
 use Rattle.bound.proofs.Along.{at}
-use Rattle.bound.proofs.Small.{M, small-finite}
+use Rattle.bound.proofs.Small.{M}
 use Rattle.caps.specs.Inside.{highOn, leastOn, tameOn}
 use Rattle.caps.proofs.Bracket.{In}
 use Rattle.caps.proofs.Inside.{ends-largest}
 use Rattle.caps.proofs.Places.{number-of}
-use Rattle.caps.proofs.Boxes.{Ordered, places, high-fine, under-high, distance-fine, farther, least-fine}
+use Rattle.caps.proofs.Boxes.{Ordered, places, high-fine, under-high, farther, least-fine}
 use Rattle.section.specs.declared.Section.{Section}
-use Rattle.section.specs.declared.Surface.the-variants.{Beyond, Over}
 use Rattle.section.specs.Section.{profileOf, heightOver, sectionAt}
 use Rattle.section.specs.Inside.{Firm, overOf, capOf}
-use Rattle.section.proofs.Capping.{Valid, valid-parts, top, height-all, least-far, f-top, fz, f1′, fr, climb-fine, beyond}
+use Rattle.section.proofs.Capping.{Valid, valid-parts, height-all, least-far, f-top, fz, f1′, fr, climb-fine, beyond}
 
 -- ---- the surface
 near-height : (s : Section) (d : Float) → le d (s .r0) ≡ true → heightOver (profileOf s d) ≡ s .z0

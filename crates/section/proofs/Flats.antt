@@ -1,7 +1,6 @@
 -- Where the square of a distance is at most that of r0, the distance is within r0, and the surface is at z0 there.
-use mathlib.Core.Bool.{Bool, true, false, cond}
-use mathlib.Core.Path.{_≡_, refl}
-use lib.Dec.{T}
+use mathlib.Core.Bool.{true}
+use mathlib.Core.Path.{_≡_}
 use lib.Ieee.{Float, le}
 use lib.Ieee.Bits.{is-true}
 use Rattle.numbers.specs.Reals.{_⊕_, _⊖_, _⊗_, minOf}
@@ -10,7 +9,6 @@ use Rattle.cutters.specs.declared.Edge.{Edge}
 use Rattle.cutters.specs.Touch.{along, distanceAt}
 use Rattle.order.proofs.Extremes.{min-under}
 use Rattle.section.specs.declared.Section.{Section}
-use Rattle.section.specs.declared.Surface.the-variants.{Beyond, Over}
 use Rattle.section.specs.Section.{profileOf, heightOver, sectionAt}
 use Rattle.section.specs.Inside.{FlatTo}
 

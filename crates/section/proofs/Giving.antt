@@ -1,6 +1,6 @@
 -- A search along an edge that is given up, or not begun: no place that it can still look at gives a tip above the larger end's, or a bound above the limit.
 use mathlib.Core.Bool.{true, false}
-use mathlib.Core.Logic.{_⊎_, inl, inr, ⊎-elim}
+use mathlib.Core.Logic.{⊎-elim}
 use mathlib.Core.Path.{_≡_, refl, ap, sym, _∙_, subst}
 use Prim.Native.Nat.{ℕ, _≤_}
 use lib.Dec.{T}
@@ -8,7 +8,6 @@ use lib.Ieee.{Float, nan, inf, fin, binary64, add, lt, le, eq, fits, isNan}
 use Rattle.numbers.specs.Reals.{_⊕_, _⊖_, _⊗_, maxOf}
 use Rattle.golden.specs.Phi.{phi60}
 use Rattle.rules.proofs.Branches.{no}
-use Rattle.plane.specs.declared.Contact.{Contact}
 use Rattle.plane.specs.declared.Contact.the-variants.{Nothing, Height}
 use Rattle.plane.specs.Contacts.{edge}
 use Rattle.above.specs.Above.{offerOf}

@@ -1,17 +1,12 @@
 -- The candidates of a section that go on from a contact c.
-use mathlib.Core.Path.{_≡_, refl, ap, sym, _∙_}
-use Prim.Native.Nat.{ℕ}
+use mathlib.Core.Path.{_≡_, ap, sym, _∙_}
 use lib.Ieee.{Float}
-use Rattle.roots.specs.Hypot.{hypotOf}
-use Rattle.numbers.specs.Reals.{_⊖_}
 use Rattle.plane.specs.declared.Triangle.{Triangle}
 use Rattle.plane.specs.declared.Contact.{Contact}
 use Rattle.above.specs.Above.{offerOf}
 use Rattle.above.proofs.Above.{offers, three-on}
-use Rattle.cutters.specs.declared.Edge.{Edge}
-use Rattle.cutters.specs.declared.Stretch.{Stretch}
 use Rattle.cutters.specs.declared.Facing.{Facing}
-use Rattle.cutters.specs.Touch.{edgeAb, edgeBc, edgeCa, reachedOf, facingOf}
+use Rattle.cutters.specs.Touch.{edgeAb, edgeBc, edgeCa, facingOf}
 use Rattle.section.specs.declared.Section.{Section}
 use Rattle.section.specs.Section.{sectionVertices, sectionEdge, sectionEdges, sectionFacet, sectionContact}
 

@@ -1,8 +1,7 @@
 -- Beyond r1, which is not below r0, the section has no surface, and a vertex there no candidate.
-use mathlib.Core.Bool.{Bool, true, false}
-use mathlib.Core.Path.{_≡_, refl, sym, _∙_}
+use mathlib.Core.Bool.{true, false}
+use mathlib.Core.Path.{_≡_, sym, _∙_}
 use Prim.Native.Nat.{ℕ}
-use lib.Dec.{T}
 use lib.Ieee.{Float, binary64, div, lt, le, eq, ofBits}
 use lib.Ieee.Fits.{sub-fits}
 use lib.Ieee.Bits.{is-true}

@@ -6,7 +6,6 @@ use Rattle.numbers.specs.Reals.{_⊕_, _⊖_, f0, minOf, maxOf}
 use Rattle.roots.specs.Hypot.{hypotOf}
 use Rattle.plane.specs.declared.Triangle.{Triangle}
 use Rattle.plane.specs.declared.Bounds.{Bounds}
-use Rattle.plane.specs.Mesh.{boundsOf}
 use Rattle.golden.specs.Upper.{concaveMaxUpper}
 use Rattle.cutters.specs.declared.Stretch.{Stretch}
 use Rattle.cutters.specs.declared.Stretch.the-variants.{Nowhere, Between}

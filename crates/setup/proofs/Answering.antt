@@ -2,7 +2,7 @@
 use mathlib.Core.Bool.{Bool, true, _&&_}
 use mathlib.Core.List.{List}
 use mathlib.Core.Path.{_≡_, refl, ap, sym, _∙_, subst⁻¹}
-use Prim.Native.Nat.{ℕ, _+_, _*_, _≤_, _<_}
+use Prim.Native.Nat.{ℕ, _*_, _≤_, _<_}
 use native.Mathlib.Nat.{mul-le-mul-right}
 use native.Mathlib.Omega.{arith}
 use borrow.Author.Tests.{eqb-true, leb-true, ltb-true, eq-eqb, ne-eqb}
@@ -10,7 +10,7 @@ use lib.Dec.{lit<, eqb, leb, ltb}
 use lib.IntN.{ℤ}
 use lib.ListN.{length, getD}
 use Rattle.rules.proofs.Branches.{both-true, taken, left}
-use Rattle.walk.specs.Walk.{Walk, block, fold, walked, nextStamp, readyMarks}
+use Rattle.walk.specs.Walk.{Walk, block, fold, nextStamp, readyMarks}
 use Rattle.walk.specs.Inside.{look, Walkable}
 use Rattle.walk.proofs.Lists.{walk-is}
 use Rattle.rules.proofs.Ladder.{demanded}
@@ -23,10 +23,9 @@ use Rattle.um.specs.Index.{Index}
 use Rattle.setup.specs.declared.Best.{Best}
 use Rattle.setup.specs.declared.Reach.{Reach}
 use Rattle.setup.specs.declared.Seen.{Seen}
-use Rattle.setup.specs.declared.Answer.{Answer}
 use Rattle.setup.specs.declared.Question.{Question}
 use Rattle.setup.specs.Question.{isQuestion, reachOf, stepOf, patchOf}
-use Rattle.setup.specs.Answer.{isMarked, headUsable, triangleUsable, memberUsable, tablesUsable, refusalOfTables, refusalOf, within, setupWalk, refusedBy, answeredBy, setupHeightOf}
+use Rattle.setup.specs.Answer.{isMarked, triangleUsable, memberUsable, tablesUsable, refusalOfTables, refusalOf, setupWalk, refusedBy, answeredBy, setupHeightOf}
 use Rattle.setup.specs.Inside.{seen, Small}
 use Rattle.setup.proofs.Reaching.{small-reach, patch-inside}
 use Rattle.setup.proofs.Heads.{Headed, headed-is}

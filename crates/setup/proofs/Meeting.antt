@@ -1,5 +1,5 @@
 -- A triangle of the mesh whose box meets the question's box shares a cell with the question.
-use mathlib.Core.Bool.{true, false, _&&_}
+use mathlib.Core.Bool.{true}
 use mathlib.Core.List.{List}
 use mathlib.Core.Path.{_≡_, refl, _∙_, subst⁻¹}
 use Prim.Native.Nat.{ℕ, zero, suc, _+_, _-_, _*_, _/_, _%_, _≤_, _<_, min, max}
@@ -17,10 +17,8 @@ use Rattle.query.specs.Looked.{SharesCell}
 use Rattle.micro.specs.declared.Box.{Box}
 use Rattle.micro.specs.Micro.{boxOf}
 use Rattle.um.specs.declared.Grid.{Grid}
-use Rattle.um.specs.declared.Extent.{Extent}
 use Rattle.um.specs.Grid.{cellsAlong, extentOf, gridOf, stretchOf, cellsOf, coverOf}
-use Rattle.um.specs.Build.{gridIn}
-use Rattle.um.specs.Index.{Index, coversOf, SoundIndex}
+use Rattle.um.specs.Index.{Index, SoundIndex}
 use Rattle.um.proofs.Extents.{inside, box-order}
 use Rattle.setup.specs.declared.Reach.{Reach}
 use Rattle.setup.specs.declared.Question.{Question}

@@ -6,10 +6,9 @@ use Prim.Native.Nat.{ℕ, _+_, _*_, _≤_, _<_}
 use native.Mathlib.Omega.{arith}
 use borrow.Author.Tests.{eqb-true, eq-eqb, le-leb, lt-ltb}
 use lib.Dec.{eqb}
-use lib.IntN.{ℤ}
 use lib.ListN.{length, getD}
 use Rattle.rules.proofs.Branches.{by-test}
-use Rattle.rules.specs.Every.{times, every}
+use Rattle.rules.specs.Every.{times}
 use Rattle.cells.proofs.Reading.{member-of}
 use Rattle.walk.specs.Walk.{Walk, cell, walked, nextStamp}
 use Rattle.rules.proofs.Ladder.{demand-next}
@@ -19,13 +18,13 @@ use Rattle.rules.proofs.Testing.{every-all}
 use Rattle.query.proofs.Stretches.{usable-each, cell-stands, cells-pass}
 use Rattle.query.proofs.Looks.{each-once, once-shared}
 use Rattle.ask.specs.Ask.{Outcome, ended}
-use Rattle.micro.specs.Micro.{isCoordinate, numberAt, boxOf}
+use Rattle.micro.specs.Micro.{isCoordinate, numberAt}
 use Rattle.um.specs.Index.{Index, coversOf, BuiltFrom, SoundIndex}
 use Rattle.um.proofs.Indexing.{index-sound}
 use Rattle.setup.specs.declared.Best.{Best}
 use Rattle.setup.specs.declared.Answer.{Answer}
 use Rattle.setup.specs.declared.Question.{Question}
-use Rattle.setup.specs.Question.{meets, isQuestion, reachOf, stepOf, fromFloor, plainWalk, patchOf}
+use Rattle.setup.specs.Question.{reachOf, plainWalk, patchOf}
 use Rattle.setup.specs.Answer.{isMarked, headUsable, triangleUsable, memberUsable, tablesUsable, refusalOfTables, refusalOf, within, lookedIn, setupWalk, refusedBy, answeredBy, setupHeightOf}
 use Rattle.setup.specs.Demand.{Shares, GoodQuestion, Plain, SetupPromise}
 use Rattle.setup.proofs.Reaching.{patch-inside}

@@ -9,7 +9,6 @@ use Rattle.query.specs.declared.Patch.{Patch}
 use Rattle.query.specs.Asked.{NoneAbove}
 use Rattle.query.specs.Looked.{SharesCell, EachOnce}
 use Rattle.um.specs.Index.{Index, coversOf, BuiltFrom}
-use Rattle.setup.specs.declared.Best.{Best}
 use Rattle.setup.specs.declared.Answer.{Answer}
 use Rattle.setup.specs.declared.Question.{Question}
 use Rattle.setup.specs.Question.{isQuestion, reachOf, plainWalk, patchOf}

@@ -1,17 +1,17 @@
 -- The bits of an f32: when they are finite, which number they are, and where a cast to f64 loses nothing.
 use mathlib.Core.Bool.{Bool, true, false, not, cond, _&&_}
 use mathlib.Core.Path.{_≡_, refl, ap, sym, subst, _∙_}
-use Prim.Native.Nat.{ℕ, zero, suc, _+_, _-_, _*_, _/_, _%_, _^_, _≤_, _<_}
+use Prim.Native.Nat.{ℕ, zero, suc, _+_, _-_, _*_, _/_, _%_, _^_}
 use native.Mathlib.Omega.{arith}
 use lib.Dec.{T, eqb, eqb·suc-zero}
-use lib.Ieee.{Float, nan, inf, fin, binary32, binary64, odd, ofFields, ofBits, isNan, fits}
+use lib.Ieee.{Float, nan, inf, binary32, binary64, ofFields, ofBits, isNan, fits}
 use lib.Ieee.Bits.{nanBits-is, ofBits-fits}
 use lib.Ieee.Exact.{HasValue, odd-sign}
 use lib.Ieee.Fits.{and-i, fits-widens}
 use lib.Pow.{field}
 use Rattle.fields.specs.Rows.{finite}
 use Rattle.fields.proofs.Finite.{pattern-finite, finite-bits}
-use Rattle.single.specs.Single.{negative, exponent, digits, whole, power, IsNumberOf, valueOf}
+use Rattle.single.specs.Single.{negative, exponent, digits, whole, IsNumberOf, valueOf}
 
 pub bits-finite : (b : ℕ) → finite (valueOf b) ≡ not (eqb (b / 2 ^ 23 % 2 ^ 8) 255)
 unfolding valueOf

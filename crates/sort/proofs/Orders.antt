@@ -1,12 +1,12 @@
 -- Sorted lists over a strict order: two of the same numbers are the same list.
 use mathlib.Core.Bool.{Bool, true, false, cond}
 use mathlib.Core.List.{List, [], _∷_, _++_}
-use mathlib.Core.Logic.{_⊎_, inl, inr, ⊎-elim}
-use mathlib.Core.Path.{_≡_, refl, sym, _∙_, ap, subst}
-use Prim.Native.Nat.{ℕ, zero, suc, _+_, _*_, _≤_, _<_}
+use mathlib.Core.Logic.{⊎-elim}
+use mathlib.Core.Path.{_≡_, refl, sym, _∙_, ap}
+use Prim.Native.Nat.{ℕ, zero, suc, _+_, _≤_, _<_}
 use native.Mathlib.Omega.{arith}
-use borrow.Author.Tests.{eq-eqb, ne-eqb, eqb-true}
-use lib.Dec.{eqb, ltb}
+use borrow.Author.Tests.{eq-eqb, eqb-true}
+use lib.Dec.{eqb}
 use lib.ListN.{length, getD, take, drop, length-take, length-drop, take-append-drop}
 use lib.Seq.{ext-getD, getD-take, getD-drop}
 use Rattle.rules.proofs.Times.{times-append}
@@ -14,7 +14,7 @@ use Rattle.rules.proofs.Branches.{either}
 use Rattle.sort.specs.Ranks.{insert, sortedBy}
 use Rattle.rules.specs.Every.{times}
 use Rattle.sort.specs.Inside.{Rearranged}
-use Rattle.sort.proofs.Counts.{on-or-off, same-or-not}
+use Rattle.sort.proofs.Counts.{on-or-off}
 use Rattle.sort.proofs.Heaps.{Strict, Tail}
 
 module _ (less : ℕ → ℕ → Bool) where

@@ -2,17 +2,17 @@
 use mathlib.Core.Bool.{Bool, true, false, cond}
 use mathlib.Core.List.{List}
 use mathlib.Core.Logic.{_⊎_, inl, inr, ⊎-elim}
-use mathlib.Core.Path.{_≡_, refl, sym, ap, _∙_}
-use Prim.Native.Nat.{ℕ, _≤_, _<_}
+use mathlib.Core.Path.{_≡_, refl, sym, _∙_}
+use Prim.Native.Nat.{ℕ, _≤_}
 use native.Mathlib.Omega.{arith}
 use borrow.Author.Tests.{le-ltb, ltb-false, leb-true, leb-false}
-use lib.Dec.{T, ltb, leb}
+use lib.Dec.{T, leb}
 use lib.Ieee.{Float, binary64, fits}
 use Rattle.numbers.specs.Reals.{num}
 use Rattle.numbers.specs.Order.{totalLess, TotalOrder}
 use Rattle.numbers.proofs.Places.{total-order}
 use Rattle.sort.specs.Ranks.{zOf, before}
-use Rattle.sort.proofs.Counts.{on-or-off, same-or-not}
+use Rattle.sort.proofs.Counts.{on-or-off}
 use Rattle.sort.proofs.Heaps.{Strict}
 
 clash : {A : Type 0} (b : Bool) → b ≡ true → b ≡ false → A

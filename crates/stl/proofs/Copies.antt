@@ -1,14 +1,12 @@
 -- The law of broken copies at STL files.
 use mathlib.Core.List.{List}
 use mathlib.Core.Path.{_≡_, refl, ap, sym, _∙_}
-use Prim.Native.Nat.{ℕ, _+_, _*_, _/_, _≤_, _<_}
+use Prim.Native.Nat.{ℕ, _/_}
 use native.Mathlib.Omega.{arith}
-use borrow.Author.Tests.{eq-eqb, ne-eqb}
+use borrow.Author.Tests.{ne-eqb}
 use lib.Dec.{eqb, lit<}
 use lib.Ieee.{Float}
 use lib.ListN.{length, take}
-use Rattle.rules.proofs.Branches.{taken, left}
-use Rattle.fields.specs.declared.Shape.{Shape}
 use Rattle.fields.specs.Little.{value}
 use Rattle.rules.specs.Ladder.{refuse}
 use Rattle.fields.specs.Room.{tooMany}
@@ -17,7 +15,7 @@ use Rattle.rules.proofs.Ladder.{refuse-next}
 use Rattle.fields.proofs.Room.{room-enough}
 use Rattle.fields.proofs.Copies.{Ladder, said, value-head, told-apart}
 use Rattle.stl.specs.Layout.{count, shape}
-use Rattle.stl.specs.Reader.{refusalOfNumbers, refusalOfLength, refusalOfCount, refusalOf, Outcome, ended, shapeOf, toldWith, refusedBy, readOf, NeverTakenForAPart}
+use Rattle.stl.specs.Reader.{refusalOfNumbers, refusalOfLength, refusalOfCount, refusalOf, Outcome, shapeOf, toldWith, readOf, NeverTakenForAPart}
 use Rattle.stl.proofs.Ladder.{sound}
 use Rattle.stl.proofs.Reading.{refusal-is}
 

@@ -1,8 +1,7 @@
 -- A file gets no refusal exactly where it is sound, and 19 only behind a whole head.
-use mathlib.Core.Bool.{Bool, true, false}
 use mathlib.Core.List.{List}
 use mathlib.Core.Path.{_≡_, refl, sym}
-use Prim.Native.Nat.{ℕ, zero, suc, _+_, _*_, _≤_, _<_}
+use Prim.Native.Nat.{ℕ, zero, suc, _+_, _*_, _≤_}
 use native.Mathlib.Nat.{zero-add}
 use native.Mathlib.Omega.{arith}
 use borrow.Author.Tests.{eqb-false, le-ltb, ltb-false, ne-eqb}
@@ -17,7 +16,7 @@ use Rattle.rules.proofs.Ladder.{refuse-next, refused-not, refused-later}
 use Rattle.fields.proofs.Room.{room-for, room-enough}
 use Rattle.fields.proofs.Lengths.{exact-only, exact-length, rung-exact}
 use Rattle.stl.specs.Layout.{count, shape}
-use Rattle.stl.specs.Reader.{numberOf, badAmong, refusalOfNumbers, refusalOfLength, refusalOfCount, refusalOf, shapeOf, Sound}
+use Rattle.stl.specs.Reader.{refusalOfNumbers, refusalOfLength, refusalOfCount, refusalOf, shapeOf, Sound}
 use Rattle.stl.proofs.Numbers.{clean, good}
 
 positive : (n : ℕ) → (n ≡ 0 → ⊥) → 1 ≤ n

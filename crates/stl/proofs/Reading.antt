@@ -1,13 +1,13 @@
 -- Laws of a whole reading: what is told, refused and accepted, and what an accepted file's count allows.
 use mathlib.Core.Bool.{true}
-use mathlib.Core.List.{List, _++_}
+use mathlib.Core.List.{List}
 use mathlib.Core.Path.{_≡_, refl, ap, sym, _∙_}
 use Prim.Native.Nat.{ℕ, _+_, _*_, _/_, _≤_, _<_}
 use native.Mathlib.Omega.{arith}
 use borrow.Author.Tests.{eq-eqb, ne-eqb, eqb-true}
 use lib.Dec.{eqb}
 use lib.Ieee.{Float}
-use lib.ListN.{length, drop}
+use lib.ListN.{length}
 use Rattle.rules.proofs.Branches.{taken, left, either}
 use Rattle.fields.specs.declared.Shape.{Shape}
 use Rattle.fields.specs.Little.{value}
@@ -15,7 +15,7 @@ use Rattle.fields.specs.Rows.{finite}
 use Rattle.fields.specs.Length.{wholeIn}
 use Rattle.stl.specs.declared.Read.{Read}
 use Rattle.stl.specs.Layout.{count, shape}
-use Rattle.stl.specs.Reader.{numberOf, refusalOf, Outcome, ended, shapeOf, toldWith, refusedBy, acceptedOf, readOf, SoundExactly}
+use Rattle.stl.specs.Reader.{numberOf, refusalOf, Outcome, ended, toldWith, refusedBy, acceptedOf, readOf, SoundExactly}
 use Rattle.stl.proofs.Ladder.{sound, accepted, behind-head}
 
 module _ (bytes : List ℕ) where

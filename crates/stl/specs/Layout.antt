@@ -1,6 +1,6 @@
 -- Document 02, request 3: a binary STL file. "80 bytes of heading, u32 count, 50 bytes a triangle (normal, three vertices, all f32,
 -- then a u16), little endian."
-use mathlib.Core.Bool.{Bool, true, cond, _&&_}
+use mathlib.Core.Bool.{Bool, cond, _&&_}
 use Prim.Native.Nat.{ℕ, _+_, _-_, _*_, _%_}
 use lib.Dec.{leb, ltb}
 use Rattle.fields.specs.declared.Shape.{Shape}

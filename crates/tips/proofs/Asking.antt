@@ -1,7 +1,7 @@
 -- A question with what its code found out: the cells, and whether the numbers and the tool are in their ranges.
 use mathlib.Core.Bool.{Bool}
 use mathlib.Core.List.{List}
-use mathlib.Core.Path.{_≡_, refl, ap, sym, _∙_}
+use mathlib.Core.Path.{_≡_, ap, _∙_}
 use Prim.Native.Nat.{ℕ}
 use lib.Ieee.{Float}
 use Rattle.bull.specs.declared.Bull.{Bull}

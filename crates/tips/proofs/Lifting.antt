@@ -1,5 +1,5 @@
 -- A walk of a cutter that begins above the floor follows the walk from the floor, lifted to where it began, or is lost. Once it is raised both are the same.
-use mathlib.Core.Bool.{Bool, true, false, cond}
+use mathlib.Core.Bool.{true, false, cond}
 use mathlib.Core.List.{List, [], _∷_}
 use mathlib.Core.Logic.{_⊎_, inl, inr, ⊎-elim}
 use mathlib.Core.Path.{_≡_, refl, ap, sym, _∙_}

@@ -1,5 +1,5 @@
 -- Document 01, "Questions": a tool is a lent list of one to 32 sections, here a flat table of four numbers each: z0, r0, r1 and rise.
-use mathlib.Core.Bool.{Bool, not, cond, _&&_}
+use mathlib.Core.Bool.{Bool, not, _&&_}
 use mathlib.Core.List.{List}
 use Prim.Native.Nat.{ℕ, zero, suc, _+_, _*_, _/_, _%_}
 use lib.Dec.{eqb}

@@ -9,7 +9,7 @@ use native.Mathlib.Omega.{arith}
 use borrow.Author.Tests.{leb-true, leb-false}
 use lib.Dec.{T, leb}
 use lib.Pow.{pow-add, pow-pos, pow-mono, shl-lt}
-use lib.Ieee.{Float, nan, inf, fin, binary64, round, add, sub, mul, neg, le}
+use lib.Ieee.{Float, nan, inf, fin, binary64, round, add, sub, mul, neg}
 use lib.Ieee.Exact.{HasValue, round-exact}
 use lib.Ieee.Positive.{den, den-pos}
 use lib.Ieee.Scale.{finite}

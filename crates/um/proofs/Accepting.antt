@@ -1,31 +1,30 @@
 -- The refusals, rung by rung: what a call that passes them may rely on, and what the builder answers.
-use mathlib.Core.Bool.{Bool, true, false, not}
+use mathlib.Core.Bool.{true, false, not}
 use mathlib.Core.List.{List}
 use mathlib.Core.Path.{_≡_, refl, ap, sym, _∙_}
-use Prim.Native.Nat.{ℕ, _+_, _*_, _%_, _^_, _≤_, _<_}
+use Prim.Native.Nat.{ℕ, _*_, _%_, _^_, _≤_, _<_}
 use native.Mathlib.Nat.{div-add-mod', zero-add}
 use native.Mathlib.Omega.{arith}
 use borrow.Author.Tests.{eq-eqb, ne-eqb, eqb-true, eqb-false, ltb-false, not-false}
-use lib.Dec.{lit<, eqb}
+use lib.Dec.{lit<}
 use lib.IntN.{ℤ}
 use lib.ListN.{length}
-use Rattle.rules.proofs.Branches.{taken, left, by-test}
+use Rattle.rules.proofs.Branches.{taken, left}
 use Rattle.fields.specs.Rows.{somewhere}
 use Rattle.fields.specs.declared.Place.{Place}
 use Rattle.fields.specs.declared.Place.the-variants.{Nowhere, At}
 use Rattle.cells.specs.Cover.{startOf, startsOf, membersTable}
-use Rattle.grid.specs.Build.{refusalOfGrid, refusalOfMembers}
+use Rattle.grid.specs.Build.{refusalOfMembers}
 use Rattle.rules.proofs.Ladder.{refused-not, demanded, refuse-here, refuse-next}
 use Rattle.grid.proofs.Accepting.{Passed, passed}
 use Rattle.micro.specs.Micro.{isCoordinate, isRadius, numberAt, firstWhere}
 use Rattle.um.specs.declared.Extent.{Extent}
 use Rattle.um.specs.declared.Grid.{Grid}
-use Rattle.um.specs.declared.Header.{Header}
 use Rattle.um.specs.declared.Built.{Built}
 use Rattle.um.specs.Grid.{trianglesIn, extentOf, gridOf, fits, powerAt, sizeOf, cellsIn, coverOf, totalOf}
-use Rattle.um.specs.Build.{headerOf, firstBad, placeOf, toldWith, refusalOfNumbers, refusalOfMesh, refusalOfSize, Outcome, outcome, refusedBy, acceptedWith, unless, filledOf, gridded, buildOf}
+use Rattle.um.specs.Build.{headerOf, firstBad, toldWith, refusalOfNumbers, refusalOfMesh, refusalOfSize, Outcome, outcome, refusedBy, acceptedWith, unless, filledOf, gridded, buildOf}
 use Rattle.um.specs.Inside.{Gridded}
-use Rattle.um.proofs.Places.{Found, found, none}
+use Rattle.um.proofs.Places.{found, none}
 use Rattle.um.proofs.Gridding.{counted}
 
 -- ---- refusals 1 to 4

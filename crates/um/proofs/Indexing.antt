@@ -15,13 +15,13 @@ use Rattle.rules.specs.Every.{isFrom}
 use Rattle.cells.specs.Cover.{startsOf, membersTable}
 use Rattle.cells.proofs.Reading.{cell-is, starts-room, starts-rise, starts-within}
 use Rattle.grid.proofs.Accepting.{Passed}
-use Rattle.micro.specs.Micro.{isCoordinate, isRadius, numberAt, boxOf, firstWhere}
+use Rattle.micro.specs.Micro.{isCoordinate, numberAt}
 use Rattle.um.specs.declared.Extent.{Extent}
 use Rattle.um.specs.declared.Grid.{Grid}
 use Rattle.um.specs.declared.Built.{Built}
-use Rattle.um.specs.Grid.{trianglesIn, extentOf, cellsAlong, gridOf, sizeOf, cellsIn, cellsOf, coverOf}
-use Rattle.um.specs.Build.{headerOf, gridIn, isPower, inRanges, refusedBy, acceptedWith, Outcome, outcome, unless, filledOf, gridded, buildOf}
-use Rattle.um.specs.Index.{Index, indexOf, coversOf, BuiltFrom, SoundIndex, BuildPromise}
+use Rattle.um.specs.Grid.{trianglesIn, extentOf, cellsAlong, gridOf, sizeOf, cellsIn, coverOf}
+use Rattle.um.specs.Build.{headerOf, isPower, inRanges, refusedBy, acceptedWith, Outcome, outcome, unless, filledOf, gridded, buildOf}
+use Rattle.um.specs.Index.{Index, indexOf, BuiltFrom, SoundIndex, BuildPromise}
 use Rattle.um.specs.Inside.{Gridded}
 use Rattle.um.proofs.Places.{some}
 use Rattle.um.proofs.Extents.{coordinate, inside, box-order, ranged, Whole, whole}

@@ -8,7 +8,7 @@ use lib.ListN.{length, getD}
 use Rattle.cells.specs.Cover.{Cover, membersOf, stretch}
 use Rattle.micro.specs.Micro.{isCoordinate, numberAt}
 use Rattle.um.specs.declared.Header.{Header}
-use Rattle.um.specs.Grid.{trianglesIn, extentOf, gridOf, cellsIn, coverOf}
+use Rattle.um.specs.Grid.{extentOf, gridOf, cellsIn, coverOf}
 use Rattle.um.specs.Build.{gridIn, inRanges, buildOf, acceptedWith, outcome}
 
 -- What a question is handed to look things up in: a mesh, the header, and the two tables.

@@ -11,7 +11,7 @@ use lib.ListN.{length, getD, take, drop, length-append}
 use lib.Seq.{take-at, drop-at, drop-cons, drop-drop, take-all}
 use Rattle.fields.specs.Little.{little, value}
 use Rattle.fields.specs.Rows.{row}
-use Rattle.job.specs.Layout.{mark, version, zeroByte, triangles, questions, number, numbers, letters}
+use Rattle.job.specs.Layout.{mark, version, zeroByte, triangles, questions, numbers, letters}
 use Rattle.job.specs.Reader as reader
 use Rattle.job.specs.Reader.{numberOf, readOf, Sound}
 use Rattle.job.proofs.Ladder as ladder

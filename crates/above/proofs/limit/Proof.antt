@@ -1,5 +1,5 @@
 use borrow.Author.Needs.{needs}
-use mathlib.Core.Path.{sym, ap, _∙_}
+use mathlib.Core.Path.{sym, ap}
 use Rattle.above.specs.Inside.{limitOf}
 use Rattle.above.proofs.limit.Statement.{statement}
 use Rattle.above.proofs.limit.Tie as tie

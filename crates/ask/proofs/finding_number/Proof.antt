@@ -1,5 +1,5 @@
 use borrow.Author.Needs.{needs}
-use mathlib.Core.Path.{_≡_, refl, ap, sym, _∙_}
+use mathlib.Core.Path.{ap, sym}
 use Rattle.ask.specs.Ask.{findingNumber}
 use Rattle.ask.proofs.finding_number.Statement.{statement}
 use Rattle.ask.proofs.finding_number.Tie as tie

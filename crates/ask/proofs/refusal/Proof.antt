@@ -1,7 +1,5 @@
 use borrow.Author.Tests.{not-true, not-false}
-use native.Mathlib.Omega.{arith}
 use denote.Ref.{now}
-use lib.ListN.{length}
 use mathlib.Core.Bool.{true}
 use mathlib.Core.Path.{_≡_, refl}
 use Rattle.rules.proofs.Branches.{bool-called}

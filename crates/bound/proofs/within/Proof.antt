@@ -1,7 +1,6 @@
 -- `within` meets its contract: the law of the squares is `Near.antt`'s.
-use mathlib.Core.Path.{_≡_, subst, sym}
+use mathlib.Core.Path.{subst, sym}
 use lib.Dec.{T}
-use lib.Ieee.{binary64, fits}
 use borrow.Author.Tests.{not-false}
 use Rattle.rules.proofs.Branches.{bool-called}
 use Rattle.bound.proofs.Near.{near-square, near-none}

@@ -1,5 +1,5 @@
 use borrow.Author.Needs.{needs}
-use mathlib.Core.Path.{_≡_, refl, ap, sym, _∙_}
+use mathlib.Core.Path.{ap, sym}
 use Rattle.bull.specs.Bull.{bestSoFar}
 use Rattle.bull.proofs.best_so_far.Statement.{statement}
 use Rattle.bull.proofs.best_so_far.Tie as tie

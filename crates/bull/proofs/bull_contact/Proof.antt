@@ -1,4 +1,3 @@
-use mathlib.Core.Path.{_≡_, refl, ap, sym, _∙_}
 use Rattle.bull.specs.Bull.{bullContact}
 use Rattle.bull.proofs.bull_contact.Statement.{statement}
 use Rattle.bull.proofs.bull_contact.Tie as tie

@@ -1,4 +1,4 @@
-use mathlib.Core.Path.{_≡_, ap, _∙_}
+use mathlib.Core.Path.{ap, _∙_}
 use Rattle.above.specs.Above.{offerOf}
 use Rattle.above.proofs.Above.{alone}
 use Rattle.cutters.specs.Touch.{facingOf}

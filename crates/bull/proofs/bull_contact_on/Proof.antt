@@ -1,7 +1,5 @@
 -- The candidates go on from the floor, which is their own contact on top of it. Beside a NaN they are taken by themselves.
-use mathlib.Core.Path.{_≡_, ap, _∙_}
 use Rattle.rules.proofs.Branches.{nan-left}
-use Rattle.above.specs.Above.{offerOf}
 use Rattle.bull.proofs.Goings.{contact-beside}
 use Rattle.bull.proofs.bull_contact_on.Statement.{statement}
 use Rattle.bull.proofs.bull_contact_on.Tie as tie

@@ -1,4 +1,4 @@
-use mathlib.Core.Path.{_≡_, refl}
+use mathlib.Core.Path.{refl}
 use Rattle.rules.proofs.Branches.{taken, bool-called}
 use Rattle.bull.specs.Bull.{bullEdge}
 use Rattle.bull.proofs.Taking.{edge-on}

@@ -2,7 +2,7 @@ use mathlib.Core.Path.{_≡_, ap, _∙_, subst, sym}
 use mathlib.Core.Bool.{true}
 use lib.Dec.{T}
 use lib.Ieee.{Float, le}
-use Rattle.bull.specs.Inside.{baseOf, capOf}
+use Rattle.bull.specs.Inside.{capOf}
 use Rattle.bull.proofs.Capping.{cap-stays}
 use Rattle.bull.proofs.raised.Statement.{statement}
 use Rattle.bull.proofs.raised.Tie as tie

@@ -1,4 +1,4 @@
-use mathlib.Core.Path.{_≡_, ap, _∙_}
+use mathlib.Core.Path.{ap, _∙_}
 use Rattle.numbers.specs.Reals.{_⊖_}
 use Rattle.rules.proofs.Branches.{bool-called}
 use Rattle.bull.specs.Bull.{bullVertex}

@@ -1,4 +1,4 @@
-use mathlib.Core.Path.{_≡_, refl, ap, sym, _∙_}
+use mathlib.Core.Path.{ap, _∙_}
 use Rattle.reach.specs.Reach.{gapOf}
 use Rattle.bull_gap.specs.Blocks.{bullGap}
 use Rattle.bull_gap.proofs.gap.Statement.{statement}

@@ -1,5 +1,5 @@
 use borrow.Author.Needs.{needs}
-use mathlib.Core.Path.{_≡_, refl, ap, sym, _∙_}
+use mathlib.Core.Path.{ap, sym, _∙_}
 use Rattle.bull_gap.specs.Blocks.{bullSearched}
 use Rattle.bull_gap.proofs.searched.Statement.{statement}
 use Rattle.bull_gap.proofs.searched.Tie as tie

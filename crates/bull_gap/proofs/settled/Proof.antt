@@ -1,4 +1,4 @@
-use mathlib.Core.Path.{_≡_, sym, _∙_}
+use mathlib.Core.Path.{sym, _∙_}
 use borrow.Author.Tests.{ne-eqb}
 use Rattle.rules.proofs.Branches.{no, both-true}
 use Rattle.bull_gap.proofs.settled.Statement.{statement}

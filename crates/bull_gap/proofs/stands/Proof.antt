@@ -1,4 +1,4 @@
-use mathlib.Core.Path.{_≡_, sym, subst}
+use mathlib.Core.Path.{sym, subst}
 use lib.Dec.{T}
 use Rattle.rules.proofs.Branches.{called-lt}
 use Rattle.bull_gap.proofs.Rising.{low-risen, high-risen}

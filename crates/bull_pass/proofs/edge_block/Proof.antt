@@ -1,4 +1,3 @@
-use mathlib.Core.Path.{_≡_, refl, ap, sym, _∙_}
 use Rattle.bull_pass.specs.Inside.{edgeBlock}
 use Rattle.bull_pass.proofs.edge_block.Statement.{statement}
 use Rattle.bull_pass.proofs.edge_block.Tie as tie

@@ -1,4 +1,4 @@
-use mathlib.Core.Path.{_≡_, refl, ap, sym, _∙_}
+use mathlib.Core.Path.{ap, sym, _∙_}
 use borrow.Author.Needs.{needs}
 use Rattle.bull_pass.specs.Inside.{facetPasses}
 use Rattle.bull_pass.proofs.facet_passes.Statement.{statement}

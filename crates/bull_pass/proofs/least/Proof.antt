@@ -1,4 +1,3 @@
-use mathlib.Core.Path.{_≡_, refl, ap, sym, _∙_}
 use Rattle.bull_pass.specs.Inside.{leastOf}
 use Rattle.bull_pass.proofs.least.Statement.{statement}
 use Rattle.bull_pass.proofs.least.Tie as tie

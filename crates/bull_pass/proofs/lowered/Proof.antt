@@ -1,4 +1,3 @@
-use mathlib.Core.Path.{_≡_, refl, ap, sym, _∙_}
 use Rattle.bull_pass.specs.Inside.{loweredOf}
 use Rattle.bull_pass.proofs.lowered.Statement.{statement}
 use Rattle.bull_pass.proofs.lowered.Tie as tie

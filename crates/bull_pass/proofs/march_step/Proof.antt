@@ -1,4 +1,3 @@
-use mathlib.Core.Path.{_≡_, refl, ap, sym, _∙_}
 use Rattle.bull_pass.proofs.Marching.{step-under, step-over}
 use Rattle.bull_pass.proofs.march_step.Statement.{statement}
 use Rattle.bull_pass.proofs.march_step.Tie as tie

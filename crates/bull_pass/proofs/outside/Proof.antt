@@ -1,4 +1,3 @@
-use mathlib.Core.Path.{_≡_, refl, ap, sym, _∙_}
 use Rattle.rules.proofs.Branches.{branches}
 use Rattle.bull_pass.specs.Inside.{outsideOf}
 use Rattle.bull_pass.proofs.outside.Statement.{statement}

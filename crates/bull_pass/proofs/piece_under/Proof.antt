@@ -1,4 +1,3 @@
-use mathlib.Core.Path.{_≡_, ap, sym, _∙_}
 use Rattle.rules.proofs.Branches.{taken, left, bool-called}
 use Rattle.bull_pass.specs.Inside.{pieceUnder}
 use Rattle.bull_pass.proofs.piece_under.Statement.{statement}

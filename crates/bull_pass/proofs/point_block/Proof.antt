@@ -1,4 +1,4 @@
-use mathlib.Core.Path.{_≡_, refl, ap, sym, _∙_}
+use mathlib.Core.Path.{refl}
 use Rattle.bull_pass.specs.Inside.{pointBlock}
 use Rattle.bull_pass.proofs.point_block.Statement.{statement}
 use Rattle.bull_pass.proofs.point_block.Tie as tie

@@ -1,4 +1,3 @@
-use mathlib.Core.Path.{_≡_, refl, ap, sym, _∙_}
 use Rattle.bull_pass.specs.Inside.{restsMiss}
 use Rattle.bull_pass.proofs.rests_miss.Statement.{statement}
 use Rattle.bull_pass.proofs.rests_miss.Tie as tie

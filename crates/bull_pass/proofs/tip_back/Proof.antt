@@ -1,4 +1,4 @@
-use mathlib.Core.Path.{_≡_, refl, ap, sym, _∙_}
+use mathlib.Core.Path.{refl}
 use Rattle.rules.proofs.Branches.{and-on, and-off, bool-called}
 use Rattle.bull_pass.proofs.tip_back.Statement.{statement}
 use Rattle.bull_pass.proofs.tip_back.Tie as tie

@@ -1,4 +1,3 @@
-use mathlib.Core.Path.{_≡_, refl, ap, sym, _∙_}
 use Rattle.bull_pass.specs.Inside.{tipFair}
 use Rattle.bull_pass.proofs.tip_fair.Statement.{statement}
 use Rattle.bull_pass.proofs.tip_fair.Tie as tie

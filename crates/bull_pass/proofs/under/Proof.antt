@@ -1,4 +1,3 @@
-use mathlib.Core.Path.{_≡_, refl, ap, sym, _∙_}
 use Rattle.rules.proofs.Branches.{flags}
 use Rattle.bull_pass.specs.Inside.{underOf}
 use Rattle.bull_pass.proofs.under.Statement.{statement}

@@ -1,4 +1,3 @@
-use mathlib.Core.Path.{_≡_, refl, ap, sym, _∙_}
 use Rattle.bull_pass.specs.Inside.{weightOf}
 use Rattle.bull_pass.proofs.weight.Statement.{statement}
 use Rattle.bull_pass.proofs.weight.Tie as tie

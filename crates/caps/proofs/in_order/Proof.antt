@@ -1,4 +1,4 @@
-use mathlib.Core.Path.{_≡_, refl}
+use mathlib.Core.Path.{refl}
 use Rattle.rules.proofs.Branches.{and-on, and-off}
 use Rattle.caps.specs.Inside.{inOrder}
 use Rattle.caps.proofs.in_order.Statement.{statement}

@@ -1,4 +1,3 @@
-use mathlib.Core.Path.{_≡_, ap, sym, _∙_}
 use Rattle.rules.proofs.Branches.{and-on, and-off, bool-called}
 use Rattle.caps.specs.Inside.{sideTame}
 use Rattle.caps.proofs.side_tame.Statement.{statement}

@@ -1,4 +1,3 @@
-use mathlib.Core.Path.{_≡_}
 use Rattle.rules.proofs.Branches.{and-on, and-off, bool-called}
 use Rattle.caps.specs.Inside.{tameOn}
 use Rattle.caps.proofs.tame_on.Statement.{statement}

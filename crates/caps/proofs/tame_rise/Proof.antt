@@ -1,4 +1,4 @@
-use mathlib.Core.Path.{_≡_, refl}
+use mathlib.Core.Path.{refl}
 use Rattle.rules.proofs.Branches.{and-on, and-off, bool-called}
 use Rattle.caps.specs.Inside.{tameRise}
 use Rattle.caps.proofs.tame_rise.Statement.{statement}

@@ -1,4 +1,3 @@
-use mathlib.Core.Path.{sym, _∙_}
 use Rattle.rules.proofs.Branches.{no}
 use Rattle.capsule.proofs.Gathering.{le-called}
 use Rattle.capsule.proofs.Leaving.{ordinary-size}

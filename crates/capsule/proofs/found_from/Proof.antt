@@ -1,4 +1,3 @@
-use Rattle.capsule.specs.Region.{contactOf}
 use Rattle.capsule.proofs.Gathering.{whole}
 use Rattle.capsule.proofs.Leaving.{away-corners, away-edges}
 use Rattle.capsule.proofs.found_from.Statement.{statement}

@@ -1,7 +1,4 @@
-use mathlib.Core.Path.{_≡_, refl}
-use Rattle.capsule.specs.Region.{offeredAll}
-use Rattle.capsule.specs.Candidates.{each, ends, tangents}
-use Rattle.capsule.specs.Inside.{firsts}
+use Rattle.capsule.specs.Candidates.{ends, tangents}
 use Rattle.capsule.proofs.Leaving.{first-alone, first-two}
 use Rattle.capsule.proofs.offer_firsts.Statement.{statement}
 use Rattle.capsule.proofs.offer_firsts.Tie as tie

@@ -1,5 +1,5 @@
 use borrow.Author.Needs.{needs}
-use mathlib.Core.Path.{_≡_, sym, _∙_}
+use mathlib.Core.Path.{sym, _∙_}
 use Rattle.capsule.specs.Candidates.{pointOver}
 use Rattle.capsule.proofs.Extremes.{none-over, beside, on-it}
 use Rattle.capsule.proofs.offer_over.Statement.{statement}

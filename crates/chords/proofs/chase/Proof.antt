@@ -7,7 +7,7 @@ use native.Mathlib.Omega.{arith}
 use borrow.Author.Needs.{needs}
 use borrow.Author.Tests.{not-true, not-false}
 use denote.Ref.{now}
-use lib.ListN.{length, getD, drop}
+use lib.ListN.{length, drop}
 use Rattle.walk.specs.Walk.{over, cell, row, block, fold}
 use Rattle.walk.specs.Inside.{judged, strike, Below}
 use Rattle.walk.proofs.Rings.{Going, going-starts, member-turns, members-end, ring-turns, ring-ends, member-blocks, ring-blocks, kept-trans, kept-room, strike-keeps}

@@ -1,5 +1,5 @@
 use borrow.Author.Needs.{needs}
-use Rattle.ask.proofs.Answers.{inside, ready, chord-refused}
+use Rattle.ask.proofs.Answers.{inside, chord-refused}
 use Rattle.chords.proofs.Asking.{ended-is, tool-answers, ruled-asked, accepted-ready}
 use Rattle.chords.proofs.sections_chord_clear.Statement.{statement}
 use Rattle.chords.proofs.sections_chord_clear.Tie as tie

@@ -1,4 +1,4 @@
-use mathlib.Core.Path.{_≡_, refl, ap, sym, _∙_}
+use mathlib.Core.Path.{refl, ap}
 use mathlib.Core.Bool.{not}
 use Rattle.rules.proofs.Branches.{taken, left}
 use Rattle.chords.specs.Chords.{toolBlocks}

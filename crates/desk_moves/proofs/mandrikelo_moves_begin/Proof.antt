@@ -1,4 +1,3 @@
-use borrow.Author.Needs.{needs}
 use Rattle.desk_moves.proofs.Laid.{begin-held, begin-laid}
 use Rattle.desk_moves.proofs.mandrikelo_moves_begin.Statement.{statement}
 use Rattle.desk_moves.proofs.mandrikelo_moves_begin.Tie as tie

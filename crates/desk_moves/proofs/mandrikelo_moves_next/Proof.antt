@@ -1,4 +1,3 @@
-use borrow.Author.Needs.{needs}
 use Rattle.desk_moves.proofs.Laid.{next-held, next-laid}
 use Rattle.desk_moves.proofs.mandrikelo_moves_next.Statement.{statement}
 use Rattle.desk_moves.proofs.mandrikelo_moves_next.Tie as tie

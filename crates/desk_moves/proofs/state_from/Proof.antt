@@ -1,7 +1,4 @@
 use borrow.Author.Needs.{needs}
-use mathlib.Core.Path.{ap}
-use Rattle.moves.specs.declared.Point.{Point}
-use Rattle.moves.specs.declared.Phase.{Phase}
 use Rattle.desk_moves.specs.Doors.{stateFrom}
 use Rattle.desk_moves.proofs.state_from.Statement.{statement}
 use Rattle.desk_moves.proofs.state_from.Tie as tie

@@ -1,5 +1,5 @@
 use borrow.Author.Needs.{needs}
-use mathlib.Core.Path.{_≡_, ap, _∙_}
+use mathlib.Core.Path.{ap, _∙_}
 use Rattle.plane.specs.Distance.{distanceXy}
 use Rattle.desk_numbers.proofs.mandrikelo_distance_xy.Statement.{statement}
 use Rattle.desk_numbers.proofs.mandrikelo_distance_xy.Tie as tie

@@ -1,6 +1,5 @@
 use borrow.Author.Needs.{needs}
-use Rattle.grid.specs.declared.Header.{Header}
-use Rattle.grid.specs.Index.{Index, indexOf}
+use Rattle.grid.specs.Index.{indexOf}
 use Rattle.look_over.specs.Verdict.{lookOverOf}
 use Rattle.handed.specs.Handed.{headerFrom}
 use Rattle.desk_paths.proofs.Asked.{look-told}

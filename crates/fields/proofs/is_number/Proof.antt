@@ -1,5 +1,4 @@
-use mathlib.Core.Bool.{_&&_}
-use mathlib.Core.Path.{_≡_, refl, _∙_}
+use mathlib.Core.Path.{refl, _∙_}
 use Rattle.rules.proofs.Branches.{and-on, and-off}
 use Rattle.fields.proofs.Tables.{between}
 use Rattle.fields.proofs.is_number.Statement.{statement}

@@ -1,11 +1,11 @@
 -- `flatten::flat` meets its contract: a walk of its MIR, by hand. Before turn i the table holds the numbers of the first i sections; n - i falls.
 -- All that the proof knows of `copied`, `empty`, `at` and `push` is that each meets its contract. Assumes nothing.
-use mathlib.Core.Path.{_≡_, refl, sym, ap, _∙_, subst}
-use Prim.Native.Nat.{ℕ, suc, _<_, _≤_, _*_, _+_, _-_, _^_}
+use mathlib.Core.Path.{_≡_, refl, sym, ap, _∙_}
+use Prim.Native.Nat.{ℕ, _<_, _≤_, _*_, _+_, _-_, _^_}
 use native.Mathlib.Nat.{le-antisymm}
 use native.Mathlib.Numerals.{add-one, add-one-dec}
 use native.Mathlib.Omega.{arith}
-use mathlib.Core.List.{List, [], _∷_, _++_}
+use mathlib.Core.List.{List, [], _∷_}
 use mathlib.Core.WellFounded.{WellFounded, InvImage·wf}
 use lib.Dec.{T as Holds, ltb, ltb→lt, nltb→le, lit<}
 use lib.ListN.{length, take}
@@ -22,11 +22,11 @@ use prog.Wp.{Heap, Env, Out, Calls, Loops, Wp, WpFn, Tables, afterSeq, afterBloc
 use ghost.Atoms.{Atoms, sem}
 use contract.Monad.{Fun, fact}
 use contract.Running.{givenOf, tables, tablesOf}
-use types.Kit.{Given, Item, ‵, raw, _⊛_, ⋆, some, later, runs, anyQ, atRet, Sq, _$_, _∵_, !, qed, by, move, keep, drop, use0, use1, use2, split, join, pick, rewrite, fsplit, fjoin, suffices, frame, await, done}
+use types.Kit.{Given, Item, ‵, raw, _⊛_, ⋆, some, later, runs, anyQ, atRet, Sq, _$_, _∵_, !, qed, by, move, drop, use0, use1, use2, split, join, pick, rewrite, fsplit, fjoin, suffices, frame, await, done}
 use types.Part.{whole, sub, look-in}
 use types.Run.{look, store, init, forget, stop, fld, from, load, lit, of-opd, bin, and-then, no-more, assigns, assigns-last, land, first, skips, jumps, blocks, branches, returns, enter, alloc1, alloc0, params1, pass1, pass0, free1, free0, exec, Below, again, loops}
 use sound.WpLaws.{FmC, fmOf, WpFn-mono}
-use denote.RattleType.{RattleType, owns}
+use denote.RattleType.{owns}
 use denote.Laws.{Is, shows}
 use denote.Memory.{pointee}
 use denote.Plain.{uint-makes, uint-lawful}
@@ -44,7 +44,7 @@ use denote.Triple.Table.{entered, cited}
 use denote.Triple.Walked.{says, Stays, stay-none-slice, walkOf, goes-none-slice, Walks, ends-at, walked, walk-meets}
 use denote.Triple.Clauses.{ensured, lasts}
 use denote.Exit.{yes}
-use Rattle.flatten.specs.Flat.{four, flatOf, sectionIn, copiedOf, heldIn, Emptied, Pushed}
+use Rattle.flatten.specs.Flat.{flatOf, sectionIn, copiedOf, heldIn, Emptied, Pushed}
 use Rattle.section.specs.declared.Section.{Section}
 use Rattle.flatten.specs.declared.Table.{Table}
 use Rattle.flatten.proofs.Flattening.{flat-more, copied-few, copied-there, holds-none}

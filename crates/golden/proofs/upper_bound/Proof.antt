@@ -1,5 +1,4 @@
-use mathlib.Core.Path.{_≡_, ap, _∙_}
-use lib.Ieee.{Float}
+use mathlib.Core.Path.{ap, _∙_}
 use Rattle.golden.specs.Upper.{upperOf, upperFrom}
 use Rattle.golden.proofs.upper_bound.Statement.{statement}
 use Rattle.golden.proofs.upper_bound.Tie as tie

@@ -1,6 +1,6 @@
 -- `halving::halve` meets its contract: the pieces that wait, taken from where the search stands, give what the run's pieces give from its start. What falls is
 -- the number of turns that the stack takes at most.
-use Prim.Native.Nat.{_+_, _-_, _≤_, _<_}
+use Prim.Native.Nat.{_+_, _-_, _<_}
 use mathlib.Core.Bool.{Bool}
 use mathlib.Core.Path.{_≡_, refl, sym, ap, _∙_}
 use native.Mathlib.Omega.{arith}
@@ -10,7 +10,6 @@ use lib.ListN.{length, getD}
 use Rattle.grid.specs.Index.{indexOf}
 use Rattle.numbers.specs.Reals.{num}
 use Rattle.runs.specs.declared.Run.{Run}
-use Rattle.runs.specs.Pieces.{piecesOf}
 use Rattle.runs.proofs.Chaining.{whole}
 use Rattle.runs.specs.Inside.{work, takenBy, takenAll}
 use Rattle.probe.specs.Probe.{heightUnder, clear}

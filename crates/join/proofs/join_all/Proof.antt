@@ -1,13 +1,11 @@
 -- `join::join_all` meets its contract: the first m runs are taken. What is left falls.
 use Prim.Native.Nat.{_≤_, _-_, _/_}
-use mathlib.Core.Path.{_≡_, refl, sym, ap, _∙_, subst}
+use mathlib.Core.Path.{_≡_, refl, sym, subst}
 use native.Mathlib.Omega.{arith}
 use borrow.Author.Needs.{needs}
-use lib.Ieee.{Float}
 use lib.ListN.{length}
-use mathlib.Core.List.{List}
 use Rattle.fives.specs.Tables.{roomOf}
-use Rattle.runs.specs.Inside.{Work, work, takenBy}
+use Rattle.runs.specs.Inside.{work}
 use Rattle.runs.specs.declared.Tally.{Tally}
 use Rattle.join.proofs.Taking.{Taken, taken-starts, taken-goes, taken-ends}
 use Rattle.join.proofs.join_all.Statement.{statement}

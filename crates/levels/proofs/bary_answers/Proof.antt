@@ -1,5 +1,5 @@
 use Rattle.levels.specs.Flats.{answers}
-use mathlib.Core.Path.{_≡_, sym, ap, _∙_}
+use mathlib.Core.Path.{sym, ap, _∙_}
 use borrow.Author.Needs.{needs}
 use Rattle.levels.proofs.bary_answers.Statement.{statement}
 use Rattle.levels.proofs.bary_answers.Tie as tie

@@ -1,5 +1,5 @@
 -- `levels::collect` meets its contract: with j numbers gone through, all levels but the last are written, and the last is open.
-use Prim.Native.Nat.{_≤_, _<_, _-_, _+_}
+use Prim.Native.Nat.{_≤_, _<_, _-_}
 use mathlib.Core.Path.{_≡_, refl, sym, ap, ap₂, _∙_}
 use Rattle.plane.specs.Mesh.{triangleOf}
 use Rattle.plane.specs.declared.Triangle.{Triangle}

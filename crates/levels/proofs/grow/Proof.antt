@@ -1,6 +1,5 @@
 use borrow.Author.Needs.{needs}
 use native.Mathlib.Omega.{arith}
-use mathlib.Core.Path.{_≡_, refl, sym, ap, _∙_}
 use Rattle.rules.proofs.Branches.{taken, left}
 use Rattle.levels.specs.Levels.{joinsLevel}
 use Rattle.levels.specs.Inside.{grownBy}

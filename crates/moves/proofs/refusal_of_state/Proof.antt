@@ -1,4 +1,3 @@
-use native.Mathlib.Omega.{arith}
 use Rattle.rules.proofs.Ladder.{ladder}
 use Rattle.moves.specs.Next.{refusalOfState}
 use Rattle.moves.proofs.refusal_of_state.Statement.{statement}

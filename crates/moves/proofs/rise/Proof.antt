@@ -1,5 +1,4 @@
 use Prim.Native.Nat.{_+_}
-use borrow.Author.Needs.{needs}
 use native.Mathlib.Omega.{arith}
 use mathlib.Core.Path.{_∙_, ap}
 use borrow.Author.Tests.{eq-eqb, ne-eqb}

@@ -2,7 +2,6 @@
 use Prim.Native.Nat.{_≤_, _-_}
 use mathlib.Core.Path.{_≡_, sym, ap, _∙_}
 use native.Mathlib.Omega.{arith}
-use Rattle.levels.specs.declared.Level.{Level}
 use Rattle.levels.specs.Inside.{levelIn}
 use Rattle.parameters.specs.Terms.{tooDeep, anyOf}
 use Rattle.parameters.specs.Inside.{levelsIn}

@@ -1,5 +1,5 @@
 use Rattle.parameters.specs.Terms.{areHeights}
-use Rattle.rules.proofs.Branches.{flags, branches, and-on, and-off}
+use Rattle.rules.proofs.Branches.{and-on, and-off}
 use Rattle.parameters.proofs.are_heights.Statement.{statement}
 use Rattle.parameters.proofs.are_heights.Tie as tie
 use Rattle.parameters.proofs.are_heights.Reads as reads

@@ -1,5 +1,5 @@
 use Rattle.parameters.specs.Terms.{areSteps}
-use Rattle.rules.proofs.Branches.{flags, branches, and-on, and-off}
+use Rattle.rules.proofs.Branches.{and-on, and-off}
 use Rattle.parameters.proofs.are_steps.Statement.{statement}
 use Rattle.parameters.proofs.are_steps.Tie as tie
 use Rattle.parameters.proofs.are_steps.Reads as reads

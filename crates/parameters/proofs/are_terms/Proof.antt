@@ -1,5 +1,5 @@
 use Rattle.parameters.specs.Terms.{areTerms}
-use Rattle.rules.proofs.Branches.{flags, branches, and-on, and-off}
+use Rattle.rules.proofs.Branches.{flags, and-on, and-off}
 use borrow.Author.Needs.{needs}
 use Rattle.parameters.proofs.are_terms.Statement.{statement}
 use Rattle.parameters.proofs.are_terms.Tie as tie

@@ -1,4 +1,3 @@
-use borrow.Author.Needs.{needs}
 use native.Mathlib.Omega.{arith}
 use Rattle.rules.proofs.Ladder.{ladder}
 use Rattle.parameters.specs.Inside.{refusalOfCount}

@@ -1,7 +1,6 @@
 use Rattle.rows.specs.Lanes.{samplesOf}
-use mathlib.Core.Path.{_≡_, ap, _∙_}
+use mathlib.Core.Path.{ap, _∙_}
 use Rattle.parameters.proofs.Testing.{fine-rows, fine-samples}
-use Rattle.parameters.specs.Terms.{tooFine}
 use borrow.Author.Needs.{needs}
 use Rattle.parameters.proofs.too_fine.Statement.{statement}
 use Rattle.parameters.proofs.too_fine.Tie as tie

@@ -1,11 +1,11 @@
-use mathlib.Core.Path.{refl, sym}
+use mathlib.Core.Path.{sym}
 use borrow.Author.Needs.{needs}
 use native.Mathlib.Omega.{arith}
-use borrow.Author.Tests.{lt-ltb, le-ltb}
+use borrow.Author.Tests.{le-ltb}
 use denote.Ref.{now}
 use Rattle.paths.specs.Reader.{refusalOf}
 use Rattle.fields.proofs.Bytes.{value-byte}
-use Rattle.rules.proofs.Ladder.{ladder, refuse-here, refuse-next, differs, agrees}
+use Rattle.rules.proofs.Ladder.{ladder, refuse-next, differs, agrees}
 use Rattle.paths.proofs.Apart.{whole-contract}
 use Rattle.paths.proofs.refusal.Statement.{statement}
 use Rattle.paths.proofs.refusal.Tie as tie

@@ -1,10 +1,7 @@
 use mathlib.Core.Bool.{true}
 use mathlib.Core.Path.{_≡_, refl}
-use native.Mathlib.Omega.{arith}
-use Prim.Native.Nat.{_*_, _/_}
 use borrow.Author.Tests.{not-true, not-false, eqb-true}
 use denote.Ref.{now}
-use lib.ListN.{length}
 use Rattle.rules.proofs.Branches.{bool-called}
 use Rattle.grid.specs.Boxes.{isBoxed}
 use Rattle.rules.proofs.Ladder.{ladder, demand-here, demand-next}

@@ -1,5 +1,4 @@
 use borrow.Author.Needs.{needs}
-use mathlib.Core.Path.{_≡_, sym}
 use Rattle.plane.proofs.Raises.{raised-not, raised-on}
 use Rattle.plane.proofs.raise_by.Statement.{statement}
 use Rattle.plane.proofs.raise_by.Tie as tie

@@ -1,5 +1,5 @@
 use mathlib.Core.Bool.{not}
-use mathlib.Core.Path.{_≡_, ap}
+use mathlib.Core.Path.{ap}
 use borrow.Author.Tests.{ne-eqb}
 use lib.Ieee.{Float, le}
 use Rattle.rules.proofs.Branches.{left, branches}

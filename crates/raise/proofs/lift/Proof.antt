@@ -3,7 +3,6 @@ use Prim.Native.Nat.{_-_, _≤_}
 use mathlib.Core.Path.{_≡_, refl, ap, _∙_}
 use native.Mathlib.Omega.{arith}
 use lib.ListN.{length, length-set}
-use denote.Ref.{now}
 use Rattle.raise.specs.Raise.{liftedAt}
 use Rattle.raise.proofs.Lifting.{Lifting, lifting-starts, lifting-reads, lifting-goes, lifting-ends}
 use Rattle.raise.proofs.lift.Statement.{statement}

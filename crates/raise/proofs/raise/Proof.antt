@@ -1,9 +1,8 @@
-use mathlib.Core.Path.{_≡_, sym, ap, _∙_}
+use mathlib.Core.Path.{sym, ap, _∙_}
 use native.Mathlib.Omega.{arith}
 use borrow.Author.Needs.{needs}
 use denote.Ref.{now}
 use lib.ListN.{length}
-use Rattle.raise.specs.Raise.{lifted}
 use Rattle.raise.proofs.Lifting.{lifted-length}
 use Rattle.raise.proofs.Afresh.{Passed, passed, high-good, raise-refused, raise-accepted, raise-promise}
 use Rattle.raise.proofs.raise.Statement.{statement}

@@ -1,9 +1,8 @@
 -- `raise::top_all` meets its contract. At triangle i the table holds the new boxes of those before it. What is left of the triangles falls.
 use Prim.Native.Nat.{ℕ, _+_, _-_, _≤_}
-use mathlib.Core.Path.{_≡_, ap, ap₂, sym, subst, subst⁻¹, _∙_}
+use mathlib.Core.Path.{_≡_, ap, ap₂, subst, subst⁻¹, _∙_}
 use native.Mathlib.Omega.{arith}
 use lib.Ieee.{Float}
-use lib.ListN.{length}
 use denote.Ref.{now}
 use Rattle.plane.specs.declared.Bounds.{Bounds}
 use Rattle.plane.specs.Mesh.{topOf}

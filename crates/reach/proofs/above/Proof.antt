@@ -1,4 +1,4 @@
-use mathlib.Core.Path.{_≡_, refl, ap, sym, _∙_}
+use mathlib.Core.Path.{refl}
 use Rattle.reach.specs.Reach.{aboveOf}
 use Rattle.reach.proofs.above.Statement.{statement}
 use Rattle.reach.proofs.above.Tie as tie

@@ -1,5 +1,5 @@
 use borrow.Author.Needs.{needs}
-use mathlib.Core.Path.{_≡_, refl, ap, sym, _∙_}
+use mathlib.Core.Path.{ap, sym, _∙_}
 use Rattle.reach.specs.Reach.{gapOf}
 use Rattle.reach.proofs.gap_of.Statement.{statement}
 use Rattle.reach.proofs.gap_of.Tie as tie

@@ -1,6 +1,5 @@
-use mathlib.Core.Path.{_≡_, refl, ap, sym, _∙_}
+use mathlib.Core.Path.{refl, ap}
 use Rattle.rules.proofs.Branches.{taken, left}
-use lib.Ieee.{le}
 use Rattle.reach.specs.Reach.{rimOf}
 use Rattle.reach.specs.declared.Span.{Span}
 use Rattle.reach.proofs.rim.Statement.{statement}

@@ -1,4 +1,4 @@
-use mathlib.Core.Path.{_≡_, refl, ap, sym, _∙_}
+use mathlib.Core.Path.{refl}
 use Rattle.rules.proofs.Branches.{taken, left, called-lt}
 use Rattle.reach.specs.Reach.{stretchFrom}
 use Rattle.reach.proofs.stretch_from.Statement.{statement}

@@ -1,4 +1,4 @@
-use mathlib.Core.Path.{_≡_, refl, ap, sym, _∙_}
+use mathlib.Core.Path.{ap, _∙_}
 use Rattle.reach.specs.Reach.{stretchOf, stretchFrom}
 use Rattle.reach.proofs.stretch_of.Statement.{statement}
 use Rattle.reach.proofs.stretch_of.Tie as tie

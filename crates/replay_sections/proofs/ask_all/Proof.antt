@@ -1,6 +1,5 @@
 use Prim.Native.Nat.{_-_, _≤_}
 use native.Mathlib.Omega.{arith}
-use borrow.Author.Needs.{needs}
 use Rattle.replay_sections.proofs.ask_all.Statement.{statement}
 use Rattle.replay_sections.proofs.ask_all.Tie as tie
 

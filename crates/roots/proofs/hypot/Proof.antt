@@ -1,11 +1,10 @@
 -- `hypot` meets its contract: where neither is a NaN, the bits without the sign tell the magnitudes (`Sized.antt`).
-use mathlib.Core.Path.{_≡_, refl, sym, ap, _∙_, subst}
-use mathlib.Core.Bool.{not}
-use Prim.Native.Nat.{ℕ, _+_, _-_, _^_, _≤_, max, min}
+use mathlib.Core.Path.{_≡_, sym, ap, _∙_, subst}
+use Prim.Native.Nat.{ℕ, _-_, _^_, _≤_, max, min}
 use native.Mathlib.Omega.{arith}
 use lib.Bits.{bitAnd}
 use lib.Dec.{T}
-use lib.Ieee.{Float, binary64, fits, isNan, toBits}
+use lib.Ieee.{Float, binary64, toBits}
 use Rattle.numbers.proofs.Patterns.{no-nan}
 use Rattle.roots.specs.Inside.{infiniteBits, ofSizes}
 use Rattle.rules.proofs.Branches.{nan-taken}

@@ -1,5 +1,5 @@
 -- `roots::root_of` meets its contract: `Units.antt` makes the result of the nearest root of m and half of e; a candidate passed the check, or the digits were found.
-use mathlib.Core.Path.{_≡_, refl, sym, ap, _∙_, subst}
+use mathlib.Core.Path.{_≡_, sym, ap, _∙_, subst}
 use mathlib.Core.Logic.{inr}
 use Prim.Native.Nat.{ℕ, _+_, _*_, _/_, _%_, _^_, _≤_, _<_}
 use native.Mathlib.Omega.{arith}

@@ -1,5 +1,5 @@
 use Rattle.rows.specs.Lanes.{partsOf}
-use mathlib.Core.Path.{_≡_, refl, sym, ap, _∙_}
+use mathlib.Core.Path.{_∙_}
 use borrow.Author.Needs.{needs}
 use Rattle.rows.proofs.parts.Statement.{statement}
 use Rattle.rows.proofs.parts.Tie as tie

@@ -1,5 +1,4 @@
-use mathlib.Core.Path.{_≡_, refl, sym, ap, _∙_}
-use borrow.Author.Needs.{needs}
+use mathlib.Core.Path.{_∙_}
 use Rattle.rows.specs.Lanes.{between}
 use Rattle.rows.proofs.run_between.Statement.{statement}
 use Rattle.rows.proofs.run_between.Tie as tie

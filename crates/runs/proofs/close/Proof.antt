@@ -1,7 +1,5 @@
 use Rattle.runs.proofs.Tallying.{closed-none, closed-is}
 use borrow.Author.Tests.{not-true, not-false}
-use mathlib.Core.Path.{_≡_, refl, ap}
-use Rattle.runs.specs.Inside.{closedOf}
 use Rattle.rules.proofs.Branches.{taken, left}
 use borrow.Author.Needs.{needs}
 use Rattle.runs.proofs.close.Statement.{statement}

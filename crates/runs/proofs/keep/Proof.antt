@@ -1,7 +1,7 @@
 use Rattle.runs.specs.Inside.{Work, work, keptBy}
 use Rattle.rules.proofs.Branches.{bool-called, taken, left}
 use mathlib.Core.Bool.{true}
-use mathlib.Core.Path.{_≡_, refl, ap}
+use mathlib.Core.Path.{ap}
 use borrow.Author.Needs.{needs}
 use Rattle.runs.proofs.keep.Statement.{statement}
 use Rattle.runs.proofs.keep.Tie as tie

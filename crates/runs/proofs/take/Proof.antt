@@ -1,5 +1,5 @@
 use Rattle.runs.specs.Inside.{work, takenBy}
-use mathlib.Core.Path.{_≡_, refl, ap}
+use mathlib.Core.Path.{ap}
 use Rattle.rules.proofs.Branches.{taken, left}
 use borrow.Author.Needs.{needs}
 use Rattle.runs.proofs.take.Statement.{statement}

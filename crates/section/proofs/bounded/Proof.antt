@@ -1,4 +1,4 @@
-use mathlib.Core.Path.{_≡_, sym, subst}
+use mathlib.Core.Path.{sym, subst}
 use lib.Dec.{T}
 use Rattle.section.proofs.Giving.{bound-none, bound-found}
 use Rattle.section.proofs.bounded.Statement.{statement}

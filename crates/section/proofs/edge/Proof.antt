@@ -1,4 +1,4 @@
-use mathlib.Core.Path.{_≡_, ap, sym, _∙_}
+use mathlib.Core.Path.{ap, sym, _∙_}
 use Rattle.rules.proofs.Branches.{bool-called}
 use Rattle.above.specs.Above.{offerOf}
 use Rattle.cutters.specs.declared.Stretch.{Stretch}

@@ -1,4 +1,4 @@
-use mathlib.Core.Path.{_≡_, ap, _∙_}
+use mathlib.Core.Path.{ap, _∙_}
 use Rattle.plane.specs.declared.Contact.{Contact}
 use Rattle.above.specs.Above.{offerOf}
 use Rattle.above.proofs.Above.{three}

@@ -1,4 +1,3 @@
-use mathlib.Core.Path.{_≡_, refl, ap, sym, _∙_}
 use Rattle.rules.proofs.Branches.{branches}
 use Rattle.section.specs.Section.{positiveReach}
 use Rattle.section.proofs.positive.Statement.{statement}

@@ -1,5 +1,4 @@
 -- The candidates go on from c, which is their own contact on top of c.
-use mathlib.Core.Path.{_≡_}
 use Rattle.section.proofs.Goings.{contact-on}
 use Rattle.section.proofs.section_contact_on.Statement.{statement}
 use Rattle.section.proofs.section_contact_on.Tie as tie

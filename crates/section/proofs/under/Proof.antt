@@ -1,5 +1,5 @@
 use borrow.Author.Needs.{needs}
-use mathlib.Core.Path.{_≡_, refl, ap, sym, _∙_}
+use mathlib.Core.Path.{ap, sym}
 use Rattle.section.specs.Section.{sectionUnder}
 use Rattle.section.proofs.under.Statement.{statement}
 use Rattle.section.proofs.under.Tie as tie

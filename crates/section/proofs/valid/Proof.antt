@@ -1,5 +1,4 @@
-use mathlib.Core.Path.{_≡_, refl, ap, sym, _∙_}
-use mathlib.Core.Bool.{false}
+use mathlib.Core.Path.{refl}
 use borrow.Author.Tests.{not-true, not-false}
 use Rattle.rules.proofs.Branches.{and-on, and-off, bool-called}
 use Rattle.section.specs.Section.{validSection}

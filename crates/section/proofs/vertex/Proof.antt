@@ -1,4 +1,4 @@
-use mathlib.Core.Path.{_≡_, refl, ap, _∙_, subst}
+use mathlib.Core.Path.{_≡_, subst}
 use mathlib.Core.Bool.{true}
 use lib.Ieee.{Float, le}
 use Rattle.numbers.specs.Reals.{_⊖_}

@@ -1,5 +1,5 @@
 use borrow.Author.Needs.{needs}
-use mathlib.Core.Path.{_≡_, refl, ap, sym, _∙_}
+use mathlib.Core.Path.{ap, sym, _∙_}
 use lib.Ieee.{lt}
 use Rattle.numbers.specs.Reals.{f0}
 use Rattle.section_gap.specs.Blocks.{sectionSearched}

@@ -1,4 +1,4 @@
-use mathlib.Core.Path.{_≡_, refl, ap, sym, _∙_}
+use mathlib.Core.Path.{refl, ap, _∙_}
 use Rattle.rules.proofs.Branches.{taken, left, bool-called}
 use Rattle.section_gap.specs.Blocks.{sectionBlocks, sectionSearched}
 use Rattle.section_gap.proofs.section_blocks.Statement.{statement}

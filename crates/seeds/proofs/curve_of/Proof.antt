@@ -1,10 +1,9 @@
 -- `curve_of` meets its contract: each of its parabolas comes out as near by computing.
-use mathlib.Core.Path.{_≡_, refl, ap, _∙_}
-use mathlib.Core.Bool.{Bool, true, cond}
+use mathlib.Core.Path.{_≡_}
+use mathlib.Core.Bool.{true}
 use Prim.Native.Nat.{ℕ, zero, suc, _≤_}
 use native.Mathlib.Omega.{arith}
 use borrow.Author.Tests.{le-ltb}
-use lib.Dec.{ltb}
 use lib.Ieee.{Float, ofBits}
 use Rattle.seeds.specs.Near.{isNear, isNearBy, isCurve}
 use Rattle.seeds.proofs.curve_of.Statement.{statement}

@@ -1,7 +1,5 @@
 use native.Mathlib.Omega.{arith}
 use borrow.Author.Needs.{needs}
-use denote.Ref.{now}
-use Rattle.um.specs.Index.{indexOf}
 use Rattle.setup.proofs.Answering.{refused, stands, may-walk, answered}
 use Rattle.setup.proofs.Promising.{setup-promise}
 use Rattle.setup.proofs.setup_height.Statement.{statement}

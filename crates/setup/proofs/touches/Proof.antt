@@ -1,5 +1,5 @@
 use borrow.Author.Needs.{needs}
-use Rattle.rules.proofs.Branches.{branches, bool-called}
+use Rattle.rules.proofs.Branches.{branches}
 use Rattle.setup.specs.Question.{touches}
 use Rattle.setup.proofs.touches.Statement.{statement}
 use Rattle.setup.proofs.touches.Tie as tie

@@ -1,6 +1,5 @@
 -- `sort::heap` meets its contract: from entry r on the first k entries are a heap. From k / 2 on nothing stands under an entry. r goes down.
 use Prim.Native.Nat.{_≤_, _/_}
-use native.Mathlib.Nat.{div-add-mod', mod-lt}
 use native.Mathlib.Omega.{arith}
 use borrow.Author.Needs.{needs}
 use Rattle.sort.specs.Ranks.{before}

@@ -3,10 +3,8 @@ use Prim.Native.Nat.{_-_}
 use native.Mathlib.Omega.{arith}
 use borrow.Author.Needs.{needs}
 use borrow.Author.Tests.{ltb-true, not-true, not-false}
-use mathlib.Core.Path.{_≡_, sym, _∙_}
 use Rattle.rules.proofs.Branches.{bool-called}
 use Rattle.sort.specs.Ranks.{before}
-use Rattle.sort.specs.Inside.{Within}
 use Rattle.sort.proofs.Counts.{rearranged-none}
 use Rattle.sort.proofs.Heaps.{Sifting, Later, later-is, sifting-starts, sifting-goes, sifting-rests, sifting-ends, within-kept}
 use Rattle.sort.proofs.Ranking.{before-strict}

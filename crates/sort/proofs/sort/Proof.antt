@@ -1,10 +1,9 @@
 -- `sort::sort` meets its contract: the first e entries are a heap, and those behind them up to k are sorted and come after all before them. e goes down.
-use Prim.Native.Nat.{_+_, _-_}
-use mathlib.Core.Path.{_≡_, _∙_}
+use Prim.Native.Nat.{_-_}
+use mathlib.Core.Path.{_∙_}
 use native.Mathlib.Omega.{arith}
 use borrow.Author.Needs.{needs}
 use Rattle.sort.specs.Ranks.{before}
-use Rattle.sort.specs.Inside.{swapped, Rearranged}
 use Rattle.sort.proofs.Counts.{rearranged-none, rearranged-twice}
 use Rattle.sort.proofs.Heaps.{Sorting, sorting-starts, sorting-ready, sorting-goes, within-kept}
 use Rattle.sort.proofs.Orders.{sorted-is}

@@ -1,5 +1,4 @@
 use borrow.Author.Needs.{needs}
-use native.Mathlib.Omega.{arith}
 use Rattle.walk.proofs.Rings.{fresh-again, fresh-first, fresh-room}
 use Rattle.tips.proofs.look_at.Statement.{statement}
 use Rattle.tips.proofs.look_at.Tie as tie

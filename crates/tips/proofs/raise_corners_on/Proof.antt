@@ -1,4 +1,4 @@
-use mathlib.Core.Path.{_≡_, refl, ap, _∙_}
+use mathlib.Core.Path.{refl, ap, _∙_}
 use lib.Ieee.{Float}
 use Rattle.rules.proofs.Branches.{taken, left}
 use Rattle.ask.specs.Ask.{atFloor}

@@ -1,4 +1,4 @@
-use mathlib.Core.Path.{_≡_, refl, ap, sym, _∙_}
+use mathlib.Core.Path.{refl}
 use Rattle.rules.proofs.Branches.{taken, left}
 use Rattle.tips.specs.Contact.{toolRaised}
 use Rattle.tips.proofs.raise_tool_on.Statement.{statement}

@@ -1,11 +1,11 @@
 -- `tips::visit` meets its contract: what is left of a ring, walked from here, gives what the whole ring gave from its start.
 use Prim.Native.Nat.{_+_, _-_, _*_, _≤_}
-use mathlib.Core.Path.{_≡_, ap, _∙_}
+use mathlib.Core.Path.{ap, _∙_}
 use native.Mathlib.Omega.{arith}
 use lib.ListN.{length}
 use denote.Ref.{now}
 use Rattle.walk.specs.Walk.{over, cell, row, block, fold}
-use Rattle.walk.specs.Inside.{seen, look, Below, Stretch}
+use Rattle.walk.specs.Inside.{seen, look}
 use Rattle.walk.proofs.Rings.{Going, going-starts, ring-turns, ring-ends, kept-trans, kept-room}
 use Rattle.tips.specs.Inside.{shapeStep}
 use Rattle.ask.proofs.Answers.{cell-keeps}

@@ -1,6 +1,5 @@
-use Prim.Native.Nat.{_+_, _*_, _≤_, _-_}
-use mathlib.Core.Path.{_≡_, refl, ap, sym, _∙_}
-use borrow.Author.Needs.{needs}
+use Prim.Native.Nat.{_≤_, _-_}
+use mathlib.Core.Path.{_≡_}
 use native.Mathlib.Omega.{arith}
 use Rattle.section.specs.Section.{validSection}
 use Rattle.tool.specs.Tool.{sectionOf, sectionsIn}

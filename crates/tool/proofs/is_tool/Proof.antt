@@ -1,4 +1,3 @@
-use mathlib.Core.Path.{_≡_, ap, sym, _∙_}
 use borrow.Author.Tests.{eq-eqb, ne-eqb}
 use Rattle.rules.proofs.Branches.{and-on, and-off, bool-called}
 use Rattle.tool.specs.Tool.{isTool}

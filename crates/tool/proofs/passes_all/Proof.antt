@@ -1,10 +1,9 @@
-use Prim.Native.Nat.{_+_, _*_, _≤_, _-_}
-use mathlib.Core.Path.{_≡_, refl, ap, sym, _∙_}
-use borrow.Author.Needs.{needs}
+use Prim.Native.Nat.{_≤_, _-_}
+use mathlib.Core.Path.{_≡_, ap, sym, _∙_}
 use native.Mathlib.Omega.{arith}
 use mathlib.Core.Bool.{not}
 use Rattle.section_gap.specs.Blocks.{sectionBlocks}
-use Rattle.tool.specs.Tool.{sectionOf, passesAll, sectionsIn}
+use Rattle.tool.specs.Tool.{sectionOf, passesAll}
 use Rattle.rules.specs.Every.{every}
 use Rattle.rules.proofs.Testing.{every-stops, every-goes, every-ends}
 use Rattle.tool.proofs.Sections.{blocks-here, all-left}

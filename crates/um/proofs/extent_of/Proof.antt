@@ -1,10 +1,10 @@
 -- At triangle i the extremes are those of the triangles before it.
 use Prim.Native.Nat.{_-_, _≤_}
-use mathlib.Core.Path.{_≡_, refl, ap, sym, _∙_}
+use mathlib.Core.Path.{_≡_, refl, ap, _∙_}
 use native.Mathlib.Numerals.{add-one}
 use native.Mathlib.Omega.{arith}
 use borrow.Author.Needs.{needs}
-use Rattle.um.specs.Grid.{widened, extentOf}
+use Rattle.um.specs.Grid.{extentOf}
 use Rattle.um.proofs.extent_of.Statement.{statement}
 use Rattle.um.proofs.extent_of.Tie as tie
 

@@ -1,11 +1,10 @@
 -- The numbers before k are coordinates: what the search finds from k on is what it finds from the first number on.
-use Prim.Native.Nat.{ℕ, _-_, _≤_}
+use Prim.Native.Nat.{_-_, _≤_}
 use mathlib.Core.Bool.{not}
 use mathlib.Core.Path.{_≡_, ap, sym, _∙_}
 use native.Mathlib.Nat.{sub-zero}
 use native.Mathlib.Omega.{arith}
 use borrow.Author.Needs.{needs}
-use borrow.Author.Tests.{not-true, not-false}
 use lib.ListN.{length}
 use Rattle.micro.specs.Micro.{isCoordinate, numberAt, firstWhere}
 use Rattle.um.specs.Build.{firstBad}

@@ -1,10 +1,9 @@
 -- The smaller powers do not fit: what the search finds from the k-th on is what it finds from the first on.
-use Prim.Native.Nat.{ℕ, _-_, _*_, _^_, _≤_, _<_}
-use mathlib.Core.Path.{_≡_, refl, ap, sym, _∙_}
+use Prim.Native.Nat.{ℕ, _-_, _^_, _≤_}
+use mathlib.Core.Path.{_≡_, refl, ap, _∙_}
 use native.Mathlib.Nat.{pow-suc}
 use native.Mathlib.Numerals.{add-one}
 use native.Mathlib.Omega.{arith}
-use borrow.Author.Needs.{needs}
 use lib.Pow.{pow-pos, pow-mono}
 use Rattle.micro.specs.Micro.{firstWhere}
 use Rattle.um.specs.Grid.{fits, powerAt, sizeOf}

@@ -1,4 +1,3 @@
-use borrow.Author.Needs.{needs}
 use Rattle.um.specs.Grid.{widened}
 use Rattle.um.proofs.widen.Statement.{statement}
 use Rattle.um.proofs.widen.Tie as tie

@@ -1,5 +1,5 @@
 use borrow.Author.Needs.{needs}
-use mathlib.Core.Path.{_≡_, ap, _∙_}
+use mathlib.Core.Path.{ap, _∙_}
 use lib.Ieee.{binary64, ofBits}
 use Rattle.vectors.specs.Lines.{askedOf}
 use Rattle.vectors.proofs.asked.Statement.{statement}

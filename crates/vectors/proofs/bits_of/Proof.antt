@@ -1,6 +1,6 @@
 -- The one NaN has the pattern that is written for it; of any other float the bits are asked.
 use mathlib.Core.Path.{_≡_, refl, sym, ap, _∙_}
-use lib.Ieee.{Float, nan, binary64, toBits}
+use lib.Ieee.{nan, binary64, toBits}
 use lib.Ieee.Compare.{differs-from-itself}
 use Rattle.numbers.proofs.Patterns.{no-nan}
 use Rattle.vectors.proofs.bits_of.Statement.{statement}

@@ -1,6 +1,6 @@
 use borrow.Author.Needs.{needs}
 use borrow.Author.Tests.{eq-eqb, ne-eqb}
-use mathlib.Core.Path.{_≡_, sym}
+use mathlib.Core.Path.{sym}
 use Rattle.vectors.specs.Lines.{differsFrom}
 use Rattle.vectors.proofs.differs.Statement.{statement}
 use Rattle.vectors.proofs.differs.Tie as tie

@@ -1,5 +1,4 @@
 use borrow.Author.Needs.{needs}
-use mathlib.Core.Path.{_≡_, sym, ap}
 use Rattle.vectors.specs.Lines.{heightsIn}
 use Rattle.vectors.proofs.height.Statement.{statement}
 use Rattle.vectors.proofs.height.Tie as tie

@@ -1,7 +1,5 @@
-use mathlib.Core.Path.{_≡_, refl}
 use borrow.Author.Tests.{not-true, not-false}
-use Rattle.rules.proofs.Branches.{taken, left, and-on, and-off, bool-called}
-use Rattle.bull.specs.Inside.{baseOf}
+use Rattle.rules.proofs.Branches.{taken, left, bool-called}
 use Rattle.bull.proofs.Bases.{base-there, base-none, base-none₂}
 use Rattle.bull.proofs.cap.base_of.Statement.{statement}
 use Rattle.bull.proofs.cap.base_of.Tie as tie

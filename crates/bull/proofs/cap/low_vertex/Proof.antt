@@ -1,4 +1,3 @@
-use mathlib.Core.Path.{_≡_}
 use Rattle.rules.proofs.Branches.{and-on, and-off, bool-called}
 use Rattle.bull.specs.Inside.{lowVertex}
 use Rattle.bull.proofs.cap.low_vertex.Statement.{statement}

@@ -1,4 +1,4 @@
-use mathlib.Core.Path.{_≡_, refl}
+use mathlib.Core.Path.{refl}
 use Rattle.rules.proofs.Branches.{taken, left}
 use Rattle.bull.specs.Inside.{overOf}
 use Rattle.bull.proofs.cap.over.Statement.{statement}

@@ -1,8 +1,8 @@
 -- `by_digits` meets its contract: place and digits are the definition's (`Sized.antt`).
 use mathlib.Core.Path.{_≡_, refl, sym, ap, _∙_, subst}
 use mathlib.Core.Bool.{not}
-use mathlib.Core.Logic.{_⊎_, inl, inr}
-use Prim.Native.Nat.{ℕ, _+_, _-_, _*_, _/_, _%_, _^_, _≤_, _<_}
+use mathlib.Core.Logic.{_⊎_}
+use Prim.Native.Nat.{ℕ, _+_, _-_, _*_, _%_, _^_, _≤_, _<_}
 use native.Mathlib.Nat.{add-zero}
 use native.Mathlib.Omega.{arith}
 use borrow.Author.Needs.{needs}
@@ -14,7 +14,7 @@ use Rattle.roots.specs.Inside.{placeOf, digitsOf, infiniteBits, ofSizes}
 use Rattle.roots.proofs.Packing.{packed}
 use Rattle.roots.proofs.Scales.{hit}
 use Rattle.roots.proofs.Distances.{exactly}
-use Rattle.roots.proofs.Sized.{Sized, sized, sizes-infinite, sizes-finite, alone}
+use Rattle.roots.proofs.Sized.{sized, sizes-infinite, sizes-finite, alone}
 use Rattle.roots.proofs.hypots.by_digits.Statement.{statement}
 use Rattle.roots.proofs.hypots.by_digits.Tie as tie
 

@@ -1,10 +1,9 @@
 -- `by_guess` meets its contract: what the check passes, with 53 digits but not the least such number, is the significand (`Scales.antt`).
-use mathlib.Core.Path.{_≡_, sym, ap, _∙_, subst}
+use mathlib.Core.Path.{_≡_, ap, _∙_, subst}
 use mathlib.Core.Bool.{not}
 use Prim.Native.Nat.{ℕ, _+_, _-_, _*_, _/_, _%_, _^_, _≤_, _<_}
 use native.Mathlib.Omega.{arith}
 use borrow.Author.Needs.{needs}
-use borrow.Author.Tests.{ltb-true}
 use lib.Bits.{bitAnd, and-mask, mask-lt}
 use lib.Dec.{T}
 use lib.Ieee.{binary64, ofBits, nanBits}

@@ -3,7 +3,6 @@ use mathlib.Core.Path.{_≡_, subst, sym}
 use mathlib.Core.Bool.{false, not}
 use Prim.Native.Nat.{ℕ, _+_, _-_, _*_, _/_, _%_, _^_, _≤_, _<_}
 use native.Mathlib.Omega.{arith}
-use borrow.Author.Needs.{needs}
 use lib.Bits.{bitAnd, mask-lt}
 use lib.Dec.{T}
 use lib.Ieee.{Float, binary64, nanBits, toBits}

@@ -1,6 +1,6 @@
 -- `by_digits` meets its contract: the nearest root of the sum, lowered to 109 digits, is the significand (`Scales.antt`); of w * 2^52 nothing is lowered, and there are no ties
 -- (`plain` in `Rooting.antt`).
-use mathlib.Core.Path.{_≡_, refl, sym, ap, _∙_, subst}
+use mathlib.Core.Path.{_≡_, refl, ap, _∙_, subst}
 use mathlib.Core.Bool.{false, not}
 use Prim.Native.Nat.{ℕ, zero, suc, _+_, _-_, _*_, _/_, _%_, _^_, _≤_, _<_}
 use native.Mathlib.Omega.{arith}
@@ -16,7 +16,7 @@ use Rattle.roots.proofs.Squares.{one-nearest}
 use Rattle.roots.proofs.Evens.{even-le}
 use Rattle.roots.proofs.Lowering.{nearest-lowered}
 use Rattle.roots.proofs.Rooting.{plain}
-use Rattle.roots.proofs.Scales.{sumOf, Hits, More, more, by-sum}
+use Rattle.roots.proofs.Scales.{sumOf, Hits, more, by-sum}
 use Rattle.roots.proofs.Sized.{result-is, result-beyond}
 use Rattle.roots.proofs.wide.by_digits.Statement.{statement}
 use Rattle.roots.proofs.wide.by_digits.Tie as tie

@@ -1,6 +1,6 @@
 -- `sum` meets its contract: 8 * m * m is even, so it may stand on top of what was lowered (`Lowering.antt`).
 use mathlib.Core.Path.{_≡_, sym, _∙_, subst, ap}
-use Prim.Native.Nat.{ℕ, _+_, _*_, _/_, _%_, _^_, _≤_, _<_}
+use Prim.Native.Nat.{ℕ, _+_, _*_, _%_, _^_, _≤_, _<_}
 use native.Mathlib.Nat.{div-le-self}
 use native.Mathlib.Omega.{arith}
 use borrow.Author.Needs.{needs}

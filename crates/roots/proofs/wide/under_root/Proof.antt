@@ -1,8 +1,7 @@
 -- `under_root` meets its contract: by cases of w.
 use mathlib.Core.Path.{_≡_}
-use Prim.Native.Nat.{ℕ, _+_, _*_, _^_, _≤_, _<_}
+use Prim.Native.Nat.{ℕ, _+_, _*_, _^_, _<_}
 use native.Mathlib.Omega.{arith}
-use borrow.Author.Needs.{needs}
 use lib.Dec.{lit<}
 use Rattle.roots.proofs.wide.under_root.Statement.{statement}
 use Rattle.roots.proofs.wide.under_root.Tie as tie

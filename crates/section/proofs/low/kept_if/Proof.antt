@@ -1,5 +1,5 @@
 use mathlib.Core.Logic.{inl, inr}
-use mathlib.Core.Path.{_≡_, refl, sym, subst}
+use mathlib.Core.Path.{refl, sym, subst}
 use lib.Dec.{T}
 use lib.Ieee.{div, isNan, ofBits}
 use Rattle.section.proofs.low.kept_if.Statement.{statement}

@@ -1,4 +1,4 @@
-use mathlib.Core.Path.{_≡_, refl, sym, ap, _∙_}
+use mathlib.Core.Path.{refl}
 use Rattle.rules.proofs.Branches.{taken, left, bool-called}
 use Rattle.section.specs.Inside.{lowEdge}
 use Rattle.section.proofs.low.skips.Statement.{statement}

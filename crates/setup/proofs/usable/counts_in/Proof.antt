@@ -1,6 +1,5 @@
 use mathlib.Core.Path.{sym, _∙_}
 use native.Mathlib.Omega.{arith}
-use borrow.Author.Needs.{needs}
 use Rattle.rules.proofs.Branches.{branches, bool-called}
 use Rattle.setup.specs.Inside.{countsIn}
 use Rattle.setup.proofs.Heads.{few-cells}

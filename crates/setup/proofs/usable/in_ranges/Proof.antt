@@ -1,4 +1,3 @@
-use borrow.Author.Needs.{needs}
 use Rattle.rules.proofs.Branches.{branches, bool-called}
 use Rattle.setup.proofs.Heads.{ranges-are}
 use Rattle.setup.proofs.usable.in_ranges.Statement.{statement}

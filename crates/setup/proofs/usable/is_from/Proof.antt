@@ -1,5 +1,4 @@
-use borrow.Author.Needs.{needs}
-use Rattle.rules.proofs.Branches.{branches, bool-called}
+use Rattle.rules.proofs.Branches.{branches}
 use Rattle.rules.specs.Every.{isFrom}
 use Rattle.setup.proofs.usable.is_from.Statement.{statement}
 use Rattle.setup.proofs.usable.is_from.Tie as tie

@@ -1,5 +1,5 @@
 use borrow.Author.Needs.{needs}
-use Rattle.rules.proofs.Branches.{branches, bool-called}
+use Rattle.rules.proofs.Branches.{branches}
 use Rattle.setup.specs.Answer.{isMarked}
 use Rattle.setup.proofs.usable.is_marked.Statement.{statement}
 use Rattle.setup.proofs.usable.is_marked.Tie as tie

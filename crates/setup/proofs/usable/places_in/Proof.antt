@@ -1,4 +1,3 @@
-use borrow.Author.Needs.{needs}
 use Rattle.rules.proofs.Branches.{branches, bool-called}
 use Rattle.setup.specs.Inside.{placesIn}
 use Rattle.setup.proofs.usable.places_in.Statement.{statement}

@@ -2,7 +2,6 @@
 use Prim.Native.Nat.{_+_, _-_, _*_, _≤_}
 use mathlib.Core.Path.{_≡_, ap, _∙_}
 use native.Mathlib.Omega.{arith}
-use borrow.Author.Needs.{needs}
 use Rattle.micro.specs.Micro.{isCoordinate, numberAt}
 use Rattle.rules.specs.Every.{every}
 use Rattle.setup.specs.Answer.{triangleUsable}
