@@ -1,5 +1,5 @@
--- Candidates taken on top of a best so far give what their own contact gives beside it. Heights take each other's place in one order on all floats, a NaN below every
--- number, so it does not matter which two are compared first.
+-- Candidates taken on top of a best so far give what their own contact gives beside it. Heights take each other's place in one order on all floats, a NaN below
+-- every number, so it does not matter which two are compared first.
 use mathlib.Core.Bool.{Bool, true, false, cond}
 use mathlib.Core.Path.{_≡_, refl, sym, ap, _∙_}
 use Prim.Native.Nat.{ℕ, zero, suc, _+_, _*_, _≤_, _<_}
@@ -62,7 +62,8 @@ le-number (fin s m e) (inf t) h = refl
 le-number (fin s m e) (fin t k d) h = refl
 
 -- a number that is not below z is above what z is above
-finite-between : (s : Bool) (m : ℕ) (e : ℤ) (t : Bool) (k : ℕ) (d : ℤ) (u : Bool) (l : ℕ) (c : ℤ) → lt (fin s m e) (fin t k d) ≡ true → lt (fin u l c) (fin t k d) ≡ false → lt (fin s m e) (fin u l c) ≡ true
+finite-between : (s : Bool) (m : ℕ) (e : ℤ) (t : Bool) (k : ℕ) (d : ℤ) (u : Bool) (l : ℕ) (c : ℤ) → lt (fin s m e) (fin t k d) ≡ true
+    → lt (fin u l c) (fin t k d) ≡ false → lt (fin s m e) (fin u l c) ≡ true
 unfolding lt
 finite-between false m e false k d false l c p q =
     lt-ltb _ _ (cross (m * up e) (k * up d) (l * up c) (down e) (down d) (down c) (down-pos e) (down-pos c) (ltb-true _ _ p) (ltb-false _ _ q))
@@ -71,10 +72,12 @@ finite-between false m e false k d true l c p q =
 finite-between false m e true k d u l c p q = absurd (no p)
 finite-between true m e false k d false l c p q =
     lt-ltb 0 (m * up e * down c + l * up c * down e)
-    (sum-above (m * up e) (k * up d) (l * up c) (down e) (down d) (down c) (down-pos e) (down-pos c) (ltb-true 0 (m * up e * down d + k * up d * down e) p) (ltb-false _ _ q))
+    (sum-above (m * up e) (k * up d) (l * up c) (down e) (down d) (down c) (down-pos e) (down-pos c)
+    (ltb-true 0 (m * up e * down d + k * up d * down e) p) (ltb-false _ _ q))
 finite-between true m e false k d true l c p q =
     lt-ltb _ _
-    (none-above (m * up e) (k * up d) (l * up c) (down e) (down d) (down c) (down-pos d) (down-pos c) (ltb-true 0 (m * up e * down d + k * up d * down e) p) (ltb-false 0 (l * up c * down d + k * up d * down c) q))
+    (none-above (m * up e) (k * up d) (l * up c) (down e) (down d) (down c) (down-pos d) (down-pos c) (ltb-true 0 (m * up e * down d + k * up d * down e) p)
+    (ltb-false 0 (l * up c * down d + k * up d * down c) q))
 finite-between true m e true k d false l c p q =
     lt-ltb 0 (m * up e * down c + l * up c * down e) (omega (arith, mul-pos (factor (m * up e) (down d) _ (ltb-true _ _ p)) (down-pos c)))
 finite-between true m e true k d true l c p q =
@@ -197,7 +200,8 @@ pub three-on : (c d e₁ e₂ e₃ : Contact) → offerOf c (offerOf (offerOf (o
 three-on c d e₁ e₂ e₃ =
     offers c (offerOf (offerOf d e₁) e₂) e₃ ∙ ap (λ k. offerOf k e₃) (offers c (offerOf d e₁) e₂ ∙ ap (λ k. offerOf k e₂) (offers c d e₁))
 
-pub three-from : (c₀ c₁ c₂ c₃ e₁ e₂ e₃ : Contact) → c₁ ≡ offerOf c₀ e₁ → c₂ ≡ offerOf c₁ e₂ → c₃ ≡ offerOf c₂ e₃ → c₃ ≡ offerOf c₀ (offerOf (offerOf (offerOf Nothing e₁) e₂) e₃)
+pub three-from : (c₀ c₁ c₂ c₃ e₁ e₂ e₃ : Contact) → c₁ ≡ offerOf c₀ e₁ → c₂ ≡ offerOf c₁ e₂ → c₃ ≡ offerOf c₂ e₃
+    → c₃ ≡ offerOf c₀ (offerOf (offerOf (offerOf Nothing e₁) e₂) e₃)
 three-from c₀ c₁ c₂ c₃ e₁ e₂ e₃ q₁ q₂ q₃ =
     let n : c₀ ≡ offerOf c₀ Nothing = unfold offerOf in refl in
     three c₀ c₁ c₂ c₃ e₁ e₂ e₃ q₁ q₂ q₃ ∙ ap (λ k. offerOf (offerOf (offerOf k e₁) e₂) e₃) n ∙ sym (three-on c₀ Nothing e₁ e₂ e₃)

@@ -8,7 +8,8 @@ use Rattle.above.proofs.Above.{raising, raises-same}
 use Rattle.plane.specs.declared.Best.{Best}
 use Rattle.plane.specs.Contacts.{raisedTo, raisedBy}
 
-raised-is : (c : Contact) (i : ℕ) (b : Best) → raisedBy c i b ≡ raising (b .height) (λ z t. record { height = z; triangle = i; kind = t .kind; which = t .which }) b c
+raised-is : (c : Contact) (i : ℕ) (b : Best)
+    → raisedBy c i b ≡ raising (b .height) (λ z t. record { height = z; triangle = i; kind = t .kind; which = t .which }) b c
 unfolding raisedBy raisedTo raising
 raised-is Nothing i b = refl
 raised-is (Height z t) i b = refl

@@ -1,4 +1,5 @@
--- What lies a margin under a height has no contact above it: the cutter's height over its tip is nowhere below 0, so no candidate is above a point of the triangle.
+-- What lies a margin under a height has no contact above it:
+-- the cutter's height over its tip is nowhere below 0, so no candidate is above a point of the triangle.
 use mathlib.Core.Bool.{true, false, cond}
 use mathlib.Core.Logic.{_⊎_, inl, inr}
 use mathlib.Core.Path.{_≡_, refl, ap, sym, _∙_}

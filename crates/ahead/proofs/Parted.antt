@@ -1,4 +1,5 @@
--- A triangle that passes the test has the same contact on top of `from`, whatever lower best so far its candidates are taken beside; and none there where its top is not above.
+-- A triangle that passes the test has the same contact on top of `from`, whatever lower best so far its candidates are taken beside;
+-- and none there where its top is not above.
 use mathlib.Core.Bool.{true, false}
 use mathlib.Core.Path.{_≡_}
 use lib.Dec.{T}
@@ -75,7 +76,8 @@ module _ (f : Float) (b : Begun f) where
           let q = both-true (isApart (f ⊖ margin) f (t .bz)) _ (p .1) in
           (p .0, q .0, q .1)
 
-      low-edge : (e : Edge) → isApart (f ⊖ margin) f (e .az) ≡ true → isApart (f ⊖ margin) f (e .bz) ≡ true → le (maxOf (e .az) (e .bz)) f ≡ true → Under f (edgeOf k e)
+      low-edge : (e : Edge) → isApart (f ⊖ margin) f (e .az) ≡ true → isApart (f ⊖ margin) f (e .bz) ≡ true
+          → le (maxOf (e .az) (e .bz)) f ≡ true → Under f (edgeOf k e)
       low-edge e p q l =
           edge-low f b k level fit e (apart-low (e .az) p (not-first (e .az) (e .bz) f l)) (apart-low (e .bz) q (not-second (e .az) (e .bz) f l))
 

@@ -102,8 +102,10 @@ module _ (c : Float) (low : T (le O c)) (high : T (le c M)) (fit : T (fits binar
       let z = no-lower c fc low in
       let k = le→parts I q tt tt h in
       record {
-        least = is-le binary64 _ _ _ _ _ _ _ _ (omega arith) (mul-pos (num-pos q d) (den-pos c)) (rw z (omega (arith, zero-mul (den q), zero-mul (num q * den c)))) zero-is (is-div binary64 c q fc d);
-        most = is-le binary64 _ _ _ _ _ _ _ _ (mul-pos (num-pos q d) (den-pos c)) (den-pos c) (rw z (cross (upper c) (den c) (num q) (den q) (omega (arith, k, mul-one (upper q), mul-one (lower q), one-mul (den q), zero-mul (den q))))) (is-div binary64 c q fc d) (own c fit fc);
+        least = is-le binary64 _ _ _ _ _ _ _ _ (omega arith) (mul-pos (num-pos q d) (den-pos c))
+            (rw z (omega (arith, zero-mul (den q), zero-mul (num q * den c)))) zero-is (is-div binary64 c q fc d);
+        most = is-le binary64 _ _ _ _ _ _ _ _ (mul-pos (num-pos q d) (den-pos c)) (den-pos c) (rw z (cross (upper c) (den c) (num q) (den q)
+            (omega (arith, k, mul-one (upper q), mul-one (lower q), one-mul (den q), zero-mul (den q))))) (is-div binary64 c q fc d) (own c fit fc);
       }
     where
       cross : (u d n f : ℕ) → f ≤ n → u * f * d + 0 * (n * d) ≤ u * (n * d) + 0 * f * d

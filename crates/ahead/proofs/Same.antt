@@ -1,4 +1,5 @@
--- The contact of one triangle on top of `from` is the same whether the floor is `from` or lies under it, where no edge has its higher end under `from` and its tip above.
+-- The contact of one triangle on top of `from` is the same whether the floor is `from` or lies under it,
+-- where no edge has its higher end under `from` and its tip above.
 use mathlib.Core.Bool.{true, false}
 use mathlib.Core.Path.{_≡_, refl, ap, sym, _∙_, subst}
 use lib.Ieee.{Float, inf, lt, le, div, isNan, ofBits}
@@ -95,7 +96,8 @@ module _ (f : Float) (n : isNan f ≡ false) where
         over : (b : Float) → exceedsOf b f ≡ false → exceedsOf z b ≡ true
         over b h = by-test (exceedsOf z b) (λ i. i) (λ i. absurd (no (sym h ∙ passes f z b g i)))
 
-    pub edge-same : (b : Float) (p q : Contact) → exceedsOf b f ≡ false → offerOf (soFar f) p ≡ offerOf (soFar f) q → offerOf (soFar f) (bullEdge k b p e) ≡ offerOf (soFar f) (bullEdge k f q e)
+    pub edge-same : (b : Float) (p q : Contact) → exceedsOf b f ≡ false → offerOf (soFar f) p ≡ offerOf (soFar f) q
+        → offerOf (soFar f) (bullEdge k b p e) ≡ offerOf (soFar f) (bullEdge k f q e)
     edge-same b p q h i = by-contact p refl
       where
         lows : Under f p → offerOf (soFar f) (bullEdge k b p e) ≡ offerOf (soFar f) (bullEdge k f q e)
@@ -109,7 +111,8 @@ module _ (f : Float) (n : isNan f ≡ false) where
             by-test (exceedsOf z f)
             (λ g.
             let o : q ≡ Height z t = same-above z t q g (ap (offerOf (soFar f)) (sym j) ∙ i) in
-            ap (λ (c : Contact). offerOf (soFar f) (bullEdge k b c e)) j ∙ ap (offerOf (soFar f)) (high-edge b z t h g) ∙ ap (λ (c : Contact). offerOf (soFar f) (bullEdge k f c e)) (sym o))
+            ap (λ (c : Contact). offerOf (soFar f) (bullEdge k b c e)) j ∙ ap (offerOf (soFar f)) (high-edge b z t h g)
+            ∙ ap (λ (c : Contact). offerOf (soFar f) (bullEdge k f c e)) (sym o))
             (λ g. lows (ap (offerOf (soFar f)) j ∙ (unfold offerOf in waits f z _ t g)))
 
   -- ---- the triangle
@@ -117,7 +120,8 @@ module _ (f : Float) (n : isNan f ≡ false) where
     abbrev Edges : (Edge → Type 0) → Type 0
     Edges P = P (edgeAb t) × P (edgeBc t) × P (edgeCa t)
 
-    pub contact-same : (b : Float) → exceedsOf b f ≡ false → Edges (λ e. le (maxOf (e .az) (e .bz)) f ≡ true → Under f (edgeOf k e)) → offerOf (soFar f) (bullContactAbove t k b) ≡ offerOf (soFar f) (bullContactAbove t k f)
+    pub contact-same : (b : Float) → exceedsOf b f ≡ false → Edges (λ e. le (maxOf (e .az) (e .bz)) f ≡ true → Under f (edgeOf k e))
+        → offerOf (soFar f) (bullContactAbove t k b) ≡ offerOf (soFar f) (bullContactAbove t k f)
     unfolding bullContactAbove bullEdges
     contact-same b h low =
         let v = bullVertices k t in
@@ -132,7 +136,8 @@ module _ (f : Float) (n : isNan f ≡ false) where
     unfolding bullEdge
     edge-under b c e u w = either (Under f) (tooLow b c e) c (offerOf c (edgeOf k e)) (λ g. u) (λ g. under-offer f c (edgeOf k e) u w)
 
-    pub contact-under : (b : Float) → Under f (bullVertices k t) → Edges (λ e. Under f (edgeOf k e)) → Under f (bullFacet k t (facingOf t)) → Under f (bullContactAbove t k b)
+    pub contact-under : (b : Float) → Under f (bullVertices k t) → Edges (λ e. Under f (edgeOf k e)) → Under f (bullFacet k t (facingOf t))
+        → Under f (bullContactAbove t k b)
     unfolding bullContactAbove bullEdges
     contact-under b v e g =
         under-offer f _ _ (edge-under b _ (edgeCa t) (edge-under b _ (edgeBc t) (edge-under b _ (edgeAb t) v (e .0)) (e .1)) (e .2)) g

@@ -117,7 +117,8 @@ module _ (f : Float) (b : Begun f) where
     pub vertices-under : (t : Triangle) → Low f (t .az) → Low f (t .bz) → Low f (t .cz) → Under f (bullVertices k t)
     unfolding bullVertices
     vertices-under t a b c =
-        under-offer f _ _ (under-offer f _ _ (under-offer f _ _ (under-none f) (vertex-under 0 (t .ax) (t .ay) (t .az) a)) (vertex-under 1 (t .bx) (t .by) (t .bz) b)) (vertex-under 2 (t .cx) (t .cy) (t .cz) c)
+        under-offer f _ _ (under-offer f _ _ (under-offer f _ _ (under-none f) (vertex-under 0 (t .ax) (t .ay) (t .az) a))
+        (vertex-under 1 (t .bx) (t .by) (t .bz) b)) (vertex-under 2 (t .cx) (t .cy) (t .cz) c)
 
     -- ---- an edge
     at-under : (e : Edge) → Low f (e .az) → Low f (e .bz) → (t : Float) → Unit t → lt f (bullAt k e t) ≡ false
@@ -142,7 +143,8 @@ module _ (f : Float) (b : Begun f) where
         (λ lo hi u v o. unfold bullStretch in under-height f _ _ number (max-under (bullAt k e) f lo hi 40 u v (at-under e p q))) e (k .x) (k .y) (k .r)
 
     -- ---- the facet
-    weighed-under : (t : Triangle) → Low f (t .az) → Low f (t .bz) → Low f (t .cz) → (drop : Float) → Dropped drop → (v w : Float) → Under f (weighedOf t drop (record { u = f1 ⊖ v ⊖ w; v = v; w = w }))
+    weighed-under : (t : Triangle) → Low f (t .az) → Low f (t .bz) → Low f (t .cz) → (drop : Float) → Dropped drop → (v w : Float)
+        → Under f (weighedOf t drop (record { u = f1 ⊖ v ⊖ w; v = v; w = w }))
     unfolding weighedOf atLeast
     weighed-under t p q r drop d v w =
         let u = f1 ⊖ v ⊖ w in
@@ -153,7 +155,8 @@ module _ (f : Float) (b : Begun f) where
         let y = both-true (le minusSlack v) (le minusSlack w) (x .1) in
         let g : (s : Float) → le minusSlack s ≡ true → T (le S s) = λ s e. rw minusSlack-is at (holds _ e) in
         let l : T (le z f) =
-        rw f1-is (facet-under f (b .least) (b .most) v w (t .az) (t .bz) (t .cz) (g v (y .0)) (g w (y .1)) (rw f1-is at (g u (x .0))) (p .deeper) (p .lower) (q .deeper) (q .lower) (r .deeper) (r .lower)) in
+        rw f1-is (facet-under f (b .least) (b .most) v w (t .az) (t .bz) (t .cz) (g v (y .0)) (g w (y .1)) (rw f1-is at (g u (x .0))) (p .deeper) (p .lower)
+        (q .deeper) (q .lower) (r .deeper) (r .lower)) in
         under-height f _ _ number (dropped z z drop f (add-fits binary64 (u ⊗ t .az ⊕ v ⊗ t .bz) (w ⊗ t .cz)) ff (self z f l) l d))
         (λ o. under-none f)
       where

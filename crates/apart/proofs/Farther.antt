@@ -281,7 +281,8 @@ module _ (p q L x : Float) (far : (t : Float) → T (le O t) → T (le t I) → 
   beyond y p₁ q₁ = (way-past _ (nearest x y p p₁ q q₁) _ .0, way-past _ (nearest y x p₁ p q₁ q) _ .1)
 
 -- ---- the three ways of a triangle
-module _ (a b c p q L : Float) (ga : T (fits binary64 a)) (gb : T (fits binary64 b)) (gc : T (fits binary64 c)) (gp : T (fits binary64 p)) (f : Fine a b c p q) where
+module _ (a b c p q L : Float) (ga : T (fits binary64 a)) (gb : T (fits binary64 b)) (gc : T (fits binary64 c)) (gp : T (fits binary64 p))
+    (f : Fine a b c p q) where
   abbrev H : Float
   H = highestOn a b c
 
@@ -371,7 +372,8 @@ module _ (a b c p q L : Float) (ga : T (fits binary64 a)) (gb : T (fits binary64
     all-under : (u v : Float) → T (fits binary64 u) → T (finite (at u v f1)) → T (le (highOn u v) H) → Beyond p q L u × WayBeyond p q L u v
     all-under u v g E h = (
       under u (fa u v g E) (le-trans u (highOn u v) H (starts-under u v g E) h),
-      λ s l r. under (at u v s) (way-fine u v g E s (from-none s l) (to-one s r)) (le-trans (at u v s) (highOn u v) H (way-under u v g E s (from-none s l) (to-one s r)) h),
+      λ s l r. under (at u v s) (way-fine u v g E s (from-none s l) (to-one s r))
+          (le-trans (at u v s) (highOn u v) H (way-under u v g E s (from-none s l) (to-one s r)) h),
     )
 
     pub lies-below : Apart a b c p q L
@@ -395,7 +397,8 @@ module _ (a b c p q L : Float) (ga : T (fits binary64 a)) (gb : T (fits binary64
     all-above : (u v : Float) → T (fits binary64 u) → T (finite (at u v f1)) → T (le W (lowOn u v)) → Beyond p q L u × WayBeyond p q L u v
     all-above u v g E h = (
       above u (fa u v g E) (le-trans W (lowOn u v) u h (starts-over u v g E)),
-      λ s l r. above (at u v s) (way-fine u v g E s (from-none s l) (to-one s r)) (le-trans W (lowOn u v) (at u v s) h (way-over u v g E s (from-none s l) (to-one s r))),
+      λ s l r. above (at u v s) (way-fine u v g E s (from-none s l) (to-one s r))
+          (le-trans W (lowOn u v) (at u v s) h (way-over u v g E s (from-none s l) (to-one s r))),
     )
 
     pub lies-over : Apart a b c p q L

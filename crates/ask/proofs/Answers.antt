@@ -29,7 +29,8 @@ use Rattle.query.proofs.Patches.{patch-inside}
 use Rattle.query.specs.Looked.{within}
 use Rattle.query.proofs.Using.{walkable, usable-head}
 use Rattle.query.proofs.Passing.{sound-boxed, sound-marked, sound-usable}
-use Rattle.ask.specs.Ask.{atFloor, refusalOf, begun, ended, refusedBy, answeredBy, answerOf, askedHeight, refusedChord, blockedEarly, ruledBy, rulingOf, askedChord}
+use Rattle.ask.specs.Ask.{atFloor, refusalOf, begun, ended, refusedBy, answeredBy, answerOf, askedHeight}
+use Rattle.ask.specs.Ask.{refusedChord, blockedEarly, ruledBy, rulingOf, askedChord}
 use Rattle.ask.specs.Demand.{GoodQuestion}
 use Rattle.ask.specs.declared.Finding.{Finding}
 use Rattle.ask.specs.declared.Finding.the-variants.{Clear, Blocked}
@@ -66,7 +67,8 @@ module _ (numbers tool : Bool) (ix : Index) (marks : List ℕ) (stamp : ℕ) (p 
       record { marked = m; five = boxed-is (ix .mesh) (ix .boxes) marks m (d .0); index-stands = demanded (usable ix marks stamp p) 7 _ (lit< tt) (c .1) .0 }
 
   -- a good question over a sound index is not
-  pub good-passes : SoundIndex ix → GoodQuestion numbers tool ix marks stamp → p .x1 ≤ ix .header .columns → p .y1 ≤ ix .header .rows → refusalOf numbers tool ix marks stamp p ≡ 0
+  pub good-passes : SoundIndex ix → GoodQuestion numbers tool ix marks stamp → p .x1 ≤ ix .header .columns → p .y1 ≤ ix .header .rows
+      → refusalOf numbers tool ix marks stamp p ≡ 0
   unfolding refusalOf
   good-passes d g right top =
       sym (demand-next _ _ _ _ (sound-marked ix d marks stamp (g .marked) (g .low))
@@ -82,14 +84,20 @@ inside h px py qx qy reach p e = rw e (patch-inside h px py qx qy reach)
 -- n is the refusal that the code found
 module _ (numbers tool : Bool) (ix : Index) (marks : List ℕ) (stamp : ℕ) (p : Patch) (n : ℕ) (e : n ≡ refusalOf numbers tool ix marks stamp p) where
   -- where the walk of an accepted question begins, with the marks m
-  pub ready : {A : Type 0} (next : ℕ) (m : List ℕ) (v : A) → n ≡ 0 → m ≡ readyMarks marks stamp → (p .x1 ≤ ix .header .columns) × (p .y1 ≤ ix .header .rows) → (length (ix .mesh) ≡ length m * 9) × Walkable (ix .starts) (ix .members) (length m) (ix .header .columns) (p .x0) (p .x1) (p .y0) (p .y1) × Room next (record { marks = m; count = 0; value = v }) × (length (ix .boxes) ≡ length m * 5)
+  pub ready : {A : Type 0} (next : ℕ) (m : List ℕ) (v : A) → n ≡ 0 → m ≡ readyMarks marks stamp → (p .x1 ≤ ix .header .columns) × (p .y1 ≤ ix .header .rows)
+      → (length (ix .mesh) ≡ length m * 9) × Walkable (ix .starts) (ix .members) (length m) (ix .header .columns) (p .x0) (p .x1) (p .y0) (p .y1)
+      × Room next (record { marks = m; count = 0; value = v }) × (length (ix .boxes) ≡ length m * 5)
   ready next m v z f i =
       let a = passed _ _ _ _ _ _ (sym e ∙ z) in
       let k = a .marked in
       let l : length m ≡ length marks = ap length f ∙ ready-length marks stamp in
       let d : length (ix .mesh) ≡ ix .header .n * 9 = usable-head ix marks stamp p (a .index-stands) .nine in
-      let s : length m ≡ ix .header .n = omega (arith, k .nine) in
-      (omega (arith, k .nine), rw s (walkable ix marks stamp p (a .index-stands) (i .0) (i .1)), omega (arith, unmarked-length next m, k .few), omega (arith, a .five))
+      let s : length m ≡ ix .header .n = omega (arith, k .nine) in (
+        omega (arith, k .nine),
+        rw s (walkable ix marks stamp p (a .index-stands) (i .0) (i .1)),
+        omega (arith, unmarked-length next m, k .few),
+        omega (arith, a .five),
+      )
 
   -- ---- a height question
   module _ (step : Best → ℕ → Best) where
@@ -97,7 +105,9 @@ module _ (numbers tool : Bool) (ix : Index) (marks : List ℕ) (stamp : ℕ) (p 
     unfolding askedHeight answerOf
     height-refused z = left _ _ _ _ (ne-eqb _ 0 (λ k. z (e ∙ k))) (ap (λ (j : ℕ). ended (refusedBy j stamp) marks) e)
 
-    pub height-answered : (next : ℕ) (m m′ : List ℕ) (s : Seen) → n ≡ 0 → next ≡ nextStamp stamp → m ≡ readyMarks marks stamp → seen m′ s ≡ fold (look next step) (seen m (record { count = 0; best = atFloor (ix .header .floor) })) (within ix p) → ended (answeredBy (seen m′ s) next) m′ ≡ askedHeight numbers tool step ix marks stamp p
+    pub height-answered : (next : ℕ) (m m′ : List ℕ) (s : Seen) → n ≡ 0 → next ≡ nextStamp stamp → m ≡ readyMarks marks stamp
+        → seen m′ s ≡ fold (look next step) (seen m (record { count = 0; best = atFloor (ix .header .floor) })) (within ix p)
+        → ended (answeredBy (seen m′ s) next) m′ ≡ askedHeight numbers tool step ix marks stamp p
     unfolding askedHeight answerOf
     height-answered next m m′ s z f g w =
         let v : Walk Best = walked (nextStamp stamp) step (begun marks stamp (atFloor (ix .header .floor))) (within ix p) in
@@ -115,7 +125,9 @@ module _ (numbers tool : Bool) (ix : Index) (marks : List ℕ) (stamp : ℕ) (p 
     unfolding askedChord rulingOf
     chord-early z b = taken _ _ _ _ (eq-eqb _ 0 (sym e ∙ z)) (taken _ _ _ _ b refl)
 
-    pub chord-ruled : (next : ℕ) (m m′ : List ℕ) (v : Verdict) (f : Finding) → n ≡ 0 → early ≡ false → next ≡ nextStamp stamp → m ≡ readyMarks marks stamp → judged m′ v ≡ fold (strike next blocks) (judged m (record { count = 0; clear = true })) (within ix p) → f ≡ cond (v .clear) Clear Blocked → ended (record { refusal = 0; finding = f; count = v .count; stamp = next }) m′ ≡ askedChord numbers tool early blocks ix marks stamp p
+    pub chord-ruled : (next : ℕ) (m m′ : List ℕ) (v : Verdict) (f : Finding) → n ≡ 0 → early ≡ false → next ≡ nextStamp stamp → m ≡ readyMarks marks stamp
+        → judged m′ v ≡ fold (strike next blocks) (judged m (record { count = 0; clear = true })) (within ix p) → f ≡ cond (v .clear) Clear Blocked
+        → ended (record { refusal = 0; finding = f; count = v .count; stamp = next }) m′ ≡ askedChord numbers tool early blocks ix marks stamp p
     unfolding askedChord rulingOf
     chord-ruled next m m′ v f z b g k w r =
         let u : Walk Bool = chased (nextStamp stamp) blocks (begun marks stamp true) (within ix p) in
@@ -127,5 +139,6 @@ module _ (numbers tool : Bool) (ix : Index) (marks : List ℕ) (stamp : ℕ) (p 
         ∙ ap (λ (x : ℕ). ended (ruledBy u x) (u .marks)) g))
 
 -- what the step over one cell keeps
-pub cell-keeps : (stamp : ℕ) (step : Best → ℕ → Best) (ms : List ℕ) {w w′ : Walk Best} → w′ ≡ fold (look stamp step) w ms → Below (length (w .marks)) ms → Kept stamp w w′
+pub cell-keeps : (stamp : ℕ) (step : Best → ℕ → Best) (ms : List ℕ) {w w′ : Walk Best} → w′ ≡ fold (look stamp step) w ms
+    → Below (length (w .marks)) ms → Kept stamp w w′
 cell-keeps stamp step ms {w} e b = rw e (fold-keeps stamp (look stamp step) (look-keeps stamp step) ms w b)

@@ -23,7 +23,8 @@ use Rattle.ask.specs.Ask.{refusalOf, atFloor, begun, Outcome, ended, ref
 use Rattle.ask.specs.Demand.{GoodAccepted, LookedAll, HeightPromise}
 use Rattle.ask.proofs.Answers.{passed, good-passes}
 
-module _ (numbers tool : Bool) (ix : Index) (marks : List ℕ) (stamp : ℕ) (p : Patch) (right : p .x1 ≤ ix .header .columns) (top : p .y1 ≤ ix .header .rows) where
+module _ (numbers tool : Bool) (ix : Index) (marks : List ℕ) (stamp : ℕ) (p : Patch) (right : p .x1 ≤ ix .header .columns)
+    (top : p .y1 ≤ ix .header .rows) where
   abbrev refusal : ℕ
   refusal = refusalOf numbers tool ix marks stamp p
 
@@ -49,7 +50,8 @@ module _ (numbers tool : Bool) (ix : Index) (marks : List ℕ) (stamp : ℕ) (p 
     unfolding askedHeight answerOf
     height-refusal =
         by-test (eqb refusal 0)
-        (λ t. let f : ended a m ≡ ended (answeredBy found (nextStamp stamp)) (found .marks) = rw t at e in ap (λ (o : Outcome Answer). o .answer .refusal) f ∙ sym (eqb-true _ _ t))
+        (λ t. let f : ended a m ≡ ended (answeredBy found (nextStamp stamp)) (found .marks) = rw t at e in
+        ap (λ (o : Outcome Answer). o .answer .refusal) f ∙ sym (eqb-true _ _ t))
         (λ t. let f : ended a m ≡ ended (refusedBy refusal stamp) marks = rw t at e in ap (λ (o : Outcome Answer). o .answer .refusal) f)
 
     pub height-walked : a .refusal ≡ 0 → (refusal ≡ 0) × (ended a m ≡ ended (answeredBy found (nextStamp stamp)) (found .marks))
@@ -77,5 +79,6 @@ module _ (numbers tool : Bool) (ix : Index) (marks : List ℕ) (stamp : ℕ) (px
     pub height-demand : ended c m ≡ askedHeight numbers tool step ix marks stamp cells → HeightPromise numbers tool ix marks stamp cells c
     height-demand e = let i = patch-inside (ix .header) px py qx qy reach in height-promise numbers tool ix marks stamp cells (i .0) (i .1) step c m e
 
-    pub height-told : (p : Patch) (a b : Bool) → p ≡ cells → a ≡ numbers → b ≡ tool → ended c m ≡ askedHeight a b step ix marks stamp p → (ended c m ≡ askedHeight numbers tool step ix marks stamp cells) × HeightPromise numbers tool ix marks stamp cells c
+    pub height-told : (p : Patch) (a b : Bool) → p ≡ cells → a ≡ numbers → b ≡ tool → ended c m ≡ askedHeight a b step ix marks stamp p
+        → (ended c m ≡ askedHeight numbers tool step ix marks stamp cells) × HeightPromise numbers tool ix marks stamp cells c
     height-told p a b e f g i = let o = rw (e, f, g) at i in (o, height-demand o)

@@ -17,7 +17,8 @@ use Rattle.order.proofs.Order.{O, le-trans, add-right, mul-up, mul-down, no-low
 use Rattle.bound.proofs.Unit.{I, Unit, unit-finite}
 
 -- ---- the number nearest to 0, by counts of smallest f64s
-pub nearest-count : (low high x : Float) → T (finite low) → T (finite high) → T (finite x) → T (le low x) → T (le x high) → countOf (nearerOf low high) ≤ countOf x
+pub nearest-count : (low high x : Float) → T (finite low) → T (finite high) → T (finite x) → T (le low x) → T (le x high)
+    → countOf (nearerOf low high) ≤ countOf x
 unfolding nearerOf
 nearest-count low high x p q r h k =
     by-test (lt f0 low)
@@ -97,7 +98,8 @@ module _ (p q : Float) (P : T (finite p)) (Q : T (finite q)) where
   nearest-below s b = nearest-count (minOf p q) (maxOf p q) s low-fine high-fine (b .fine) (b .low) (b .high)
 
 -- from lo to hi
-module _ (a b lo hi t : Float) (fl : T (finite lo)) (fh : T (finite hi)) (ft : T (finite t)) (l : T (le lo t)) (h : T (le t hi)) (P : T (finite (at a b lo))) (Q : T (finite (at a b hi))) where
+module _ (a b lo hi t : Float) (fl : T (finite lo)) (fh : T (finite hi)) (ft : T (finite t)) (l : T (le lo t)) (h : T (le t hi)) (P : T (finite (at a b lo)))
+    (Q : T (finite (at a b hi))) where
   fa : T (finite a)
   fa = add-parts a (lo ⊗ (b ⊖ a)) P .0
 
@@ -137,7 +139,8 @@ module _ (a b lo hi t : Float) (fl : T (finite lo)) (fh : T (finite hi)) (ft : T
       (λ k. let w = up-way (not-below e O fe tt k) in rising _ _ P Q _ (w .0) (w .1))
 
 -- the same as seen from x
-module _ (a b x lo hi t : Float) (fl : T (finite lo)) (fh : T (finite hi)) (ft : T (finite t)) (l : T (le lo t)) (h : T (le t hi)) (P : T (finite (at a b lo ⊖ x))) (Q : T (finite (at a b hi ⊖ x))) where
+module _ (a b x lo hi t : Float) (fl : T (finite lo)) (fh : T (finite hi)) (ft : T (finite t)) (l : T (le lo t)) (h : T (le t hi))
+    (P : T (finite (at a b lo ⊖ x))) (Q : T (finite (at a b hi ⊖ x))) where
   p₀ : T (finite (at a b lo))
   p₀ = sub-parts (at a b lo) x P .0
 
@@ -153,10 +156,12 @@ module _ (a b x lo hi t : Float) (fl : T (finite lo)) (fh : T (finite hi)) (ft :
       by-test (lt (b ⊖ a) O)
       (λ k.
       let w = down-way a b lo hi t fl fh ft l h p₀ q₀ (lt-le (b ⊖ a) O k) in
-      falling _ _ P Q _ (sub-mono binary64 (at a b hi) (at a b t) x q₀ (b₀ .fine) fx (w .0)) (sub-mono binary64 (at a b t) (at a b lo) x (b₀ .fine) p₀ fx (w .1)))
+      falling _ _ P Q _ (sub-mono binary64 (at a b hi) (at a b t) x q₀ (b₀ .fine) fx (w .0))
+      (sub-mono binary64 (at a b t) (at a b lo) x (b₀ .fine) p₀ fx (w .1)))
       (λ k.
       let w = up-way a b lo hi t fl fh ft l h p₀ q₀ (not-below (b ⊖ a) O (fe a b lo hi t fl fh ft l h p₀ q₀) tt k) in
-      rising _ _ P Q _ (sub-mono binary64 (at a b lo) (at a b t) x p₀ (b₀ .fine) fx (w .0)) (sub-mono binary64 (at a b t) (at a b hi) x (b₀ .fine) q₀ fx (w .1)))
+      rising _ _ P Q _ (sub-mono binary64 (at a b lo) (at a b t) x p₀ (b₀ .fine) fx (w .0))
+      (sub-mono binary64 (at a b t) (at a b hi) x (b₀ .fine) q₀ fx (w .1)))
 
 -- from 0 to 1
 pub along-between : (a b t : Float) → Unit t → T (finite (at a b O)) → T (finite (at a b I)) → Between (at a b O) (at a b I) (at a b t)

@@ -50,7 +50,8 @@ small-radius r e = let c = radius r e in (rw f0-is at (c .low), rw million-is at
 
 pub small-sub : (x y : Float) → Small x → Small y → T (finite (x ⊖ y))
 small-sub x y s t =
-    extent-finite x y (record { low = rw minus-million-is (s .low); high = rw million-is (s .high) }) (record { low = rw minus-million-is (t .low); high = rw million-is (t .high) })
+    extent-finite x y (record { low = rw minus-million-is (s .low); high = rw million-is (s .high) })
+    (record { low = rw minus-million-is (t .low); high = rw million-is (t .high) })
 
 pub small-range : (x y : Float) → Small x → Small y → T (le minus-two (x ⊖ y)) × T (le (x ⊖ y) two)
 small-range x y s t =
@@ -60,7 +61,11 @@ small-range x y s t =
 
 pub small-between : (p q s : Float) → Small p → Small q → Between p q s → Small s
 small-between p q s a b h =
-    record { low = le-trans M′ (minOf p q) s (min-either (λ v. T (le M′ v)) p q (a .low) (b .low)) (h .low); high = le-trans s (maxOf p q) M (h .high) (either-of (λ v. T (le v M)) p q (a .high) (b .high)) }
+    record {
+      low = le-trans M′ (minOf p q) s (min-either (λ v. T (le M′ v)) p q (a .low) (b .low)) (h .low);
+      high =
+          le-trans s (maxOf p q) M (h .high) (either-of (λ v. T (le v M)) p q (a .high) (b .high));
+    }
 
 -- ---- squares
 zero-square : O ⊗ O ≡ O

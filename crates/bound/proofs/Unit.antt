@@ -3,7 +3,8 @@ use mathlib.Core.Bool.{true, false}
 use mathlib.Core.Logic.{inl}
 use mathlib.Core.Path.{_≡_, refl, ap, sym, _∙_}
 use Prim.Native.Nat.{ℕ, _+_, _-_, _*_, _/_, _^_, _≤_, _<_}
-use native.Mathlib.Nat.{mul-sub, mul-right-comm, zero-mul, mul-zero, mul-one, one-mul, mul-comm, mul-assoc, mul-left-comm, add-mul, mul-add, mul-pos, mul-le-mul-right, div-add-mod', mod-lt, lt-of-mul-lt-mul-right, lt-of-lt-of-le}
+use native.Mathlib.Nat.{mul-sub, mul-right-comm, zero-mul, mul-zero, mul-one, one-mul, mul-comm, mul-assoc, mul-left-comm, add-mul}
+use native.Mathlib.Nat.{mul-add, mul-pos, mul-le-mul-right, div-add-mod', mod-lt, lt-of-mul-lt-mul-right, lt-of-lt-of-le}
 use native.Mathlib.Omega.{arith}
 use borrow.Author.Tests.{ltb-true, ltb-false}
 use lib.Dec.{T, ltb}
@@ -21,7 +22,8 @@ use Rattle.order.proofs.Signed as signed
 use Rattle.order.proofs.Signed.{le→parts, Is, rounded, is-le, is-sub, round-neg}
 use Rattle.order.proofs.Ranges.{finite-between, sub-mono, zero-is}
 use Rattle.rules.proofs.Branches.{by-test}
-use Rattle.order.proofs.Order.{O, le-trans, neg-finite, neg-upper, neg-turns, sub-turns, add-is, add-right, is-mul, mul-up, mul-swap, no-lower, no-upper, own, up-is, down-is}
+use Rattle.order.proofs.Order.{O, le-trans, neg-finite, neg-upper, neg-turns, sub-turns, add-is, add-right}
+use Rattle.order.proofs.Order.{is-mul, mul-up, mul-swap, no-lower, no-upper, own, up-is, down-is}
 
 -- 1, and phi
 abbrev pub I : Float
@@ -46,12 +48,14 @@ unit-finite t u = finite-between O t I tt tt (u .low) (u .high)
 shrink : (u l d N D : ℕ) → l ≡ 0 → N ≤ D → (u * N + l * 0) * d + l * (d * D) ≤ u * (d * D) + (u * 0 + l * N) * d
 shrink u l d N D e h =
     let k = mul-le-mul-right (u * d) h in
-    rw e (simp (add-mul, mul-add, mul-assoc, mul-comm, mul-left-comm, zero-mul, mul-zero) (omega (arith, simp (add-mul, mul-add, mul-assoc, mul-comm, mul-left-comm) at k)))
+    rw e (simp (add-mul, mul-add, mul-assoc, mul-comm, mul-left-comm, zero-mul, mul-zero)
+    (omega (arith, simp (add-mul, mul-add, mul-assoc, mul-comm, mul-left-comm) at k)))
 
 grow : (u l d N D : ℕ) → u ≡ 0 → N ≤ D → u * (d * D) + (u * 0 + l * N) * d ≤ (u * N + l * 0) * d + l * (d * D)
 grow u l d N D e h =
     let k = mul-le-mul-right (l * d) h in
-    rw e (simp (add-mul, mul-add, mul-assoc, mul-comm, mul-left-comm, zero-mul, mul-zero) (omega (arith, simp (add-mul, mul-add, mul-assoc, mul-comm, mul-left-comm) at k)))
+    rw e (simp (add-mul, mul-add, mul-assoc, mul-comm, mul-left-comm, zero-mul, mul-zero)
+    (omega (arith, simp (add-mul, mul-add, mul-assoc, mul-comm, mul-left-comm) at k)))
 
 module _ (w : Float) (g : T (fits binary64 w)) (p : T (finite w)) where
   pub less-up : T (le O w) → T (le (w ⊗ Φ) w)
@@ -88,7 +92,8 @@ exact q h =
     by-test (ltb q (2 ^ 53))
     (λ e.
     let l = ltb-true q (2 ^ 53) e in
-    round-exact binary64 false q (2 ^ 53) q 1021 (pow-pos 53) l (lt-of-lt-of-le (shl-lt 53 1021 l) (pow-mono {i = 1074} {j = 2098} (omega arith))) (sym (mul-assoc q (2 ^ 1021) (2 ^ 53))))
+    round-exact binary64 false q (2 ^ 53) q 1021 (pow-pos 53) l (lt-of-lt-of-le (shl-lt 53 1021 l) (pow-mono {i = 1074} {j = 2098} (omega arith)))
+    (sym (mul-assoc q (2 ^ 1021) (2 ^ 53))))
     (λ e. let l : q ≡ 2 ^ 53 = omega (arith, ltb-false q (2 ^ 53) e) in rw l (unfold round in (refl, refl)))
 
 value-parts : (R : Float) (q c : ℕ) → HasValue R false q c → T (finite R) × (signed.lower R ≡ 0) × (signed.upper R * c ≡ q * den R)
@@ -108,7 +113,8 @@ past : (ua la da uR lR dR q : ℕ) → la ≡ 0 → lR ≡ 0 → uR * 2 ^ 53 ≡
 past ua la da uR lR dR q e₁ e₂ v h k =
     let a : uR * da * 2 ^ 53 ≡ q * da * dR = mul-right-comm uR da (2 ^ 53) ∙ ap (λ (z : ℕ). z * da) v ∙ mul-right-comm q dR da in
     let b = mul-le-mul-right dR k in
-    let c : ((da - ua) * 2 ^ 53 + da) * dR ≡ (da - ua) * dR * 2 ^ 53 + da * dR = add-mul ((da - ua) * 2 ^ 53) da dR ∙ ap (λ (z : ℕ). z + da * dR) (mul-right-comm (da - ua) (2 ^ 53) dR) in
+    let c : ((da - ua) * 2 ^ 53 + da) * dR ≡ (da - ua) * dR * 2 ^ 53 + da * dR = add-mul ((da - ua) * 2 ^ 53) da dR
+    ∙ ap (λ (z : ℕ). z + da * dR) (mul-right-comm (da - ua) (2 ^ 53) dR) in
     let d = sub-mul da ua dR in
     let l = mul-le-mul-right dR h in
     omega (arith, zero-mul (da * dR), a, b, c, d, l)
@@ -138,13 +144,15 @@ module _ (a : Float) (u : Unit a) where
       let n = neg-upper R in
       rw (sym (add-is binary64 a R))
       (is-le binary64 _ _ _ _ _ _ _ _ (mul-pos (den-pos a) (den-pos (neg R))) (pow-pos 53)
-      (rw (n .0, n .1, n .2) (past (signed.upper a) (signed.lower a) (den a) (signed.upper R) (signed.lower R) (den R) q la (at-R .1) (at-R .2) under (ceil-below (den a - signed.upper a) (den a) (den-pos a))))
+      (rw (n .0, n .1, n .2) (past (signed.upper a) (signed.lower a) (den a) (signed.upper R) (signed.lower R) (den R) q la (at-R .1) (at-R .2) under
+      (ceil-below (den a - signed.upper a) (den a) (den-pos a))))
       (is-sub binary64 a (neg R) fa (neg-finite R (at-R .0))) one-is)
 
   -- so the two differences from 1 stay within it
   self : T (le O (a ⊖ a))
   self =
-      is-le binary64 _ _ _ _ _ _ _ _ (omega arith) (mul-pos (den-pos a) (den-pos a)) (omega (arith, zero-mul (den a * den a), mul-one (signed.upper a * den a + signed.lower a * den a)))
+      is-le binary64 _ _ _ _ _ _ _ _ (omega arith) (mul-pos (den-pos a) (den-pos a))
+      (omega (arith, zero-mul (den a * den a), mul-one (signed.upper a * den a + signed.lower a * den a)))
       zero-is (is-sub binary64 a a fa fa)
 
   rest-low : T (le O (I ⊖ a))
@@ -236,14 +244,16 @@ module _ (a b : Float) (u : Unit a) (v : Unit b) where
 
   y-high : T (le y (I ⊖ a))
   y-high =
-      le-trans y ((I ⊖ a) ⊗ Φ) (I ⊖ a) (mul-up w (I ⊖ a) Φ W (rest-finite a u) tt w-high refl) (less-up (I ⊖ a) (sub-fits binary64 I a) (rest-finite a u) (rest-low a u))
+      le-trans y ((I ⊖ a) ⊗ Φ) (I ⊖ a) (mul-up w (I ⊖ a) Φ W (rest-finite a u) tt w-high refl)
+      (less-up (I ⊖ a) (sub-fits binary64 I a) (rest-finite a u) (rest-low a u))
 
   Y : T (finite y)
   Y = finite-between (neg a) y (I ⊖ a) (neg-finite a A) (rest-finite a u) y-low y-high
 
   y-back : T (le (b ⊖ I) y)
   y-back =
-      le-trans (b ⊖ I) ((b ⊖ I) ⊗ Φ) y (less-down (b ⊖ I) (sub-fits binary64 b I) (back-finite b v) (back-high b v)) (mul-up (b ⊖ I) w Φ (back-finite b v) W tt back refl)
+      le-trans (b ⊖ I) ((b ⊖ I) ⊗ Φ) y (less-down (b ⊖ I) (sub-fits binary64 b I) (back-finite b v) (back-high b v))
+      (mul-up (b ⊖ I) w Φ (back-finite b v) W tt back refl)
 
   y-within : T (le y b)
   y-within = le-trans y (b ⊗ Φ) b (mul-up w b Φ W B tt within refl) (less-up b (v .fit) B (v .low))

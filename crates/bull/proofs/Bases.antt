@@ -20,7 +20,8 @@ use Rattle.plane.specs.Ranges.{isCoordinate, isRadius}
 use Rattle.order.proofs.Extremes.{min-either, min-first, min-second}
 use Rattle.order.proofs.Order.{O, le-trans}
 use Rattle.order.proofs.Roots.{root-finite, root-le}
-use Rattle.bound.proofs.Small.{M, Small, small, small-finite, small-up, small-radius, small-sub, square-small, square-limit, square-finite, square-nonneg, root-limit, small-distance}
+use Rattle.bound.proofs.Small.{M, Small, small, small-finite, small-up, small-radius, small-sub, square-small}
+use Rattle.bound.proofs.Small.{square-limit, square-finite, square-nonneg, root-limit, small-distance}
 use Rattle.caps.proofs.Drops.{drop-nan, drop-more}
 use Rattle.bull.specs.declared.Bull.{Bull}
 use Rattle.bull.specs.Bull.{bullProfile, bullOver, bullVertex}
@@ -36,7 +37,8 @@ pub base-none₂ : (k : Bull) → isRadius (k .rc) ≡ false → f0 ⊘ f0 ≡ b
 unfolding baseOf
 base-none₂ k e = by-test (isRadius (k .r)) (λ h. rw (h, e)) (λ h. rw h)
 
-pub base-there : (k : Bull) (p b : Float) → isRadius (k .r) ≡ true → isRadius (k .rc) ≡ true → p ≡ rootOf (k .rc ⊗ k .rc) → b ≡ minOf (k .rc ⊖ p) f0 → b ≡ baseOf k
+pub base-there : (k : Bull) (p b : Float) → isRadius (k .r) ≡ true → isRadius (k .rc) ≡ true → p ≡ rootOf (k .rc ⊗ k .rc)
+    → b ≡ minOf (k .rc ⊖ p) f0 → b ≡ baseOf k
 unfolding baseOf
 base-there k p b e h q m = rw (e, h, ← q) m
 
@@ -79,7 +81,8 @@ module _ (k : Bull) (v : Based k) where
   root-small : T (le (rootOf (k .rc ⊗ k .rc)) M)
   root-small =
       le-trans (rootOf (k .rc ⊗ k .rc)) (rootOf (M ⊗ M)) M
-      (root-le (k .rc ⊗ k .rc) (M ⊗ M) (mul-fits binary64 (k .rc) (k .rc)) (mul-fits binary64 M M) fcc square-limit (square-nonneg (k .rc) (small-finite (k .rc) sc)) (square-small (k .rc) sc)) root-limit
+      (root-le (k .rc ⊗ k .rc) (M ⊗ M) (mul-fits binary64 (k .rc) (k .rc)) (mul-fits binary64 M M) fcc square-limit
+      (square-nonneg (k .rc) (small-finite (k .rc) sc)) (square-small (k .rc) sc)) root-limit
 
   fp : T (finite p)
   fp = small-sub (k .rc) (rootOf (k .rc ⊗ k .rc)) sc (small-up (rootOf (k .rc ⊗ k .rc)) (root-fine .0) root-small)
@@ -111,7 +114,8 @@ module _ (k : Bull) (v : Based k) where
       ))
 
 -- ---- a vertex
-pub vertex-stays : (k : Bull) (base : Float) (n : ℕ) (x y z : Float) (c : Contact) → base ≡ baseOf k → lowVertex base z (x ⊖ k .x) (y ⊖ k .y) (limitOf c) ≡ true → c ≡ offerOf c (bullVertex k n x y z)
+pub vertex-stays : (k : Bull) (base : Float) (n : ℕ) (x y z : Float) (c : Contact) → base ≡ baseOf k → lowVertex base z (x ⊖ k .x) (y ⊖ k .y) (limitOf c) ≡ true
+    → c ≡ offerOf c (bullVertex k n x y z)
 unfolding lowVertex bullVertex bullOver offerOf
 vertex-stays k base n x y z c q h =
     let a = both-true (le (z ⊖ base) (limitOf c)) _ h in
@@ -123,5 +127,6 @@ vertex-stays k base n x y z c q h =
     either (λ w. c ≡ offerOf c w) (le d (k .r)) (Height (z ⊖ bullProfile d (k .r) (k .rc)) (corner n)) Nothing
     (λ e.
     let l = base-low k v d (s .0) (le-trans d (k .r) M (holds _ e) (v .r₁)) in
-    sym (stays-under c (z ⊖ bullProfile d (k .r) (k .rc)) (corner n) (drop-more z (baseOf k) (bullProfile d (k .r) (k .rc)) (limitOf c) (base-fine k v) (l .1) (l .0) g)))
+    sym (stays-under c (z ⊖ bullProfile d (k .r) (k .rc)) (corner n)
+    (drop-more z (baseOf k) (bullProfile d (k .r) (k .rc)) (limitOf c) (base-fine k v) (l .1) (l .0) g)))
     (λ e. refl)

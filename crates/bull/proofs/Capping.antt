@@ -1,5 +1,5 @@
--- No place of an edge from lo to hi gives a tip above the cap. So an edge whose cap is at most the best so far does not change it, and where the cap is at most the larger of the two
--- ends' values the search finds that.
+-- No place of an edge from lo to hi gives a tip above the cap. So an edge whose cap is at most the best so far does not change it, and where the cap is at most
+-- the larger of the two ends' values the search finds that.
 use mathlib.Core.Bool.{true, false}
 use mathlib.Core.Path.{_≡_, sym, subst}
 use Prim.Native.Nat.{ℕ}
@@ -38,7 +38,8 @@ unfolding ofBits div le lt eq
 none-le b h = no h
 
 -- ---- below the cap
-module _ (k : Bull) (v : Based k) (e : Edge) (lo hi : Float) (f : T (fits binary64 lo)) (g : T (fits binary64 hi)) (tame : tameOn e (k .x) (k .y) lo hi ≡ true) (t : Float) (i : In lo hi t) where
+module _ (k : Bull) (v : Based k) (e : Edge) (lo hi : Float) (f : T (fits binary64 lo)) (g : T (fits binary64 hi)) (tame : tameOn e (k .x) (k .y) lo hi ≡ true)
+    (t : Float) (i : In lo hi t) where
   abbrev high : Float
   high = highOn e lo hi
 
@@ -127,7 +128,8 @@ module _ (k : Bull) (e : Edge) (lo hi b : Float) (f : T (fits binary64 lo)) (g :
 
   pub largest-under : (n : ℕ) → le (goldenMax (bullAt k e) lo hi n) b ≡ true
   largest-under n =
-      is-true _ (le-trans _ (capOf k (baseOf k) e lo hi) b (largest-in (bullAt k e) lo hi (ordered .low) (ordered .high) (ordered .order) (λ w. T (le w (capOf k (baseOf k) e lo hi))) n capped) (holds _ h))
+      is-true _ (le-trans _ (capOf k (baseOf k) e lo hi) b
+      (largest-in (bullAt k e) lo hi (ordered .low) (ordered .high) (ordered .order) (λ w. T (le w (capOf k (baseOf k) e lo hi))) n capped) (holds _ h))
 
 -- ---- as the code has it
 module _ (k : Bull) (e : Edge) (cap lo hi : Float) (f : T (fits binary64 lo)) (g : T (fits binary64 hi)) (q : cap ≡ capOf k (baseOf k) e lo hi) where

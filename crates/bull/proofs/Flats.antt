@@ -26,7 +26,8 @@ use Rattle.bull.specs.Inside.{wayAt, FlatTo}
 
 self-high : (a : Float) → T (finite a) → T (le (a ⊖ a) O)
 self-high a p =
-    is-le binary64 _ _ _ _ _ _ _ _ (mul-pos (den-pos a) (den-pos a)) (omega arith) (omega (arith, zero-mul (den a * den a), mul-one (upper a * den a + lower a * den a)))
+    is-le binary64 _ _ _ _ _ _ _ _ (mul-pos (den-pos a) (den-pos a)) (omega arith)
+    (omega (arith, zero-mul (den a * den a), mul-one (upper a * den a + lower a * den a)))
     (is-sub binary64 a a p p) zero-is
 
 module _ (r w flat : Float) (a : isRadius r ≡ true) (b : isRadius w ≡ true) (n : Within w flat) (x y : Float) (h : le (x ⊗ x ⊕ y ⊗ y) flat ≡ true) where

@@ -1,4 +1,5 @@
--- The candidates of a cutter that go on from the floor: the edges that the floor leaves out are the same, since a best so far that is the floor does not raise the larger of the two.
+-- The candidates of a cutter that go on from the floor:
+-- the edges that the floor leaves out are the same, since a best so far that is the floor does not raise the larger of the two.
 use mathlib.Core.Bool.{true, false}
 use mathlib.Core.Path.{_≡_, refl, ap, sym, _∙_}
 use lib.Ieee.{Float, nan, inf, fin, lt, le, isNan, div, ofBits}
@@ -62,9 +63,11 @@ module _ (floor : Float) (s : Touch) (n : isNan floor ≡ false) where
   unfolding bullEdges
   edges-beside k t c =
       edge-beside k (bullEdge k floor (bullEdge k floor c (edgeAb t)) (edgeBc t)) (edgeCa t)
-      ∙ ap (λ d. bullEdge k floor d (edgeCa t)) (edge-beside k (bullEdge k floor c (edgeAb t)) (edgeBc t) ∙ ap (λ d. bullEdge k floor d (edgeBc t)) (edge-beside k c (edgeAb t)))
+      ∙ ap (λ d. bullEdge k floor d (edgeCa t)) (edge-beside k (bullEdge k floor c (edgeAb t)) (edgeBc t)
+      ∙ ap (λ d. bullEdge k floor d (edgeBc t)) (edge-beside k c (edgeAb t)))
 
-pub contact-beside : (t : Triangle) (k : Bull) (floor : Float) (c r : Contact) → isNan floor ≡ false → c ≡ soFar floor → r ≡ offerOf (bullEdges k floor t (offerOf c (bullVertices k t))) (bullFacet k t (facingOf t)) → r ≡ offerOf (soFar floor) (bullContactAbove t k floor)
+pub contact-beside : (t : Triangle) (k : Bull) (floor : Float) (c r : Contact) → isNan floor ≡ false → c ≡ soFar floor
+    → r ≡ offerOf (bullEdges k floor t (offerOf c (bullVertices k t))) (bullFacet k t (facingOf t)) → r ≡ offerOf (soFar floor) (bullContactAbove t k floor)
 unfolding bullContactAbove
 contact-beside t k floor c r n p q =
     let F = bullFacet k t (facingOf t) in

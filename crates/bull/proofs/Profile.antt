@@ -84,7 +84,8 @@ module _ (r rc : Float) (r₀ : T (le O r)) (r₁ : T (le r M)) (c₀ : T (le O 
     g-high : T (le g (M ⊗ M))
     g-high =
         le-trans g (cc₂ ⊖ O) (M ⊗ M) (sub-turns binary64 O (s ⊗ s) cc₂ tt fss fcc (square-nonneg s fs))
-        (le-trans (cc₂ ⊖ O) (M ⊗ M ⊖ O) (M ⊗ M) (sub-mono binary64 cc₂ (M ⊗ M) O fcc square-limit tt (square-small rc (small-up rc c₀ c₁))) (unfold sub add neg sum mul round le in tt))
+        (le-trans (cc₂ ⊖ O) (M ⊗ M ⊖ O) (M ⊗ M) (sub-mono binary64 cc₂ (M ⊗ M) O fcc square-limit tt (square-small rc (small-up rc c₀ c₁)))
+        (unfold sub add neg sum mul round le in tt))
 
     fg : T (finite g)
     fg =
@@ -159,7 +160,8 @@ module _ (r rc : Float) (r₀ : T (le O r)) (r₁ : T (le r M)) (c₀ : T (le O 
           (λ z. absurd (no (sym e ∙ is-true (le s f0) (le-trans s (d′ ⊖ w) f0 s-up (rw z tt)))))
           (λ z. z)
 
-module _ (r rc : Float) (r₀ : T (le O r)) (r₁ : T (le r M)) (c₀ : T (le O rc)) (c₁ : T (le rc M)) (d d′ : Float) (d₀ : T (le O d)) (d₁ : T (le d M)) (e : le (d ⊖ (r ⊖ rc)) f0 ≡ false) (d₁′ : T (le d′ M)) (k : T (le d d′)) where
+module _ (r rc : Float) (r₀ : T (le O r)) (r₁ : T (le r M)) (c₀ : T (le O rc)) (c₁ : T (le rc M)) (d d′ : Float) (d₀ : T (le O d)) (d₁ : T (le d M))
+    (e : le (d ⊖ (r ⊖ rc)) f0 ≡ false) (d₁′ : T (le d′ M)) (k : T (le d d′)) where
   e′ : le (d′ ⊖ (r ⊖ rc)) f0 ≡ false
   e′ = beyond r rc r₀ r₁ c₀ c₁ d d₀ d₁ e d′ d₁′ k
 

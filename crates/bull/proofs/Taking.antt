@@ -24,7 +24,8 @@ module _ (k : Bull) (e : Edge) (c : Contact) (s : Stretch) where
   unfolding offerOf bullStretch
   nowhere-on p = rw p
 
-  pub between-on : (r : Contact) (lo hi : Float) → s ≡ Between lo hi → r ≡ takeOf c (goldenMax (bullAt k e) lo hi 40) (edge (e .which)) → r ≡ offerOf c (bullStretch k e s)
+  pub between-on : (r : Contact) (lo hi : Float) → s ≡ Between lo hi → r ≡ takeOf c (goldenMax (bullAt k e) lo hi 40) (edge (e .which))
+      → r ≡ offerOf c (bullStretch k e s)
   unfolding offerOf bullStretch
   between-on r lo hi p q = rw p q
 
@@ -33,12 +34,14 @@ pub taken-at : (r c : Contact) (z w b : Float) (t : Touch) → b ≡ limitOf c �
 taken-at r c z w b t p q e = e ∙ q c t (sym p)
 
 -- an edge that is not too low
-pub edge-on : (k : Bull) (floor : Float) (c : Contact) (e : Edge) (s : Stretch) (r : Contact) → tooLow floor c e ≡ false → s ≡ reachedOf e (k .x) (k .y) (k .r) → r ≡ offerOf c (bullStretch k e s) → r ≡ bullEdge k floor c e
+pub edge-on : (k : Bull) (floor : Float) (c : Contact) (e : Edge) (s : Stretch) (r : Contact) → tooLow floor c e ≡ false → s ≡ reachedOf e (k .x) (k .y) (k .r)
+    → r ≡ offerOf c (bullStretch k e s) → r ≡ bullEdge k floor c e
 unfolding bullEdge
 edge-on k floor c e s r h p q = left _ _ _ _ h (rw p at q)
 
 -- a search along an edge's way is one along the edge
-pub along-way : (k : Bull) (e : Edge) (w : Way) (b lo hi r : Float) → w ≡ wayOf e → Alike b r (goldenMax (wayAt k w) lo hi 40) → Alike b r (goldenMax (bullAt k e) lo hi 40)
+pub along-way : (k : Bull) (e : Edge) (w : Way) (b lo hi r : Float) → w ≡ wayOf e → Alike b r (goldenMax (wayAt k w) lo hi 40)
+    → Alike b r (goldenMax (bullAt k e) lo hi 40)
 unfolding wayAt bullAt distanceAt
 along-way k e w b lo hi r p q = rw p at q
 

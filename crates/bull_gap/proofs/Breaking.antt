@@ -31,14 +31,17 @@ module _ (t : Triangle) (m : Chord) (r rc lo hi : Float) (g₁ : T (fits binary6
       let o = ordered lo hi g₁ g₂ (p .0) in
       sym (largest-in (bullGap t m r rc) lo hi (o .low) (o .high) (o .order) (λ z. lt f0 z ≡ false) 40 (λ s i. on-part lo hi (p .1) s (i .low) (i .high)))
 
-  module _ (low high : Float) (asked : (low ≡ bullGap t m r rc lo) × (high ≡ bullGap t m r rc hi) × (lt f0 (maxOf low high) ≡ false)) (n : ℕ) (g : Golden) (below : n ≤ 40) (here : g ≡ goldenAt rises (bullGap t m r rc) lo hi n) where
+  module _ (low high : Float) (asked : (low ≡ bullGap t m r rc lo) × (high ≡ bullGap t m r rc hi) × (lt f0 (maxOf low high) ≡ false)) (n : ℕ) (g : Golden)
+      (below : n ≤ 40) (here : g ≡ goldenAt rises (bullGap t m r rc) lo hi n) where
     ends : lt f0 (maxOf (bullGap t m r rc lo) (bullGap t m r rc hi)) ≡ false
     ends = ap (lt f0) (ap (λ (z : Float). maxOf z (bullGap t m r rc hi)) (sym (asked .0)) ∙ ap (maxOf low) (sym (asked .1))) ∙ asked .2
 
-    pub breaks-off : InnerOf g × (inOrder (g .a) (g .b) ≡ true) × (passesOf t m r rc (g .a) (g .b) ≡ true) → false ≡ lt f0 (goldenMax (bullGap t m r rc) lo hi 40)
+    pub breaks-off : InnerOf g × (inOrder (g .a) (g .b) ≡ true) × (passesOf t m r rc (g .a) (g .b) ≡ true)
+        → false ≡ lt f0 (goldenMax (bullGap t m r rc) lo hi 40)
     breaks-off q =
         let i = q .0 in
-        sym (narrow-in (bullGap t m r rc) lo hi n 40 g below here i (ordered (g .a) (g .b) (i .fit-a) (i .fit-b) (q .1)) (λ z. lt f0 z ≡ false) ends (λ s j. on-part (g .a) (g .b) (q .2) s (j .low) (j .high)))
+        sym (narrow-in (bullGap t m r rc) lo hi n 40 g below here i (ordered (g .a) (g .b) (i .fit-a) (i .fit-b) (q .1)) (λ z. lt f0 z ≡ false) ends
+        (λ s j. on-part (g .a) (g .b) (q .2) s (j .low) (j .high)))
 
     pub found : 40 ≤ n → (b : Float) → b ≡ bestOf low high (g .f1) (g .f2) → lt f0 b ≡ lt f0 (goldenMax (bullGap t m r rc) lo hi 40)
     unfolding goldenMax

@@ -1,4 +1,5 @@
--- A block's height less the profile at its least distance from the strip is an upper bound of the tip's height over all that lies in it, wherever on the strip the axis stands.
+-- A block's height less the profile at its least distance from the strip is an upper bound
+-- of the tip's height over all that lies in it, wherever on the strip the axis stands.
 use mathlib.Core.Bool.{Bool, true, false, cond}
 use mathlib.Core.Path.{_≡_, refl, sym, _∙_}
 use native.Mathlib.Nat.{zero-mul, mul-one}
@@ -53,7 +54,8 @@ less-none a g p =
 
 pub itself : (a : Float) → T (finite a) → T (le O (a ⊖ a))
 itself a p =
-    is-le binary64 _ _ _ _ _ _ _ _ (omega arith) (mul-pos (den-pos a) (den-pos a)) (omega (arith, zero-mul (den a * den a), mul-one (upper a * den a + lower a * den a)))
+    is-le binary64 _ _ _ _ _ _ _ _ (omega arith) (mul-pos (den-pos a) (den-pos a))
+    (omega (arith, zero-mul (den a * den a), mul-one (upper a * den a + lower a * den a)))
     zero-is (is-sub binary64 a a p p)
 
 -- ---- the profile is not below 0
@@ -147,17 +149,20 @@ module _ (r rc : Float) (r₀ : T (le O r)) (r₁ : T (le r M)) (c₀ : T (le O 
     profile-low : T (le O (bullProfile d r rc)) × T (finite (bullProfile d r rc))
     profile-low =
         by-test (le s f0)
-        (λ e. let q : f0 ≡ bullProfile d r rc = unfold bullProfile in taken (le s f0) f0 f0 (rc ⊖ rootOf (maxOf (cc ⊖ s ⊗ s) f0)) e refl in rw (sym q, f0-is) (le-self O tt, tt))
+        (λ e. let q : f0 ≡ bullProfile d r rc = unfold bullProfile in taken (le s f0) f0 f0 (rc ⊖ rootOf (maxOf (cc ⊖ s ⊗ s) f0)) e refl in
+        rw (sym q, f0-is) (le-self O tt, tt))
         (λ e. let q : rc ⊖ rootOf (h e) ≡ bullProfile d r rc = unfold bullProfile in left (le s f0) (rc ⊖ rootOf (h e)) f0 (rc ⊖ rootOf (h e)) e refl in
         ((rw (sym q) (beyond-low e)), profile-finite r rc r₀ r₁ c₀ c₁ d d₀ d₁ e))
 
-  pub profile-rises : (d d′ : Float) → T (le O d) → T (le d d′) → T (le d′ M) → T (le (bullProfile d r rc) (bullProfile d′ r rc)) × T (finite (bullProfile d r rc)) × T (le O (bullProfile d′ r rc)) × T (finite (bullProfile d′ r rc))
+  pub profile-rises : (d d′ : Float) → T (le O d) → T (le d d′) → T (le d′ M) → T (le (bullProfile d r rc) (bullProfile d′ r rc))
+      × T (finite (bullProfile d r rc)) × T (le O (bullProfile d′ r rc)) × T (finite (bullProfile d′ r rc))
   profile-rises d d′ a b c =
       let d₁ = le-trans d d′ M b c in
       let low = profile-low d a d₁ in
       let high = profile-low d′ (le-trans O d d′ a b) c in (
         by-test (le (d ⊖ (r ⊖ rc)) f0)
-            (λ e. let q : f0 ≡ bullProfile d r rc = unfold bullProfile in taken (le (d ⊖ (r ⊖ rc)) f0) f0 f0 (rc ⊖ rootOf (maxOf (cc ⊖ (d ⊖ (r ⊖ rc)) ⊗ (d ⊖ (r ⊖ rc))) f0)) e refl in rw (sym q, f0-is) (high .0))
+            (λ e. let q : f0 ≡ bullProfile d r rc = unfold bullProfile in
+            taken (le (d ⊖ (r ⊖ rc)) f0) f0 f0 (rc ⊖ rootOf (maxOf (cc ⊖ (d ⊖ (r ⊖ rc)) ⊗ (d ⊖ (r ⊖ rc))) f0)) e refl in rw (sym q, f0-is) (high .0))
             (λ e. profile-up r rc r₀ r₁ c₀ c₁ d d′ a d₁ e c b),
         low .1,
         high .0,
@@ -195,7 +200,8 @@ module _ (low high a b p x : Float) (e : sideTame low high a b ≡ true) (lp : T
       (λ q. either (λ v. T (finite v)) (lt (high ⊖ a) f0) (high ⊖ a) f0 (λ g. small-finite _ (parts .1)) (λ g. tt))
 
   nearer-count : countOf (nearerOf (low ⊖ b) (high ⊖ a)) ≤ countOf (p ⊖ x)
-  nearer-count = nearest-count (low ⊖ b) (high ⊖ a) (p ⊖ x) (small-finite _ (parts .0)) (small-finite _ (parts .1)) (small-finite _ there) (bounds .0) (bounds .1)
+  nearer-count = nearest-count (low ⊖ b) (high ⊖ a) (p ⊖ x) (small-finite _ (parts .0)) (small-finite _ (parts .1))
+      (small-finite _ there) (bounds .0) (bounds .1)
 
 -- the axis stands on the strip
 pub record OnStrip (k : Strip) (x y : Float) : Type 0 where
@@ -213,8 +219,10 @@ pub record InBlock (b : Block) (px py pz : Float) : Type 0 where
   pub under : T (le pz (b .z))
   pub fine : T (finite pz)
 
-module _ (k : Strip) (b : Block) (cut : cutterFair (k .r) (k .rc) ≡ true) (u : underOf k b ≡ true) (x y px py pz : Float) (on : OnStrip k x y) (at : InBlock b px py pz) where
-  tame : (sideTame (b .«low_x») (b .«high_x») (k .«low_x») (k .«high_x») ≡ true) × (sideTame (b .«low_y») (b .«high_y») (k .«low_y») (k .«high_y») ≡ true) × (isCoordinate (b .z) ≡ true)
+module _ (k : Strip) (b : Block) (cut : cutterFair (k .r) (k .rc) ≡ true) (u : underOf k b ≡ true) (x y px py pz : Float) (on : OnStrip k x y)
+    (at : InBlock b px py pz) where
+  tame : (sideTame (b .«low_x») (b .«high_x») (k .«low_x») (k .«high_x») ≡ true) × (sideTame (b .«low_y») (b .«high_y») (k .«low_y») (k .«high_y») ≡ true)
+      × (isCoordinate (b .z) ≡ true)
   unfolding underOf tameOf
   tame = let p = both-true _ _ (chosen _ _ u .0) in let q = both-true _ _ (p .1) in (p .0, q .0, q .1)
 
@@ -280,7 +288,8 @@ module _ (k : Strip) (b : Block) (cut : cutterFair (k .r) (k .rc) ≡ true) (u :
   abbrev D : Float
   D = minOf far (k .r)
 
-  rises : T (le (bullProfile d (k .r) (k .rc)) (bullProfile D (k .r) (k .rc))) × T (finite (bullProfile d (k .r) (k .rc))) × T (le O (bullProfile D (k .r) (k .rc))) × T (finite (bullProfile D (k .r) (k .rc)))
+  rises : T (le (bullProfile d (k .r) (k .rc)) (bullProfile D (k .r) (k .rc))) × T (finite (bullProfile d (k .r) (k .rc)))
+      × T (le O (bullProfile D (k .r) (k .rc))) × T (finite (bullProfile D (k .r) (k .rc)))
   rises =
       profile-rises (k .r) (k .rc) (radii .0) (radii .1) (radii .2) (radii .3) (radii .4) d D
       (min-either (λ v. T (le O v)) (leastOf k b) (k .r) least-low (radii .0))

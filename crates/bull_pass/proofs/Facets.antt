@@ -55,7 +55,8 @@ sign-of : (x : Float) → T (finite x) → lt (absOf x) tiny ≡ false → T (po
 sign-of x p h = let f = abs-fine x p in by-sign x (above-finite tiny (absOf x) whole-positive (not-below (absOf x) tiny f tiny-fine h) f)
 
 -- ---- a weight over ranges
-module _ (k : Products) (det x y : Float) (fd : T (finite det)) (s : T (positive det) ⊎ T (positive (neg det))) (e : plainRange (weightOf k det) ≡ true) (X : Between (k .a) (k .b) x) (Y : Between (k .c) (k .d) y) where
+module _ (k : Products) (det x y : Float) (fd : T (finite det)) (s : T (positive det) ⊎ T (positive (neg det))) (e : plainRange (weightOf k det) ≡ true)
+    (X : Between (k .a) (k .b) x) (Y : Between (k .c) (k .d) y) where
   abbrev p : Float
   p = (minOf (k .a) (k .b) ⊖ maxOf (k .c) (k .d)) ⊘ det
 
@@ -106,7 +107,8 @@ inside-small v l e b =
     let s = least-small v e in
     record { low = le-trans _ (minOf (v .low) (v .high)) _ (s .0 .low) (b .low); high = le-trans _ (maxOf (v .low) (v .high)) _ (b .high) (s .1 .high) }
 
-module _ (v w : Range) (l m : Float) (ev : plainRange v ≡ true) (ew : plainRange w ≡ true) (A : Between (v .low) (v .high) l) (B : Between (w .low) (w .high) m) where
+module _ (v w : Range) (l m : Float) (ev : plainRange v ≡ true) (ew : plainRange w ≡ true) (A : Between (v .low) (v .high) l)
+    (B : Between (w .low) (w .high) m) where
   abbrev lv : Float
   lv = minOf (v .low) (v .high)
 
@@ -133,16 +135,20 @@ module _ (v w : Range) (l m : Float) (ev : plainRange v ≡ true) (ew : plainRan
       le-trans _ (f1 ⊖ lv ⊖ m) _ (sub-mono binary64 (f1 ⊖ l) (f1 ⊖ lv) m g h (B .fine) (sub-turns binary64 lv l f1 flv fl (small-finite f1 small-one) (A .low)))
       (sub-turns binary64 lw m (f1 ⊖ lv) flw (B .fine) h (B .low))
 
-  none-of : outsideOf (rangeOf (v .low) (v .high)) (rangeOf (w .low) (w .high)) ≡ true → (le minusSlack (f1 ⊖ l ⊖ m) && (le minusSlack l && le minusSlack m)) ≡ false
+  none-of : outsideOf (rangeOf (v .low) (v .high)) (rangeOf (w .low) (w .high)) ≡ true
+      → (le minusSlack (f1 ⊖ l ⊖ m) && (le minusSlack l && le minusSlack m)) ≡ false
   unfolding outsideOf rangeOf
   none-of e =
       by-test (lt (maxOf (v .low) (v .high)) minusSlack)
-      (λ p. off (le minusSlack (f1 ⊖ l ⊖ m)) (le minusSlack l && le minusSlack m) (off-left (le minusSlack l) (le minusSlack m) (below-all l _ minusSlack (A .high) p)))
+      (λ p. off (le minusSlack (f1 ⊖ l ⊖ m)) (le minusSlack l && le minusSlack m)
+      (off-left (le minusSlack l) (le minusSlack m) (below-all l _ minusSlack (A .high) p)))
       (λ p.
       let e₁ = next (lt (maxOf (v .low) (v .high)) minusSlack) (cond (lt (maxOf (w .low) (w .high)) minusSlack) true (lt (f1 ⊖ lv ⊖ lw) minusSlack)) e p in
       by-test (lt (maxOf (w .low) (w .high)) minusSlack)
-      (λ q. off (le minusSlack (f1 ⊖ l ⊖ m)) (le minusSlack l && le minusSlack m) (off (le minusSlack l) (le minusSlack m) (below-all m _ minusSlack (B .high) q)))
-      (λ q. off-left (le minusSlack (f1 ⊖ l ⊖ m)) (le minusSlack l && le minusSlack m) (below-all (f1 ⊖ l ⊖ m) _ minusSlack rest (next (lt (maxOf (w .low) (w .high)) minusSlack) (lt (f1 ⊖ lv ⊖ lw) minusSlack) e₁ q))))
+      (λ q. off (le minusSlack (f1 ⊖ l ⊖ m)) (le minusSlack l && le minusSlack m)
+      (off (le minusSlack l) (le minusSlack m) (below-all m _ minusSlack (B .high) q)))
+      (λ q. off-left (le minusSlack (f1 ⊖ l ⊖ m)) (le minusSlack l && le minusSlack m)
+      (below-all (f1 ⊖ l ⊖ m) _ minusSlack rest (next (lt (maxOf (w .low) (w .high)) minusSlack) (lt (f1 ⊖ lv ⊖ lw) minusSlack) e₁ q))))
 
 -- ---- the facet
 module _ (t : Triangle) (p q : Rest) (miss : missesOf t p q ≡ true) where
@@ -284,7 +290,8 @@ module _ (t : Triangle) (p q : Rest) (miss : missesOf t p q ≡ true) where
           (product-right dy gy ey bx fdy fgy fey (mul-parts bx dy (pw .0) .0) (ey-in .0) (ey-in .1) (pw .0) (pw .1))
           (product-left dx gx ex by fdx fgx fex (mul-parts dx by (pw .2) .1) (ex-in .0) (ex-in .1) (pw .2) (pw .3))
 
-      none : (drop : Float) → weighedOf t drop (record { u = f1 ⊖ (ex ⊗ cy ⊖ cx ⊗ ey) ⊘ det ⊖ (bx ⊗ ey ⊖ ex ⊗ by) ⊘ det; v = (ex ⊗ cy ⊖ cx ⊗ ey) ⊘ det; w = (bx ⊗ ey ⊖ ex ⊗ by) ⊘ det }) ≡ Nothing
+      none : (drop : Float) → weighedOf t drop
+          (record { u = f1 ⊖ (ex ⊗ cy ⊖ cx ⊗ ey) ⊘ det ⊖ (bx ⊗ ey ⊖ ex ⊗ by) ⊘ det; v = (ex ⊗ cy ⊖ cx ⊗ ey) ⊘ det; w = (bx ⊗ ey ⊖ ex ⊗ by) ⊘ det }) ≡ Nothing
       unfolding weighedOf atLeast
       none drop = rw (none-of rv rw′ _ _ (third .0) (third .1) lv-in lw-in (third .2))
 

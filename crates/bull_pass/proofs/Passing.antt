@@ -30,12 +30,14 @@ use Rattle.bound.proofs.Held.{max-under}
 use Rattle.bound.proofs.Along.{Between, sub-parts, add-parts}
 use Rattle.bound.proofs.Small.{small, small-finite}
 use Rattle.bull.specs.declared.Bull.{Bull}
-use Rattle.bull.specs.Bull.{bullProfile, bullOver, bullVertex, bullVertices, bullAt, bullStretch, tooLow, bullEdge, bullEdges, bullRest, bullFacet, bullContactAbove, bullContact}
+use Rattle.bull.specs.Bull.{bullProfile, bullOver, bullVertex, bullVertices, bullAt, bullStretch, tooLow}
+use Rattle.bull.specs.Bull.{bullEdge, bullEdges, bullRest, bullFacet, bullContactAbove, bullContact}
 use Rattle.reach.specs.declared.Chord.{Chord}
 use Rattle.reach.specs.Reach.{aboveOf, gapOf}
 use Rattle.bull_pass.specs.declared.Strip.{Strip}
 use Rattle.bull_pass.specs.declared.March.{March}
-use Rattle.bull_pass.specs.Inside.{stripOf, axisFair, tipKept, tipFair, cutterFair, fairOf, sideTame, tameOf, underOf, pointBlock, edgeBlock, cornersPass, edgeFair, pieceUnder, marchStep, marchRun, edgePasses, edgesPass, restsMiss, facetPasses, passesOf}
+use Rattle.bull_pass.specs.Inside.{stripOf, axisFair, tipKept, tipFair, cutterFair, fairOf, sideTame, tameOf, underOf, pointBlock, edgeBlock, cornersPass}
+use Rattle.bull_pass.specs.Inside.{edgeFair, pieceUnder, marchStep, marchRun, edgePasses, edgesPass, restsMiss, facetPasses, passesOf}
 use Rattle.bull_pass.proofs.Spread.{along-part, mul-parts}
 use Rattle.bull_pass.proofs.Marching.{step-under, step-over}
 use Rattle.bull_pass.proofs.Blocks.{chosen, OnStrip, InBlock, block-under}
@@ -79,7 +81,8 @@ not-less (fin s m e) (fin t n d) p q h = not-below (fin s m e) (fin t n d) tt tt
 -- ---- the gap of a low contact
 module _ (v h tip low : Float) (fh : T (finite h)) (ft : T (finite tip)) (fl : T (finite low)) (k : T (le low tip)) (e : T (le (h ⊖ low) f0)) where
   sink-fine : T (finite v) → T (le v h) → lt f0 (v ⊖ tip) ≡ false
-  sink-fine fv g = not-above _ f0 (le-trans (v ⊖ tip) (h ⊖ tip) f0 (sub-mono binary64 v h tip fv fh ft g) (le-trans (h ⊖ tip) (h ⊖ low) f0 (sub-turns binary64 low tip h fl ft fh k) e))
+  sink-fine fv g = not-above _ f0
+      (le-trans (v ⊖ tip) (h ⊖ tip) f0 (sub-mono binary64 v h tip fv fh ft g) (le-trans (h ⊖ tip) (h ⊖ low) f0 (sub-turns binary64 low tip h fl ft fh k) e))
 
   sink : T (le v h) → lt f0 (v ⊖ tip) ≡ false
   sink = go v h tip sink-fine fh ft
@@ -95,7 +98,8 @@ module _ (v h tip low : Float) (fh : T (finite h)) (ft : T (finite tip)) (fl : T
       go (fin s m e) h tip f p q g = f tt g
 
 -- the height z, not above h, lifted and seen from the tip
-gap-low : (z h lift tip low : Float) → T (finite h) → T (finite lift) → T (finite tip) → T (finite low) → T (finite (h ⊕ lift)) → T (le low tip) → T (le (h ⊕ lift ⊖ low) f0) → lt h z ≡ false → lt f0 (z ⊕ lift ⊖ tip) ≡ false
+gap-low : (z h lift tip low : Float) → T (finite h) → T (finite lift) → T (finite tip) → T (finite low) → T (finite (h ⊕ lift)) → T (le low tip)
+    → T (le (h ⊕ lift ⊖ low) f0) → lt h z ≡ false → lt f0 (z ⊕ lift ⊖ tip) ≡ false
 gap-low nan h lift tip low a b c d e p q l = unfold ofBits sub add lt in refl
 gap-low (inf s) nan lift tip low a b c d e p q l = absurd a
 gap-low (inf s) (inf t) lift tip low a b c d e p q l = absurd a
@@ -150,7 +154,8 @@ module _ (k : Strip) (cut : cutterFair (k .r) (k .rc) ≡ true) (x y : Float) (o
   corner-low n vx vy vz u =
       let d = hypotOf (vx ⊖ x) (vy ⊖ y) in
       either (Low (k .high)) (le d (k .r)) (Height (vz ⊖ bullProfile d (k .r) (k .rc)) _) Nothing
-      (λ e. not-above _ (k .high) (subst (λ (v : Float). T (le (vz ⊖ bullProfile v (k .r) (k .rc)) (k .high))) (min-is d (k .r) (holds _ e)) (block-under k (pointBlock vx vy vz) cut u x y vx vy vz on (point-in vx vy vz u))))
+      (λ e. not-above _ (k .high) (subst (λ (v : Float). T (le (vz ⊖ bullProfile v (k .r) (k .rc)) (k .high))) (min-is d (k .r) (holds _ e))
+      (block-under k (pointBlock vx vy vz) cut u x y vx vy vz on (point-in vx vy vz u))))
       (λ e. tt)
 
   none-low : Low (k .high) Nothing
@@ -170,7 +175,8 @@ module _ (k : Strip) (cut : cutterFair (k .r) (k .rc) ≡ true) (x y : Float) (o
 
   -- ---- edges
   module _ (e : Edge) where
-    edge-in : (lo hi t : Float) → edgeFair e lo hi ≡ true → T (le lo t) → T (le t hi) → InBlock (edgeBlock e lo hi) (along (e .ax) (e .bx) t) (along (e .ay) (e .by) t) (along (e .az) (e .bz) t)
+    edge-in : (lo hi t : Float) → edgeFair e lo hi ≡ true → T (le lo t) → T (le t hi)
+        → InBlock (edgeBlock e lo hi) (along (e .ax) (e .bx) t) (along (e .ay) (e .by) t) (along (e .az) (e .bz) t)
     unfolding edgeFair axisFair edgeBlock
     edge-in lo hi t f a b =
         let p = both-true _ _ f in
@@ -185,7 +191,8 @@ module _ (k : Strip) (cut : cutterFair (k .r) (k .rc) ≡ true) (x y : Float) (o
 
     lo-fine : (lo hi : Float) → edgeFair e lo hi ≡ true → T (finite lo)
     unfolding edgeFair axisFair
-    lo-fine lo hi f = let p = both-true _ _ (both-true _ _ f .0) in mul-parts lo (e .bx ⊖ e .ax) (add-parts (e .ax) (lo ⊗ (e .bx ⊖ e .ax)) (small-finite _ (small _ (p .0))) .1) .0
+    lo-fine lo hi f = let p = both-true _ _ (both-true _ _ f .0) in
+        mul-parts lo (e .bx ⊖ e .ax) (add-parts (e .ax) (lo ⊗ (e .bx ⊖ e .ax)) (small-finite _ (small _ (p .0))) .1) .0
 
     piece-low : (lo hi t : Float) → pieceUnder k e lo hi ≡ true → T (le lo t) → T (le t hi) → T (le (bullAt K e t) (k .high))
     unfolding pieceUnder bullAt distanceAt
@@ -197,21 +204,25 @@ module _ (k : Strip) (cut : cutterFair (k .r) (k .rc) ≡ true) (x y : Float) (o
     unfolding pieceUnder
     fair-of lo hi u = chosen (edgeFair e lo hi) (underOf k (edgeBlock e lo hi)) u .0
 
-    march-low : (n : ℕ) (s : March) → marchRun k e n s ≡ true → ((t : Float) → T (finite t) → T (le O t) → lt t (s .lo) ≡ true → T (le (bullAt K e t) (k .high)))
+    march-low : (n : ℕ) (s : March) → marchRun k e n s ≡ true
+        → ((t : Float) → T (finite t) → T (le O t) → lt t (s .lo) ≡ true → T (le (bullAt K e t) (k .high)))
         → (t : Float) → T (finite t) → T (le O t) → T (le t I) → T (le (bullAt K e t) (k .high))
     unfolding marchRun
     march-low zero s h prior t f a b = absurd (no h)
     march-low (suc n) s h prior t f a b =
         let hi = minOf (s .lo ⊕ s .w) f1 in
-        let cont : (u : March) → u ≡ marchStep k e s → cond (u .done) true (marchRun k e n u) ≡ true = λ u q. subst (λ (v : March). cond (v .done) true (marchRun k e n v) ≡ true) (sym q) h in
+        let cont : (u : March) → u ≡ marchStep k e s → cond (u .done) true (marchRun k e n u) ≡ true =
+        λ u q. subst (λ (v : March). cond (v .done) true (marchRun k e n v) ≡ true) (sym q) h in
         by-test (pieceUnder k e (s .lo) hi)
         (λ p.
         let more : (v : Float) → T (finite v) → T (le O v) → T (le v hi) → T (le (bullAt K e v) (k .high)) =
-        λ v g c d. by-test (lt v (s .lo)) (λ l. prior v g c l) (λ l. piece-low (s .lo) hi v p (not-below v (s .lo) g (lo-fine (s .lo) hi (fair-of (s .lo) hi p)) l) d) in
+        λ v g c d. by-test (lt v (s .lo)) (λ l. prior v g c l)
+        (λ l. piece-low (s .lo) hi v p (not-below v (s .lo) g (lo-fine (s .lo) hi (fair-of (s .lo) hi p)) l) d) in
         let u : March = record { lo = hi; w = f2 ⊗ s .w; done = le f1 hi } in
         by-test (le f1 hi)
         (λ d. more t f a (le-trans t I hi b (subst (λ (z : Float). T (le z hi)) f1-is (holds _ d))))
-        (λ d. march-low n u (next (le f1 hi) (marchRun k e n u) (cont u (step-under k e s hi true refl (sym p) refl)) d) (λ v g c l. more v g c (lt-le v hi l)) t f a b))
+        (λ d. march-low n u (next (le f1 hi) (marchRun k e n u) (cont u (step-under k e s hi true refl (sym p) refl)) d)
+        (λ v g c l. more v g c (lt-le v hi l)) t f a b))
         (λ p. march-low n (record { lo = s .lo; w = s .w ⊘ f2; done = false }) (cont _ (step-over k e s hi false refl (sym p) refl)) prior t f a b)
 
     edge-low : edgePasses k e ≡ true → (t : Float) → Unit t → T (le (bullAt K e t) (k .high))
@@ -249,11 +260,13 @@ module _ (k : Strip) (cut : cutterFair (k .r) (k .rc) ≡ true) (x y : Float) (o
         let qc = wx ⊗ wx ⊕ wy ⊗ wy ⊖ k .r ⊗ k .r in
         let disc = qb ⊗ qb ⊖ f4 ⊗ qa ⊗ qc in
         either (λ v. Low (k .high) (bullStretch K e v)) (le qa f0) Nowhere (cond (lt disc f0) Nowhere (crossedOf qa qb (rootOf disc))) (λ l. nowhere-low e)
-        (λ l. either (λ v. Low (k .high) (bullStretch K e v)) (lt disc f0) Nowhere (crossedOf qa qb (rootOf disc)) (λ p. nowhere-low e) (λ p. crossed-low h qa qb (rootOf disc)))
+        (λ l. either (λ v. Low (k .high) (bullStretch K e v)) (lt disc f0) Nowhere (crossedOf qa qb (rootOf disc)) (λ p. nowhere-low e)
+        (λ p. crossed-low h qa qb (rootOf disc)))
 
     pub edge-offered : edgePasses k e ≡ true → (floor : Float) (c : Contact) → Low (k .high) c → Low (k .high) (bullEdge K floor c e)
     unfolding bullEdge
-    edge-offered h floor c l = either (Low (k .high)) (tooLow floor c e) c (offerOf c (bullStretch K e (reachedOf e x y (k .r)))) (λ p. l) (λ p. low-offer _ _ _ l (stretch-low h))
+    edge-offered h floor c l =
+        either (Low (k .high)) (tooLow floor c e) c (offerOf c (bullStretch K e (reachedOf e x y (k .r)))) (λ p. l) (λ p. low-offer _ _ _ l (stretch-low h))
 
   edges-low : (t : Triangle) (floor : Float) (c : Contact) → edgesPass k t ≡ true → Low (k .high) c → Low (k .high) (bullEdges K floor t c)
   unfolding edgesPass bullEdges
@@ -263,7 +276,8 @@ module _ (k : Strip) (cut : cutterFair (k .r) (k .rc) ≡ true) (x y : Float) (o
       edge-offered (edgeCa t) (b .1) floor _ (edge-offered (edgeBc t) (b .0) floor _ (edge-offered (edgeAb t) (a .0) floor c l))
 
   -- ---- the facet
-  module _ (fx : T (finite x)) (fy : T (finite y)) (hx : T (finite (k .«high_x»))) (hy : T (finite (k .«high_y»))) (lx : T (finite (k .«low_x»))) (ly : T (finite (k .«low_y»))) where
+  module _ (fx : T (finite x)) (fy : T (finite y)) (hx : T (finite (k .«high_x»))) (hy : T (finite (k .«high_y»))) (lx : T (finite (k .«low_x»)))
+      (ly : T (finite (k .«low_y»))) where
     facet-low : (t : Triangle) (f : Facing) → facetPasses k t f ≡ true → Low (k .high) (bullFacet K t f)
     unfolding facetPasses restsMiss bullFacet facetHeight
     facet-low t Upright h = none-low
@@ -285,7 +299,8 @@ module _ (k : Strip) (cut : cutterFair (k .r) (k .rc) ≡ true) (x y : Float) (o
     contact-low t a b c = low-offer _ _ _ (edges-low t minusInfinity _ c (corners-low t a)) (facet-low t (facingOf t) b)
 
 -- ---- the whole
-gap-none : (h : Float) (m : Chord) (s low : Float) (c : Contact) → T (finite h) → T (finite (m .lift)) → T (finite (along (m .az) (m .bz) s)) → T (finite low) → T (finite (h ⊕ m .lift)) → T (le low (along (m .az) (m .bz) s)) → T (le (h ⊕ m .lift ⊖ low) f0) → Low h c → lt f0 (gapOf m s c) ≡ false
+gap-none : (h : Float) (m : Chord) (s low : Float) (c : Contact) → T (finite h) → T (finite (m .lift)) → T (finite (along (m .az) (m .bz) s)) → T (finite low)
+    → T (finite (h ⊕ m .lift)) → T (le low (along (m .az) (m .bz) s)) → T (le (h ⊕ m .lift ⊖ low) f0) → Low h c → lt f0 (gapOf m s c) ≡ false
 unfolding Low gapOf aboveOf
 gap-none h m s low Nothing a b c d e p q l = unfold ofBits div lt in refl
 gap-none h m s low (Height z t) a b c d e p q l = gap-low z h (m .lift) (along (m .az) (m .bz) s) low a b c d e p q l
@@ -298,7 +313,8 @@ module _ (t : Triangle) (m : Chord) (r rc lo hi : Float) (pass : passesOf t m r 
   unfolding passesOf
   parts = let a = both-true _ _ pass in let b = both-true _ _ (a .1) in let c = both-true _ _ (b .1) in (a .0, b .0, c .0, c .1)
 
-  fair : (cutterFair r rc ≡ true) × (axisFair (m .ax) (m .bx) lo hi ≡ true) × (axisFair (m .ay) (m .by) lo hi ≡ true) × (axisFair (m .az) (m .bz) lo hi ≡ true) × (tipFair m lo hi ≡ true)
+  fair : (cutterFair r rc ≡ true) × (axisFair (m .ax) (m .bx) lo hi ≡ true) × (axisFair (m .ay) (m .by) lo hi ≡ true) × (axisFair (m .az) (m .bz) lo hi ≡ true)
+      × (tipFair m lo hi ≡ true)
   unfolding fairOf
   fair =
       let a = both-true _ _ (parts .0) in
@@ -340,8 +356,12 @@ module _ (t : Triangle) (m : Chord) (r rc lo hi : Float) (pass : passesOf t m r 
     unfolding stripOf
     ends =
         let f = axis _ _ (fair .1) in
-        let g = axis _ _ (fair .2) in
-        (either-of (λ v. T (finite v)) _ _ (f .0) (f .1), either-of (λ v. T (finite v)) _ _ (g .0) (g .1), min-either (λ v. T (finite v)) _ _ (f .0) (f .1), min-either (λ v. T (finite v)) _ _ (g .0) (g .1))
+        let g = axis _ _ (fair .2) in (
+          either-of (λ v. T (finite v)) _ _ (f .0) (f .1),
+          either-of (λ v. T (finite v)) _ _ (g .0) (g .1),
+          min-either (λ v. T (finite v)) _ _ (f .0) (f .1),
+          min-either (λ v. T (finite v)) _ _ (g .0) (g .1),
+        )
 
     low-fine : T (finite low)
     low-fine = let f = axis _ _ (fair .3) in min-either (λ v. T (finite v)) _ _ (f .0) (f .1)

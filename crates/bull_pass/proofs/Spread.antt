@@ -84,10 +84,12 @@ module _ (x y t c : Float) (fx : T (finite x)) (fy : T (finite y)) (ft : T (fini
       (λ l. let z = no-lower c fc (not-below c O fc tt l) in rising _ _ P Q _ (mul-up x t c fx ft fc above z) (mul-up t y c ft fy fc below z))
 
   pub product-right : T (finite (c ⊗ x)) → T (finite (c ⊗ y)) → Between (c ⊗ x) (c ⊗ y) (c ⊗ t)
-  product-right P Q = rw (mul-swap c x fc fx, mul-swap c y fc fy, mul-swap c t fc ft) (product-left (rw (mul-swap c x fc fx) at P) (rw (mul-swap c y fc fy) at Q))
+  product-right P Q = rw (mul-swap c x fc fx, mul-swap c y fc fy, mul-swap c t fc ft)
+      (product-left (rw (mul-swap c x fc fx) at P) (rw (mul-swap c y fc fy) at Q))
 
 -- ---- differences and quotients
-pub minus-between : (x y p q m n : Float) → T (finite p) → T (finite q) → T (finite m) → T (finite n) → T (finite x) → T (finite y) → T (le p x) → T (le x q) → T (le m y) → T (le y n)
+pub minus-between : (x y p q m n : Float) → T (finite p) → T (finite q) → T (finite m) → T (finite n) → T (finite x) → T (finite y) → T (le p x) → T (le x q)
+    → T (le m y) → T (le y n)
     → T (le (p ⊖ n) (x ⊖ y)) × T (le (x ⊖ y) (q ⊖ m))
 minus-between x y p q m n fp fq fm fn fx fy a b c d = (
   le-trans (p ⊖ n) (x ⊖ n) (x ⊖ y) (sub-mono binary64 p x n fp fx fn a) (sub-turns binary64 y n x fy fn fx d),
@@ -113,8 +115,10 @@ both-turned (fin true m e) (fin false n d) p q = refl
 both-turned (fin false m e) (fin true n d) p q = refl
 both-turned (fin false m e) (fin false n d) p q = refl
 
-pub quotient : (p q x det : Float) → T (finite det) → T (positive det) ⊎ T (positive (neg det)) → T (finite (p ⊘ det)) → T (finite (q ⊘ det)) → T (finite x) → T (le p x) → T (le x q) → Between (p ⊘ det) (q ⊘ det) (x ⊘ det)
-quotient p q x det fd (inl s) P Q fx a b = rising _ _ P Q _ (div-up binary64 p x det (div-parts p det P) fx s a) (div-up binary64 x q det fx (div-parts q det Q) s b)
+pub quotient : (p q x det : Float) → T (finite det) → T (positive det) ⊎ T (positive (neg det)) → T (finite (p ⊘ det)) → T (finite (q ⊘ det)) → T (finite x)
+    → T (le p x) → T (le x q) → Between (p ⊘ det) (q ⊘ det) (x ⊘ det)
+quotient p q x det fd (inl s) P Q fx a b =
+    rising _ _ P Q _ (div-up binary64 p x det (div-parts p det P) fx s a) (div-up binary64 x q det fx (div-parts q det Q) s b)
 quotient p q x det fd (inr s) P Q fx a b =
     let fp = div-parts p det P in
     let fq = div-parts q det Q in

@@ -68,7 +68,8 @@ sum-under (fin s m e) (inf false) (fin u l c) b h k = under-most b (fin s m e �
 sum-under (fin s m e) (fin t n d) nan b h k = nan-under b nan refl
 sum-under (fin s m e) (fin t n d) (inf u) b h k = not-above (inf u) b k
 sum-under (fin s m e) (fin t n d) (fin u l c) b h k =
-    not-above (fin s m e ⊕ fin u l c) b (le-trans (fin s m e ⊕ fin u l c) (fin t n d ⊕ fin u l c) b (add-left binary64 (fin s m e) (fin t n d) (fin u l c) tt tt tt h) k)
+    not-above (fin s m e ⊕ fin u l c) b
+    (le-trans (fin s m e ⊕ fin u l c) (fin t n d ⊕ fin u l c) b (add-left binary64 (fin s m e) (fin t n d) (fin u l c) tt tt tt h) k)
 
 sum-nan : (x z : Float) → isNan x ≡ true → isNan (x ⊕ z) ≡ true
 unfolding isNan add
@@ -93,7 +94,8 @@ pub same-beside : (b r z : Float) → r ≡ z → Alike b r z
 same-beside b r z e = λ c t q. ap (λ v. takeOf c v t) e
 
 -- ---- the search
-module _ (f : Float → Float) (lo hi : Float) (n m : ℕ) (g : Golden) (below : n ≤ m) (here : g ≡ goldenAt rises f lo hi n) (i : InnerOf g) (o : Ordered (g .a) (g .b)) (cap : Float) (under : (t : Float) → In (g .a) (g .b) t → T (le (f t) cap)) (b : Float) where
+module _ (f : Float → Float) (lo hi : Float) (n m : ℕ) (g : Golden) (below : n ≤ m) (here : g ≡ goldenAt rises f lo hi n) (i : InnerOf g)
+    (o : Ordered (g .a) (g .b)) (cap : Float) (under : (t : Float) → In (g .a) (g .b) t → T (le (f t) cap)) (b : Float) where
   abbrev end : Float
   end = maxOf (f lo) (f hi)
 
@@ -117,8 +119,10 @@ module _ (f : Float → Float) (lo hi : Float) (n m : ℕ) (g : Golden) (below :
       (λ x k. not-taken c (cap ⊕ more) (x ⊕ more) t l (nan-under (limitOf c) (x ⊕ more) (sum-nan x more k)))
 
 -- no value from lo to hi is above the limit with that number added, so that the search need not begin
-pub whole-beside : (f : Float → Float) (lo hi : Float) → Ordered lo hi → (cap : Float) → ((t : Float) → In lo hi t → T (le (f t) cap)) → (b more : Float) (m : ℕ) → le (cap ⊕ more) b ≡ true → Alike b (cap ⊕ more) (goldenMax f lo hi m ⊕ more)
+pub whole-beside : (f : Float → Float) (lo hi : Float) → Ordered lo hi → (cap : Float) → ((t : Float) → In lo hi t → T (le (f t) cap))
+    → (b more : Float) (m : ℕ) → le (cap ⊕ more) b ≡ true → Alike b (cap ⊕ more) (goldenMax f lo hi m ⊕ more)
 whole-beside f lo hi o cap under b more m h c t q =
     let l = subst (λ (v : Float). T (le (cap ⊕ more) v)) (sym q) (holds _ h) in
     not-taken c (cap ⊕ more) (cap ⊕ more) t l (not-above (cap ⊕ more) (limitOf c) l)
-    ∙ sym (largest-in f lo hi (o .low) (o .high) (o .order) (λ z. takeOf c (z ⊕ more) t ≡ c) m (λ x i. not-taken c (cap ⊕ more) (f x ⊕ more) t l (sum-under (f x) cap more (limitOf c) (under x i) l)))
+    ∙ sym (largest-in f lo hi (o .low) (o .high) (o .order) (λ z. takeOf c (z ⊕ more) t ≡ c) m
+    (λ x i. not-taken c (cap ⊕ more) (f x ⊕ more) t l (sum-under (f x) cap more (limitOf c) (under x i) l)))

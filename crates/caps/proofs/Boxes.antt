@@ -50,7 +50,8 @@ module _ (a b x lo hi : Float) (o : Ordered lo hi) (e : sideTame a b x lo hi ≡
   module _ (t : Float) (i : In lo hi t) where
     place : Between (at a b lo ⊖ x) (at a b hi ⊖ x) (at a b t ⊖ x)
     place =
-        side-on a b x lo hi t (unit-finite lo (o .low)) (unit-finite hi (o .high)) (unit-finite t (i .unit)) (i .low) (i .high) (small-finite _ (ends .0)) (small-finite _ (ends .1))
+        side-on a b x lo hi t (unit-finite lo (o .low)) (unit-finite hi (o .high)) (unit-finite t (i .unit)) (i .low) (i .high) (small-finite _ (ends .0))
+        (small-finite _ (ends .1))
 
     there : Small (at a b t ⊖ x)
     there = small-between _ _ _ (ends .0) (ends .1) place
@@ -65,7 +66,8 @@ module _ (a b x lo hi : Float) (o : Ordered lo hi) (e : sideTame a b x lo hi ≡
 
 -- ---- the edge
 module _ (e : Edge) (x y lo hi : Float) (f : T (fits binary64 lo)) (g : T (fits binary64 hi)) (tame : tameOn e x y lo hi ≡ true) where
-  parts : (inOrder lo hi ≡ true) × (sideTame (e .ax) (e .bx) x lo hi ≡ true) × (sideTame (e .ay) (e .by) y lo hi ≡ true) × (sideTame (e .az) (e .bz) f0 lo hi ≡ true)
+  parts : (inOrder lo hi ≡ true) × (sideTame (e .ax) (e .bx) x lo hi ≡ true) × (sideTame (e .ay) (e .by) y lo hi ≡ true)
+      × (sideTame (e .az) (e .bz) f0 lo hi ≡ true)
   unfolding tameOn
   parts =
       let a = both-true (inOrder lo hi) _ tame in
@@ -97,7 +99,8 @@ module _ (e : Edge) (x y lo hi : Float) (f : T (fits binary64 lo)) (g : T (fits 
     pub under-high : T (le (at (e .az) (e .bz) t) (highOn e lo hi)) × T (finite (at (e .az) (e .bz) t))
     unfolding highOn
     under-high =
-        let b = along-on (e .az) (e .bz) lo hi t (unit-finite lo (places .low)) (unit-finite hi (places .high)) (unit-finite t (i .unit)) (i .low) (i .high) z₀ z₁ in
+        let b = along-on (e .az) (e .bz) lo hi t (unit-finite lo (places .low)) (unit-finite hi (places .high)) (unit-finite t (i .unit))
+        (i .low) (i .high) z₀ z₁ in
         (b .high, b .fine)
 
     tx : Small (at (e .ax) (e .bx) t ⊖ x)
@@ -113,7 +116,8 @@ module _ (e : Edge) (x y lo hi : Float) (f : T (fits binary64 lo)) (g : T (fits 
     pub farther : T (le (leastOn e x y lo hi) (distanceAt e x y t))
     unfolding leastOn distanceAt
     farther =
-        hypot-counts _ _ _ _ (fine-side (e .ax) (e .bx) x lo hi places (parts .1)) (fine-side (e .ay) (e .by) y lo hi places (parts .2)) (small-finite _ tx) (small-finite _ ty)
+        hypot-counts _ _ _ _ (fine-side (e .ax) (e .bx) x lo hi places (parts .1)) (fine-side (e .ay) (e .by) y lo hi places (parts .2))
+        (small-finite _ tx) (small-finite _ ty)
         (nearer-side (e .ax) (e .bx) x lo hi places (parts .1) t i) (nearer-side (e .ay) (e .by) y lo hi places (parts .2) t i)
 
     pub least-fine : T (finite (leastOn e x y lo hi))

@@ -1,10 +1,11 @@
--- Both inner points of a bracket a..b within 0..1 lie from a to b, as they are computed. All is counted in smallest f64s: b - a is a whole number of them, its rounding
--- goes at most a part in 2 ^ 52 too far, or not at all where it is below 2 ^ 53, and phi is much less than 1.
+-- Both inner points of a bracket a..b within 0..1 lie from a to b, as they are computed. All is counted in smallest f64s: b - a is a whole number of them, its
+-- rounding goes at most a part in 2 ^ 52 too far, or not at all where it is below 2 ^ 53, and phi is much less than 1.
 use mathlib.Core.Bool.{true, false}
 use mathlib.Core.Logic.{_⊎_, inl, inr, ⊎-elim}
 use mathlib.Core.Path.{_≡_, refl, ap, sym, _∙_, subst}
 use Prim.Native.Nat.{ℕ, zero, suc, _+_, _-_, _*_, _^_, _≤_, _<_}
-use native.Mathlib.Nat.{add-comm, mul-sub, mul-right-comm, mul-mul-mul-comm, zero-mul, mul-zero, mul-one, mul-comm, mul-assoc, mul-left-comm, add-mul, mul-pos, mul-le-mul-right, mul-le-mul-left, le-trans, le-of-eq, le-of-mul-le-mul-right, le-of-mul-le-mul-left, lt-of-lt-of-le}
+use native.Mathlib.Nat.{add-comm, mul-sub, mul-right-comm, mul-mul-mul-comm, zero-mul, mul-zero, mul-one, mul-comm, mul-assoc, mul-left-comm, add-mul, mul-pos}
+use native.Mathlib.Nat.{mul-le-mul-right, mul-le-mul-left, le-trans, le-of-eq, le-of-mul-le-mul-right, le-of-mul-le-mul-left, lt-of-lt-of-le}
 use native.Mathlib.Omega.{arith}
 use borrow.Author.Tests.{ltb-true, ltb-false, leb-true, leb-false, le-leb, lt-leb}
 use lib.Dec.{T, ltb, leb, lit≤}
@@ -49,7 +50,8 @@ of-value (fin false m e) n v = record { fine = tt; none = refl; value = v .1 }
 -- ---- the order of counts
 counts-le : (x y : Float) (m n : ℕ) → Counted x m → Counted y n → T (le x y) → m ≤ n
 counts-le x y m n a b h =
-    go (upper x) (lower x) (den x) (upper y) (lower y) (den y) m n (2 ^ 1074) (den-pos x) (den-pos y) (a .none) (b .none) (a .value) (b .value) (le→parts x y (a .fine) (b .fine) h)
+    go (upper x) (lower x) (den x) (upper y) (lower y) (den y) m n (2 ^ 1074) (den-pos x) (den-pos y) (a .none) (b .none) (a .value) (b .value)
+    (le→parts x y (a .fine) (b .fine) h)
   where
     go : (ux lx dx uy ly dy m n t : ℕ) → 0 < dx → 0 < dy → lx ≡ 0 → ly ≡ 0 → ux * t ≡ m * dx → uy * t ≡ n * dy → ux * dy + ly * dx ≤ uy * dx + lx * dy → m ≤ n
     go ux lx dx uy ly dy m n t p q e f k l h =
@@ -67,13 +69,17 @@ module _ (x y z : Float) (m k n : ℕ) (a : Counted x m) (b : Counted y k) (c : 
   cross : upper x * (den y * den z) + upper y * (den x * den z) ≤ upper z * (den x * den y)
   cross = go (upper x) (den x) (upper y) (den y) (upper z) (den z) m k n (2 ^ 1074) (pow-pos 1074) (a .value) (b .value) (c .value) h
     where
-      go : (ux dx uy dy uz dz m k n t : ℕ) → 0 < t → ux * t ≡ m * dx → uy * t ≡ k * dy → uz * t ≡ n * dz → m + k ≤ n → ux * (dy * dz) + uy * (dx * dz) ≤ uz * (dx * dy)
+      go : (ux dx uy dy uz dz m k n t : ℕ) → 0 < t → ux * t ≡ m * dx → uy * t ≡ k * dy → uz * t ≡ n * dz → m + k ≤ n
+          → ux * (dy * dz) + uy * (dx * dz) ≤ uz * (dx * dy)
       go ux dx uy dy uz dz m k n t p e f g h =
           let e′ : ux * (dy * dz) * t ≡ m * (dx * (dy * dz)) = mul-right-comm ux (dy * dz) t ∙ ap (λ (w : ℕ). w * (dy * dz)) e ∙ mul-assoc m dx (dy * dz) in
-          let f′ : uy * (dx * dz) * t ≡ k * (dx * (dy * dz)) = mul-right-comm uy (dx * dz) t ∙ ap (λ (w : ℕ). w * (dx * dz)) f ∙ mul-assoc k dy (dx * dz) ∙ ap (λ (w : ℕ). k * w) (mul-left-comm dy dx dz) in
-          let g′ : uz * (dx * dy) * t ≡ n * (dx * (dy * dz)) = mul-right-comm uz (dx * dy) t ∙ ap (λ (w : ℕ). w * (dx * dy)) g ∙ mul-assoc n dz (dx * dy) ∙ ap (λ (w : ℕ). n * w) (mul-left-comm dz dx dy ∙ ap (λ (w : ℕ). dx * w) (mul-comm dz dy)) in
+          let f′ : uy * (dx * dz) * t ≡ k * (dx * (dy * dz)) = mul-right-comm uy (dx * dz) t ∙ ap (λ (w : ℕ). w * (dx * dz)) f ∙ mul-assoc k dy (dx * dz)
+          ∙ ap (λ (w : ℕ). k * w) (mul-left-comm dy dx dz) in
+          let g′ : uz * (dx * dy) * t ≡ n * (dx * (dy * dz)) = mul-right-comm uz (dx * dy) t ∙ ap (λ (w : ℕ). w * (dx * dy)) g ∙ mul-assoc n dz (dx * dy)
+          ∙ ap (λ (w : ℕ). n * w) (mul-left-comm dz dx dy ∙ ap (λ (w : ℕ). dx * w) (mul-comm dz dy)) in
           le-of-mul-le-mul-right {k = t}
-          (le-trans (le-of-eq (add-mul (ux * (dy * dz)) (uy * (dx * dz)) t ∙ ap (λ (w : ℕ). w + uy * (dx * dz) * t) e′ ∙ ap (λ (w : ℕ). m * (dx * (dy * dz)) + w) f′ ∙ sym (add-mul m k (dx * (dy * dz)))))
+          (le-trans (le-of-eq (add-mul (ux * (dy * dz)) (uy * (dx * dz)) t ∙ ap (λ (w : ℕ). w + uy * (dx * dz) * t) e′
+          ∙ ap (λ (w : ℕ). m * (dx * (dy * dz)) + w) f′ ∙ sym (add-mul m k (dx * (dy * dz)))))
           (le-trans (mul-le-mul-right (dx * (dy * dz)) h) (le-of-eq (sym g′))))
           p
 
@@ -85,7 +91,8 @@ module _ (x y z : Float) (m k n : ℕ) (a : Counted x m) (b : Counted y k) (c : 
       (rw (n .0, n .1, n .2, a .none, b .none, c .none) (tidy (upper x) (den x) (upper y) (den y) (upper z) (den z) cross))
       (is-sub binary64 x (neg y) (a .fine) (neg-finite y (b .fine))) (own z g (c .fine)))
     where
-      tidy : (ux dx uy dy uz dz : ℕ) → ux * (dy * dz) + uy * (dx * dz) ≤ uz * (dx * dy) → (ux * dy + uy * dx) * dz + 0 * (dx * dy) ≤ uz * (dx * dy) + (0 * dx + 0 * dy) * dz
+      tidy : (ux dx uy dy uz dz : ℕ) → ux * (dy * dz) + uy * (dx * dz) ≤ uz * (dx * dy)
+          → (ux * dy + uy * dx) * dz + 0 * (dx * dy) ≤ uz * (dx * dy) + (0 * dx + 0 * dy) * dz
       tidy ux dx uy dy uz dz h = omega (arith, add-mul (ux * dy) (uy * dx) dz, mul-assoc ux dy dz, mul-assoc uy dx dz, zero-mul (dx * dy))
 
   left-over : T (fits binary64 x) → T (le x (z ⊖ y))
@@ -94,10 +101,23 @@ module _ (x y z : Float) (m k n : ℕ) (a : Counted x m) (b : Counted y k) (c : 
       (rw (a .none, b .none, c .none) (tidy (upper x) (den x) (upper y) (den y) (upper z) (den z) cross))
       (own x g (a .fine)) (is-sub binary64 z y (c .fine) (b .fine))
     where
-      tidy : (ux dx uy dy uz dz : ℕ) → ux * (dy * dz) + uy * (dx * dz) ≤ uz * (dx * dy) → ux * (dz * dy) + (uy * dz + 0 * dy) * dx ≤ (uz * dy + 0 * dz) * dx + 0 * (dz * dy)
+      tidy : (ux dx uy dy uz dz : ℕ) → ux * (dy * dz) + uy * (dx * dz) ≤ uz * (dx * dy)
+          → ux * (dz * dy) + (uy * dz + 0 * dy) * dx ≤ (uz * dy + 0 * dz) * dx + 0 * (dz * dy)
       tidy ux dx uy dy uz dz h =
-          omega
-          (arith, ap (λ (w : ℕ). ux * w) (mul-comm dy dz), add-mul (uy * dz) (0 * dy) dx, add-mul (uz * dy) (0 * dz) dx, zero-mul dy, zero-mul dz, zero-mul dx, mul-assoc uy dz dx, ap (λ (w : ℕ). uy * w) (mul-comm dx dz), mul-assoc uz dy dx, ap (λ (w : ℕ). uz * w) (mul-comm dx dy), zero-mul (dz * dy))
+          omega (
+            arith,
+            ap (λ (w : ℕ). ux * w) (mul-comm dy dz),
+            add-mul (uy * dz) (0 * dy) dx,
+            add-mul (uz * dy) (0 * dz) dx,
+            zero-mul dy,
+            zero-mul dz,
+            zero-mul dx,
+            mul-assoc uy dz dx,
+            ap (λ (w : ℕ). uy * w) (mul-comm dx dz),
+            mul-assoc uz dy dx,
+            ap (λ (w : ℕ). uz * w) (mul-comm dx dy),
+            zero-mul (dz * dy),
+          )
 
 -- ---- a difference, and phi of it
 abbrev Nearly : ℕ → ℕ → Type 0
@@ -106,10 +126,18 @@ Nearly v w = (w ≡ v) ⊎ ((2 ^ 53 ≤ v) × (2 ^ 52 * w ≤ (2 ^ 52 + 1) * v +
 rounded-count : (v : ℕ) → T (finite (round binary64 false v (2 ^ 1074))) → (w : ℕ) × Counted (round binary64 false v (2 ^ 1074)) w × Nearly v w
 rounded-count v f =
     by-test (ltb v (2 ^ 53))
-    (λ e. (v, of-value _ v (round-exact binary64 false v (2 ^ 1074) v 0 (pow-pos 1074) (ltb-true v (2 ^ 53) e) (lt-of-lt-of-le (few v (ltb-true v (2 ^ 53) e)) (pow-mono {i = 53} {j = 2098} (omega arith))) (ap (λ (z : ℕ). z * 2 ^ 1074) (sym (mul-one v)))), inl refl))
+    (λ e. (
+      v,
+      of-value _ v (round-exact binary64 false v (2 ^ 1074) v 0 (pow-pos 1074) (ltb-true v (2 ^ 53) e) (lt-of-lt-of-le (few v (ltb-true v (2 ^ 53) e))
+          (pow-mono {i = 53} {j = 2098} (omega arith))) (ap (λ (z : ℕ). z * 2 ^ 1074) (sym (mul-one v)))),
+      inl refl,
+    ))
     (λ e.
-    let g = grid binary64 v (2 ^ 1074) in
-    (g, of-value _ g (round-val binary64 v (2 ^ 1074) (round-under binary64 v (2 ^ 1074) f)), inr (ltb-false v (2 ^ 53) e, cut g v (2 ^ 1074) (pow-pos 1074) (not-more v (2 ^ 1074) (pow-pos 1074)))))
+    let g = grid binary64 v (2 ^ 1074) in (
+      g,
+      of-value _ g (round-val binary64 v (2 ^ 1074) (round-under binary64 v (2 ^ 1074) f)),
+      inr (ltb-false v (2 ^ 53) e, cut g v (2 ^ 1074) (pow-pos 1074) (not-more v (2 ^ 1074) (pow-pos 1074))),
+    ))
   where
     few : (v : ℕ) → v < 2 ^ 53 → v * 1 < 2 ^ 53
     few v h = omega arith
@@ -117,7 +145,8 @@ rounded-count v f =
     cut : (g v t : ℕ) → 0 < t → 2 ^ 52 * (g * t) ≤ (2 ^ 52 + 1) * (v * t) + 2 ^ 52 * t → 2 ^ 52 * g ≤ (2 ^ 52 + 1) * v + 2 ^ 52
     cut g v t p h =
         le-of-mul-le-mul-right {k = t}
-        (le-trans (le-of-eq (mul-assoc (2 ^ 52) g t)) (le-trans h (le-of-eq (ap (λ (z : ℕ). z + 2 ^ 52 * t) (sym (mul-assoc (2 ^ 52 + 1) v t)) ∙ sym (add-mul ((2 ^ 52 + 1) * v) (2 ^ 52) t))))) p
+        (le-trans (le-of-eq (mul-assoc (2 ^ 52) g t))
+        (le-trans h (le-of-eq (ap (λ (z : ℕ). z + 2 ^ 52 * t) (sym (mul-assoc (2 ^ 52 + 1) v t)) ∙ sym (add-mul ((2 ^ 52 + 1) * v) (2 ^ 52) t))))) p
 
 up-rounded : (p n c : ℕ) → n ≤ p → rounded binary64 p n c ≡ round binary64 false (p - n) c
 unfolding rounded
@@ -139,7 +168,8 @@ sub-mul a b c = mul-comm (a - b) c ∙ mul-sub c a b ∙ (rw (mul-comm c a, mul-
 -- ---- sums and differences with the number itself or 0
 pub self : (a : Float) → T (finite a) → T (le O (a ⊖ a))
 self a p =
-    is-le binary64 _ _ _ _ _ _ _ _ (omega arith) (mul-pos (den-pos a) (den-pos a)) (omega (arith, zero-mul (den a * den a), mul-one (upper a * den a + lower a * den a)))
+    is-le binary64 _ _ _ _ _ _ _ _ (omega arith) (mul-pos (den-pos a) (den-pos a))
+    (omega (arith, zero-mul (den a * den a), mul-one (upper a * den a + lower a * den a)))
     zero-is (is-sub binary64 a a p p)
 
 pub plus-none : (a : Float) → T (fits binary64 a) → T (finite a) → T (le a (a ⊕ O))
@@ -158,7 +188,8 @@ less-none a g p =
 
 pub none-of-zero : (y : Float) → T (finite y) → T (le O (O ⊗ y))
 none-of-zero y p =
-    is-le binary64 _ _ _ _ _ _ _ _ (omega arith) (mul-pos (den-pos O) (den-pos y)) (omega (arith, zero-mul (upper y), zero-mul (lower y), zero-mul (den y))) zero-is (is-mul O y tt p)
+    is-le binary64 _ _ _ _ _ _ _ _ (omega arith) (mul-pos (den-pos O) (den-pos y))
+    (omega (arith, zero-mul (upper y), zero-mul (lower y), zero-mul (den y))) zero-is (is-mul O y tt p)
 
 -- ---- the bracket a..b
 module _ (a b : Float) (u : Unit a) (v : Unit b) (o : T (le a b)) where
@@ -207,7 +238,8 @@ module _ (a b : Float) (u : Unit a) (v : Unit b) (o : T (le a b)) where
   w-is : Is binary64 w (upper b * den a) (upper a * den b) (den b * den a)
   w-is =
       subst (λ (p : ℕ). Is binary64 w p (upper a * den b) (den b * den a)) (none₁ (upper b * den a) (lower a) (den b) (ca .1 .none))
-      (subst (λ (n : ℕ). Is binary64 w (upper b * den a + lower a * den b) n (den b * den a)) (none₁ (upper a * den b) (lower b) (den a) (cb .1 .none)) (is-sub binary64 b a fb fa))
+      (subst (λ (n : ℕ). Is binary64 w (upper b * den a + lower a * den b) n (den b * den a)) (none₁ (upper a * den b) (lower b) (den a) (cb .1 .none))
+      (is-sub binary64 b a fb fa))
     where
       none₁ : (p l d : ℕ) → l ≡ 0 → p + l * d ≡ p
       none₁ p l d e = rw e (omega (arith, zero-mul d))
@@ -225,10 +257,15 @@ module _ (a b : Float) (u : Unit a) (v : Unit b) (o : T (le a b)) where
   w-count =
       ⊎-elim
       (λ e.
-      let r : w ≡ round binary64 false D (2 ^ 1074) = e ∙ up-rounded (upper b * den a) (upper a * den b) (den b * den a) in-order ∙ round-same binary64 false (upper b * den a - upper a * den b) (den b * den a) D (2 ^ 1074) (mul-pos (den-pos b) (den-pos a)) (pow-pos 1074) exact in
+      let r : w ≡ round binary64 false D (2 ^ 1074) = e ∙ up-rounded (upper b * den a) (upper a * den b) (den b * den a) in-order ∙ round-same binary64 false
+      (upper b * den a - upper a * den b) (den b * den a) D (2 ^ 1074) (mul-pos (den-pos b) (den-pos a)) (pow-pos 1074) exact in
       let k = rounded-count D (subst (λ (z : Float). T (finite z)) r fw) in
       (k .0, subst (λ (z : Float). Counted z (k .0)) (sym r) (k .1), k .2))
-      (λ e. (0, subst (λ (z : Float). Counted z 0) (sym (e .0)) no-count, inl (zero-difference (upper b * den a) (upper a * den b) (e .1) D (den b * den a) (2 ^ 1074) (mul-pos (den-pos b) (den-pos a)) exact)))
+      (λ e. (
+        0,
+        subst (λ (z : Float). Counted z 0) (sym (e .0)) no-count,
+        inl (zero-difference (upper b * den a) (upper a * den b) (e .1) D (den b * den a) (2 ^ 1074) (mul-pos (den-pos b) (den-pos a)) exact),
+      ))
       w-is
     where
       zero-difference : (p n : ℕ) → p ≡ n → (v c t : ℕ) → 0 < c → (p - n) * t ≡ v * c → 0 ≡ v
@@ -274,28 +311,38 @@ module _ (a b : Float) (u : Unit a) (v : Unit b) (o : T (le a b)) where
       let c = w-count .0 in
       let r : y ≡ round binary64 false (c * U) (2 ^ 1074 * 2 ^ 49) =
       e ∙ up-rounded (upper w * U) 0 (den w * 2 ^ 49) (omega arith) ∙ ap (λ (z : ℕ). round binary64 false z (den w * 2 ^ 49)) (less (upper w * U))
-      ∙ round-same binary64 false (upper w * U) (den w * 2 ^ 49) (c * U) (2 ^ 1074 * 2 ^ 49) (mul-pos (den-pos w) (pow-pos 49)) (mul-pos (pow-pos 1074) (pow-pos 49))
+      ∙ round-same binary64 false (upper w * U) (den w * 2 ^ 49) (c * U) (2 ^ 1074 * 2 ^ 49) (mul-pos (den-pos w) (pow-pos 49))
+      (mul-pos (pow-pos 1074) (pow-pos 49))
       (mul-mul-mul-comm (upper w) U (2 ^ 1074) (2 ^ 49) ∙ ap (λ (z : ℕ). z * (U * 2 ^ 49)) (w-count .1 .value) ∙ mul-mul-mul-comm c (den w) U (2 ^ 49)) in
-      let g = grid binary64 (c * U) (2 ^ 1074 * 2 ^ 49) in
-      (g, subst (λ (z : Float). Counted z g) (sym r) (of-value _ g (round-val binary64 _ _ (round-under binary64 _ _ (subst (λ (z : Float). T (finite z)) r fy)))), cut g (c * U) (2 ^ 1074) (pow-pos 1074) (not-more (c * U) (2 ^ 1074 * 2 ^ 49) (mul-pos (pow-pos 1074) (pow-pos 49)))))
+      let g = grid binary64 (c * U) (2 ^ 1074 * 2 ^ 49) in (
+        g,
+        subst (λ (z : Float). Counted z g) (sym r)
+            (of-value _ g (round-val binary64 _ _ (round-under binary64 _ _ (subst (λ (z : Float). T (finite z)) r fy)))),
+        cut g (c * U) (2 ^ 1074) (pow-pos 1074) (not-more (c * U) (2 ^ 1074 * 2 ^ 49) (mul-pos (pow-pos 1074) (pow-pos 49))),
+      ))
       (λ e. (0, subst (λ (z : Float). Counted z 0) (sym (e .0)) no-count, omega arith))
       y-is
     where
       less : (p : ℕ) → p - 0 ≡ p
       less p = omega arith
 
-      cut : (g c t : ℕ) → 0 < t → 2 ^ 52 * (g * (t * 2 ^ 49)) ≤ (2 ^ 52 + 1) * (c * t) + 2 ^ 52 * (t * 2 ^ 49) → 2 ^ 52 * (g * 2 ^ 49) ≤ (2 ^ 52 + 1) * c + 2 ^ 52 * 2 ^ 49
+      cut : (g c t : ℕ) → 0 < t → 2 ^ 52 * (g * (t * 2 ^ 49)) ≤ (2 ^ 52 + 1) * (c * t) + 2 ^ 52 * (t * 2 ^ 49)
+          → 2 ^ 52 * (g * 2 ^ 49) ≤ (2 ^ 52 + 1) * c + 2 ^ 52 * 2 ^ 49
       cut g c t p h =
           le-of-mul-le-mul-right {k = t}
-          (le-trans (le-of-eq (mul-assoc (2 ^ 52) (g * 2 ^ 49) t ∙ ap (λ (z : ℕ). 2 ^ 52 * z) (mul-assoc g (2 ^ 49) t ∙ ap (λ (z : ℕ). g * z) (mul-comm (2 ^ 49) t))))
+          (le-trans (le-of-eq (mul-assoc (2 ^ 52) (g * 2 ^ 49) t
+          ∙ ap (λ (z : ℕ). 2 ^ 52 * z) (mul-assoc g (2 ^ 49) t ∙ ap (λ (z : ℕ). g * z) (mul-comm (2 ^ 49) t))))
           (le-trans h
-          (le-of-eq (ap (λ (z : ℕ). z + 2 ^ 52 * (t * 2 ^ 49)) (sym (mul-assoc (2 ^ 52 + 1) c t)) ∙ ap (λ (z : ℕ). (2 ^ 52 + 1) * c * t + z) (ap (λ (z : ℕ). 2 ^ 52 * z) (mul-comm t (2 ^ 49)) ∙ sym (mul-assoc (2 ^ 52) (2 ^ 49) t)) ∙ sym (add-mul ((2 ^ 52 + 1) * c) (2 ^ 52 * 2 ^ 49) t)))))
+          (le-of-eq (ap (λ (z : ℕ). z + 2 ^ 52 * (t * 2 ^ 49)) (sym (mul-assoc (2 ^ 52 + 1) c t))
+          ∙ ap (λ (z : ℕ). (2 ^ 52 + 1) * c * t + z) (ap (λ (z : ℕ). 2 ^ 52 * z) (mul-comm t (2 ^ 49)) ∙ sym (mul-assoc (2 ^ 52) (2 ^ 49) t))
+          ∙ sym (add-mul ((2 ^ 52 + 1) * c) (2 ^ 52 * 2 ^ 49) t)))))
           p
 
   y-under : y-count .0 ≤ D
   y-under =
       ⊎-elim (λ e. subst (λ (z : ℕ). y-count .0 ≤ z) e (counts-le y w (y-count .0) (w-count .0) (y-count .1) (w-count .1) y-most))
-      (λ e. small (y-count .0) (w-count .0) D (six (y-count .0) (w-count .0) (eighths (y-count .0) (w-count .0) (y-count .2))) (e .0) (nine (w-count .0) D (e .0) (e .1)))
+      (λ e. small (y-count .0) (w-count .0) D (six (y-count .0) (w-count .0) (eighths (y-count .0) (w-count .0) (y-count .2))) (e .0)
+      (nine (w-count .0) D (e .0) (e .1)))
       (w-count .2)
     where
       -- phi is below 5 / 8
@@ -306,7 +353,8 @@ module _ (a b : Float) (u : Unit a) (v : Unit b) (o : T (le a b)) where
       eighths n m h =
           le-of-mul-le-mul-right {k = 2 ^ 49}
           (le-trans (le-of-eq (mul-assoc (2 ^ 55) n (2 ^ 49)))
-          (le-trans (share (n * 2 ^ 49) (m * U) (m * 2 ^ 49) h (le-trans (le-of-eq (mul-assoc m U 8)) (le-trans (mul-le-mul-left m (lit≤ {m = 347922205179541 * 8} {n = 2 ^ 49 * 5} tt)) (le-of-eq (sym (mul-assoc m (2 ^ 49) 5))))))
+          (le-trans (share (n * 2 ^ 49) (m * U) (m * 2 ^ 49) h (le-trans (le-of-eq (mul-assoc m U 8))
+          (le-trans (mul-le-mul-left m (lit≤ {m = 347922205179541 * 8} {n = 2 ^ 49 * 5} tt)) (le-of-eq (sym (mul-assoc m (2 ^ 49) 5))))))
           (le-of-eq (ap (λ (z : ℕ). z + 2 ^ 104) (sym (mul-assoc (5 * (2 ^ 52 + 1)) m (2 ^ 49))) ∙ sym (add-mul (5 * (2 ^ 52 + 1) * m) (2 ^ 55) (2 ^ 49))))))
           (pow-pos 49)
 
@@ -330,13 +378,17 @@ module _ (a b : Float) (u : Unit a) (v : Unit b) (o : T (le a b)) where
 
   pub upper-within : T (le a (golden.upper a b)) × T (le (golden.upper a b) b)
   upper-within =
-      rw part
-      (le-on a (a ⊕ O) (a ⊕ y) (plus-none a (u .fit) fa) (add-right binary64 O y a tt fy fa y-low), sum-under a y b (ca .0) (y-count .0) (cb .0) (ca .1) (y-count .1) (cb .1) fits-in (v .fit))
+      rw part (
+        le-on a (a ⊕ O) (a ⊕ y) (plus-none a (u .fit) fa) (add-right binary64 O y a tt fy fa y-low),
+        sum-under a y b (ca .0) (y-count .0) (cb .0) (ca .1) (y-count .1) (cb .1) fits-in (v .fit),
+      )
 
   pub lower-within : T (le a (golden.lower a b)) × T (le (golden.lower a b) b)
   lower-within =
-      rw part
-      (left-over a y b (ca .0) (y-count .0) (cb .0) (ca .1) (y-count .1) (cb .1) fits-in (u .fit), le-on (b ⊖ y) (b ⊖ O) b (sub-turns binary64 O y b tt fy fb y-low) (less-none b (v .fit) fb))
+      rw part (
+        left-over a y b (ca .0) (y-count .0) (cb .0) (ca .1) (y-count .1) (cb .1) fits-in (u .fit),
+        le-on (b ⊖ y) (b ⊖ O) b (sub-turns binary64 O y b tt fy fb y-low) (less-none b (v .fit) fb),
+      )
 
 -- ---- either way round: where a is above b, the points are those of b..a, the upper the lower
 negated : (v : Float) (p n c : ℕ) → 0 < c → Is binary64 v p n c → Is binary64 (neg v) n p c
@@ -385,7 +437,8 @@ module _ (a b : Float) (u : Unit a) (v : Unit b) (o : T (le b a)) where
   ways : T (le m (neg d)) × T (le (neg d) m)
   ways =
       same-fraction m (neg d) _ _ _ (mul-pos (den-pos b) (den-pos a)) (is-sub binary64 b a rb ra)
-      (subst (λ (c : ℕ). Is binary64 (neg d) (upper b * den a + lower a * den b) (upper a * den b + lower b * den a) c) (mul-comm (den a) (den b)) (negated d _ _ _ (mul-pos (den-pos a) (den-pos b)) (is-sub binary64 a b ra rb)))
+      (subst (λ (c : ℕ). Is binary64 (neg d) (upper b * den a + lower a * den b) (upper a * den b + lower b * den a) c) (mul-comm (den a) (den b))
+      (negated d _ _ _ (mul-pos (den-pos a) (den-pos b)) (is-sub binary64 a b ra rb)))
 
   fn : T (finite (neg d))
   fn = neg-finite d fd

@@ -67,7 +67,8 @@ module _ (f : Float → Float) (lo hi : Float) (u : Unit lo) (v : Unit hi) (o : 
   goes left (suc n) = narrows f lo hi (left (goldenAt left f lo hi n)) (goldenAt left f lo hi n) (goes left n)
 
   -- where no value there is above the larger end's, that is the largest
-  pub ends-largest : (n : ℕ) (c : Float) → ((t : Float) → In lo hi t → T (le (f t) c)) → T (le c (maxOf (f lo) (f hi))) → goldenMax f lo hi n ≡ maxOf (f lo) (f hi)
+  pub ends-largest : (n : ℕ) (c : Float) → ((t : Float) → In lo hi t → T (le (f t) c)) → T (le c (maxOf (f lo) (f hi)))
+      → goldenMax f lo hi n ≡ maxOf (f lo) (f hi)
   ends-largest n c k e = found-ends f lo hi n lo hi (goes rises n) c k e
 
   -- and what holds of every value there holds of the largest

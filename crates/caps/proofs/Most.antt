@@ -24,8 +24,10 @@ module _ (q : Float) (g : T (fits binary64 q)) (p : T (finite q)) (l : T (le O q
   unfolding rootMost ofBits lib.Ieee.units lib.Ieee.size
   root-under h =
       either (λ v. T (le (rootOf q) v)) (le q f1) f1 _ (λ e. below f1 f1 (unfold fits in tt) tt (unfold rootOf rootOfUnits nearestRoot wholeRoot le in tt) e)
-      (λ _. either (λ v. T (le (rootOf q) v)) (le q root12) root6 _ (λ e. below root12 root6 (unfold fits in tt) tt (unfold rootOf rootOfUnits nearestRoot wholeRoot le in tt) e)
-      (λ _. either (λ v. T (le (rootOf q) v)) (le q square12) root12 root22 (λ e. below square12 root12 (unfold fits in tt) tt (unfold rootOf rootOfUnits nearestRoot wholeRoot le in tt) e)
+      (λ _. either (λ v. T (le (rootOf q) v)) (le q root12) root6 _
+      (λ e. below root12 root6 (unfold fits in tt) tt (unfold rootOf rootOfUnits nearestRoot wholeRoot le in tt) e)
+      (λ _. either (λ v. T (le (rootOf q) v)) (le q square12) root12 root22
+      (λ e. below square12 root12 (unfold fits in tt) tt (unfold rootOf rootOfUnits nearestRoot wholeRoot le in tt) e)
       (λ _. below square22 root22 (unfold fits in tt) tt (unfold rootOf rootOfUnits nearestRoot wholeRoot le in tt) h)))
 
 pub most-finite : (q : Float) → T (finite (rootMost q)) × T (le (rootMost q) R)

@@ -1,4 +1,5 @@
--- A search looks only at places in the bracket that it has come to. So once no value there matters it may be given up: what it would have found adds nothing to the larger end's value.
+-- A search looks only at places in the bracket that it has come to.
+-- So once no value there matters it may be given up: what it would have found adds nothing to the larger end's value.
 use mathlib.Core.Bool.{Bool, true, false}
 use mathlib.Core.Path.{_≡_, refl, ap, sym, _∙_, subst}
 use Prim.Native.Nat.{ℕ, zero, suc, _≤_}
@@ -35,7 +36,8 @@ module _ (f : Float → Float) (lo hi : Float) where
   values (suc n) = valued (rises (goldenAt rises f lo hi n)) (goldenAt rises f lo hi n) (values n)
 
   -- a search that is not given up finds the largest, from the larger end's value
-  pub found-last : (n m : ℕ) (g : Golden) → n ≤ m → m ≤ n → g ≡ goldenAt rises f lo hi n → (e v r : Float) → e ≡ maxOf (f lo) (f hi) → v ≡ maxOf e (g .f1) → r ≡ maxOf v (g .f2) → r ≡ goldenMax f lo hi m
+  pub found-last : (n m : ℕ) (g : Golden) → n ≤ m → m ≤ n → g ≡ goldenAt rises f lo hi n → (e v r : Float) → e ≡ maxOf (f lo) (f hi) → v ≡ maxOf e (g .f1)
+      → r ≡ maxOf v (g .f2) → r ≡ goldenMax f lo hi m
   unfolding goldenMax bestOf
   found-last n m g below done here e v r p q s = let z : n ≡ m = omega arith in rw (s, q, p, here, z)
 
@@ -80,9 +82,11 @@ module _ (f : Float → Float) (lo hi : Float) where
       narrow-ends = found-ends f lo hi m (g .a) (g .b) still c under
 
       -- F makes nothing of a value up to c, nor of a NaN
-      pub given-up : {A : Type 0} (F : Float → A) (d : A) → ((x : Float) → T (le x c) → F x ≡ d) → ((x : Float) → isNan x ≡ true → F x ≡ d) → F (maxOf (f lo) (f hi)) ≡ F (goldenMax f lo hi m)
+      pub given-up : {A : Type 0} (F : Float → A) (d : A) → ((x : Float) → T (le x c) → F x ≡ d) → ((x : Float) → isNan x ≡ true → F x ≡ d)
+          → F (maxOf (f lo) (f hi)) ≡ F (goldenMax f lo hi m)
       given-up F d low none =
           let e = maxOf (f lo) (f hi) in
           by-test (lt c e)
           (λ l. ap F (sym (narrow-ends (lt-le c e l))))
-          (λ l. let k = by-test (isNan e) (none e) (λ r. low e (not-less c e (number-of _ _ (under (g .x1) (narrow .x1)) .1) r l)) in k ∙ sym (narrow-in (λ x. F x ≡ d) k (λ t j. low (f t) (under t j))))
+          (λ l. let k = by-test (isNan e) (none e) (λ r. low e (not-less c e (number-of _ _ (under (g .x1) (narrow .x1)) .1) r l)) in k
+          ∙ sym (narrow-in (λ x. F x ≡ d) k (λ t j. low (f t) (under t j))))

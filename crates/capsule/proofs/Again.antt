@@ -28,7 +28,8 @@ module _ (k : Capsule) where
 
   had-on : (c : Contact) (v u : Point) → Had c v → Had (offerOf k c u) v
   unfolding offerOf
-  had-on c v u h i = either (λ d. Settled d (v .z)) (inCapsule k (u .x) (u .y)) (takeOf c (u .z) (u .touch)) c (λ _. stays c (v .z) (u .z) (u .touch) (h i)) (λ _. h i)
+  had-on c v u h i = either (λ d. Settled d (v .z)) (inCapsule k (u .x) (u .y)) (takeOf c (u .z) (u .touch)) c
+      (λ _. stays c (v .z) (u .z) (u .touch) (h i)) (λ _. h i)
 
   had-same : (c : Contact) (v : Point) → Had c v → offerOf k c v ≡ c
   unfolding offerOf
@@ -58,7 +59,8 @@ module _ (k : Capsule) where
       ap (λ d. offeredAll k d vs) (had-same c v (h v (List·Memᴰ·head refl))) ∙ held-same c vs (λ u m. h u (List·Memᴰ·tail m))
 
   -- a point that was offered changes nothing
-  pub again : (c : Contact) (vs us : List Point) (v : Point) → List·Memᴰ v vs → offerOf k (offeredAll k (offeredAll k c vs) us) v ≡ offeredAll k (offeredAll k c vs) us
+  pub again : (c : Contact) (vs us : List Point) (v : Point) → List·Memᴰ v vs
+      → offerOf k (offeredAll k (offeredAll k c vs) us) v ≡ offeredAll k (offeredAll k c vs) us
   again c vs us v m = had-same _ v (held-on (offeredAll k c vs) vs us (held-now c vs) v m)
 
   -- nor does a list that was offered

@@ -15,7 +15,8 @@ use Rattle.capsule.specs.declared.Capsule.{Capsule}
 use Rattle.capsule.specs.declared.Edge.{Edge}
 use Rattle.capsule.specs.declared.Point.{Point}
 use Rattle.capsule.specs.Region.{offerOf, offeredAll}
-use Rattle.capsule.specs.Candidates.{each, onEdge, pointOn, reached, squared, solved, circled, ends, sided, sides, crossed, corners, edges, inner, candidates}
+use Rattle.capsule.specs.Candidates.{each, onEdge, pointOn, reached, squared, solved, circled, ends, sided}
+use Rattle.capsule.specs.Candidates.{sides, crossed, corners, edges, inner, candidates}
 
 pub offeredAll-append : (k : Capsule) (c : Contact) (xs ys : List Point) → offeredAll k c (xs ++ ys) ≡ offeredAll k (offeredAll k c xs) ys
 unfolding offeredAll

@@ -33,7 +33,8 @@ use Rattle.capsule.specs.declared.Point.{Point}
 use Rattle.capsule.specs.declared.Edge.{Edge}
 use Rattle.capsule.specs.declared.Rise.{Rise}
 use Rattle.capsule.specs.Region.{inCapsule, offerOf, offeredAll}
-use Rattle.capsule.specs.Candidates.{each, cornerA, cornerB, cornerC, corners, edgeOf, edges, onEdge, pointOn, reached, squared, solved, circled, ends, sided, sides, crossed, tangents, flank, flanks, places, candidates, highestIn}
+use Rattle.capsule.specs.Candidates.{each, cornerA, cornerB, cornerC, corners, edgeOf, edges, onEdge, pointOn, reached, squared, solved, circled}
+use Rattle.capsule.specs.Candidates.{ends, sided, sides, crossed, tangents, flank, flanks, places, candidates, highestIn}
 use Rattle.capsule.specs.Inside.{onTop, Higher, NotAbove, Outside, Away, Ordinary, centre, Single, firsts}
 use Rattle.capsule.proofs.Gathering.{offeredAll-append, both}
 use Rattle.capsule.proofs.Again.{Held, held-on, held-now, held-same}
@@ -220,7 +221,8 @@ module _ (k : Capsule) (t : Triangle) where
       let p = crossed-kept k e c (far-kept k c e (u .ab)) in
       let q = crossed-kept k f c (far-kept k c f (u .bc)) in
       let r = crossed-kept k g c (far-kept k c g (u .ca)) in
-      both k c c c (crossed k e) (crossed k f ++ (crossed k g ++ [])) (sym p) (both k c c c (crossed k f) (crossed k g ++ []) (sym q) (both k c c c (crossed k g) [] (sym r) refl))
+      both k c c c (crossed k e) (crossed k f ++ (crossed k g ++ [])) (sym p)
+      (both k c c c (crossed k f) (crossed k g ++ []) (sym q) (both k c c c (crossed k g) [] (sym r) refl))
 
 -- ---- the extreme points of a single point: the same place changes nothing
 module _ (k : Capsule) (f : Place → List Point) where
@@ -285,12 +287,14 @@ module _ (k : Capsule) (h : Rise) (f : Place → List Point) (c m : Contact) (p 
   unfolding firsts each offeredAll
   first-alone g = rw g (centre-taken ∙ sym (takes-on k f c (centre k) []))
 
-  pub first-two : (r : Contact) (t : Place) → lt f0 (h .g) ≡ true → t ≡ record { x = k .px ⊕ h .x; y = k .py ⊕ h .y } → r ≡ offeredAll k m (f t) → r ≡ offeredAll k c (each f (firsts k h))
+  pub first-two : (r : Contact) (t : Place) → lt f0 (h .g) ≡ true → t ≡ record { x = k .px ⊕ h .x; y = k .py ⊕ h .y } → r ≡ offeredAll k m (f t)
+      → r ≡ offeredAll k c (each f (firsts k h))
   unfolding firsts each offeredAll
   first-two r t g i j =
       rw g
       (j ∙ (ap (λ x. offeredAll k m (f x)) i ∙ (ap (λ d. offeredAll k d (f (record { x = k .px ⊕ h .x; y = k .py ⊕ h .y }))) centre-taken
-      ∙ sym (takes-on k f c (centre k) (record { x = k .px ⊕ h .x; y = k .py ⊕ h .y } ∷ []) ∙ takes-on k f (offeredAll k c (f (centre k))) (record { x = k .px ⊕ h .x; y = k .py ⊕ h .y }) []))))
+      ∙ sym (takes-on k f c (centre k) (record { x = k .px ⊕ h .x; y = k .py ⊕ h .y } ∷ [])
+      ∙ takes-on k f (offeredAll k c (f (centre k))) (record { x = k .px ⊕ h .x; y = k .py ⊕ h .y }) []))))
 
 -- ---- a way of no length
 record None (x : Float) : Type 0 where

@@ -26,7 +26,8 @@ front-is xs old t h e f g =
     (λ q. f p q ∙ sym (List·getD-append xs (drop k old) 0 p q))
     (λ q.
     let d : k + (p - k) ≡ p = omega arith in
-    g p q ∙ sym (ap (λ (x : ℕ). getD (xs ++ drop k old) x 0) (sym d) ∙ getD-append-add xs (drop k old) (p - k) 0 ∙ getD-drop k old (p - k) 0 ∙ ap (λ (x : ℕ). getD old x 0) d)))
+    g p q ∙ sym (ap (λ (x : ℕ). getD (xs ++ drop k old) x 0) (sym d) ∙ getD-append-add xs (drop k old) (p - k) 0 ∙ getD-drop k old (p - k) 0
+    ∙ ap (λ (x : ℕ). getD old x 0) d)))
 
 module _ (f : ℕ → ℕ) where
   pub entries-length : (k : ℕ) → length (entries f k) ≡ k
@@ -40,7 +41,8 @@ module _ (f : ℕ → ℕ) where
   entries-at (suc k) c h =
       by-lt c k
       (λ l. List·getD-append (entries f k) (f k ∷ []) 0 c (omega (arith, entries-length k)) ∙ entries-at k c l)
-      (λ l. let e : c ≡ length (entries f k) = omega (arith, entries-length k) in (rw e (getD-append-seam (entries f k) (f k) [] 0)) ∙ ap f (sym (entries-length k) ∙ sym e))
+      (λ l. let e : c ≡ length (entries f k) = omega (arith, entries-length k) in (rw e (getD-append-seam (entries f k) (f k) [] 0))
+      ∙ ap f (sym (entries-length k) ∙ sym e))
 
   pub entries-are : (k : ℕ) (old t : List ℕ) → k ≤ length old → length t ≡ length old
       → ((c : ℕ) → c < k → getD t c 0 ≡ f c) → ((c : ℕ) → k ≤ c → getD t c 0 ≡ getD old c 0) → t ≡ entries f k ++ drop k old

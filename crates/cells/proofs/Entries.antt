@@ -177,7 +177,8 @@ pub summed-as : (k k′ : ℕ) (s s′ : List ℕ) → k ≡ k′ → Summed k s
 summed-as k k′ s s′ e p = rw e at p
 
 -- cells that were not reached yet are still open
-pub open-part : (on part done : Set) (i : ℕ) (s₀ m₀ s m : List ℕ) → ((c : ℕ) → part c ≡ true → (on c ≡ true) × (weight (done c) ≡ 0)) → Open on s₀ m₀ → Placed done i s₀ m₀ s m → Open part s m
+pub open-part : (on part done : Set) (i : ℕ) (s₀ m₀ s m : List ℕ) → ((c : ℕ) → part c ≡ true → (on c ≡ true) × (weight (done c) ≡ 0)) → Open on s₀ m₀
+    → Placed done i s₀ m₀ s m → Open part s m
 open-part on part done i s₀ m₀ s m h o p =
     record {
       inside = λ c e. omega (arith, o .inside c (h c e .0), p .cells);

@@ -30,7 +30,14 @@ module _ (on : Cover) (n cells : ℕ) (s₀ m₀ : List ℕ) (ready : Ready on n
         inside = λ c e. omega (arith, ready .inside j c l e, ready .table, p .cells′);
         some = λ c e. omega (arith, p .each c (ready .inside j c l e), members-more on j c, weight-on _ e);
         room = λ c e.
-            omega (arith, p .each c (ready .inside j c l e), members-mono on (j + 1) n c (omega arith), cell-before on n c cells (ready .inside j c l e), ready .room, p .size);
+            omega (
+              arith,
+              p .each c (ready .inside j c l e),
+              members-mono on (j + 1) n c (omega arith),
+              cell-before on n c cells (ready .inside j c l e),
+              ready .room,
+              p .size,
+            );
       }
 
   module _ (j : ℕ) (s m s′ m′ : List ℕ) (l : j < n) (p : Filled on n cells (j + 1) s₀ m₀ s m) (q : Placed (on j) j s m s′ m′) where
@@ -39,13 +46,15 @@ module _ (on : Cover) (n cells : ℕ) (s₀ m₀ : List ℕ) (ready : Ready on n
     moved c h = omega (arith, p .each c h, q .each c, members-more on j c)
 
     -- triangle j's place in a covered cell lies inside that cell's stretch
-    taken : (c : ℕ) → on j c ≡ true → (c < cells) × (getD s′ c 0 ≡ startOf on n c + length (membersOf on j c)) × (length (membersOf on j c) < length (membersOf on n c))
+    taken : (c : ℕ) → on j c ≡ true → (c < cells) × (getD s′ c 0 ≡ startOf on n c + length (membersOf on j c))
+        × (length (membersOf on j c) < length (membersOf on n c))
     taken c e =
         let h = ready .inside j c l e in
         (h, moved c h, omega (arith, members-more on j c, members-mono on (j + 1) n c (omega arith), weight-on _ e))
 
     -- and nobody stood there
-    not-taken : (c k d : ℕ) → c < cells → length (membersOf on (j + 1) c) ≤ k → k < length (membersOf on n c) → on j d ≡ true → getD s′ d 0 ≡ startOf on n c + k → ⊥
+    not-taken : (c k d : ℕ) → c < cells → length (membersOf on (j + 1) c) ≤ k → k < length (membersOf on n c) → on j d ≡ true
+        → getD s′ d 0 ≡ startOf on n c + k → ⊥
     not-taken c k d h a b e f =
         let t = taken d e in
         by-lt c d

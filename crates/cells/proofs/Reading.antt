@@ -48,7 +48,13 @@ module _ (on : Cover) (n : ℕ) where
         let e : listed on n cells ++ d ≡ listed on n c ++ (x ++ (r .0 ++ d)) =
         ap (λ (y : List ℕ). y ++ d) (r .1) ∙ regroup (listed on n c) x (r .0) d in
         let k : startOf on n (c + 1) - startOf on n c ≡ length x = omega (arith, start-more on n c) in
-        rw (start-at (c + 1) (omega arith), start-at c (omega arith), k, e, drop-at (listed on n c) (x ++ (r .0 ++ d)) (startOf on n c) (unfold startOf in refl))
+        rw (
+          start-at (c + 1) (omega arith),
+          start-at c (omega arith),
+          k,
+          e,
+          drop-at (listed on n c) (x ++ (r .0 ++ d)) (startOf on n c) (unfold startOf in refl),
+        )
         (take-at x (r .0 ++ d) (length x) refl)
 
     -- there is a start for each cell and one for the end; they rise, and end within the members

@@ -152,26 +152,55 @@ row-more columns b y hx hl hh c =
     let lo = y * columns + b .left in
     let hi = y * columns + b .right + 1 in
     by-lt q y
-    (λ l. omega (arith, under-all columns b c (y + 1) (omega arith), under-all columns b c y l, under-between lo hi c (omega (arith, row-before columns q y l))))
+    (λ l. omega (
+      arith,
+      under-all columns b c (y + 1) (omega arith),
+      under-all columns b c y l,
+      under-between lo hi c (omega (arith, row-before columns q y l)),
+    ))
     (λ l.
     by-lt y q
-    (λ g. omega (arith, under-none columns b c (y + 1) (omega arith), under-none columns b c y l, over-between lo hi c (omega (arith, row-before columns y q g))))
+    (λ g. omega (
+      arith,
+      under-none columns b c (y + 1) (omega arith),
+      under-none columns b c y l,
+      over-between lo hi c (omega (arith, row-before columns y q g)),
+    ))
     (λ g.
     let e : q ≡ y = omega arith in
     let d′ : y * columns + r ≡ c = rw (← e) d in
     by-lt r (b .left)
-    (λ k. omega (arith, under-all columns b c (y + 1) (omega arith), weight-off _ (left-of columns b c k), under-none columns b c y l, under-between lo hi c (omega arith)))
+    (λ k. omega (
+      arith,
+      under-all columns b c (y + 1) (omega arith),
+      weight-off _ (left-of columns b c k),
+      under-none columns b c y l,
+      under-between lo hi c (omega arith),
+    ))
     (λ k.
     by-lt (b .right) r
-    (λ n. omega (arith, under-all columns b c (y + 1) (omega arith), weight-off _ (right-of columns b c n), under-none columns b c y l, over-between lo hi c (omega arith)))
-    (λ n. omega (arith, under-all columns b c (y + 1) (omega arith), weight-on _ (covered columns b c k n (omega arith) (omega arith)), under-none columns b c y l, in-between lo hi c (omega arith) (omega arith))))))
+    (λ n. omega (
+      arith,
+      under-all columns b c (y + 1) (omega arith),
+      weight-off _ (right-of columns b c n),
+      under-none columns b c y l,
+      over-between lo hi c (omega arith),
+    ))
+    (λ n. omega (
+      arith,
+      under-all columns b c (y + 1) (omega arith),
+      weight-on _ (covered columns b c k n (omega arith) (omega arith)),
+      under-none columns b c y l,
+      in-between lo hi c (omega arith) (omega arith),
+    )))))
 
 -- cell numbers fit
 pub row-fits : (columns y : ℕ) → columns ≤ 65536 → y < 65536 → y * columns ≤ 65536 * 65536
 row-fits columns y h k = omega (arith, mul-le-mul-right {m = y} {n = 65536} columns (omega arith))
 
 -- a row's cells are covered
-pub row-covered : (columns : ℕ) (b : Cells) (y c : ℕ) → b .right < columns → b .bottom ≤ y → y ≤ b .top → between (y * columns + b .left) (y * columns + b .right + 1) c ≡ true → covers columns b c ≡ true
+pub row-covered : (columns : ℕ) (b : Cells) (y c : ℕ) → b .right < columns → b .bottom ≤ y → y ≤ b .top
+    → between (y * columns + b .left) (y * columns + b .right + 1) c ≡ true → covers columns b c ≡ true
 row-covered columns b y c hx hl hh e =
     by-test (covers columns b c) (λ t. t)
     (λ f.
@@ -181,7 +210,8 @@ row-covered columns b y c hx hl hh e =
     (λ l. omega (arith, row-more columns b y hx hl hh c, weight-on _ e, under-none columns b c (y + 1) l))))
 
 -- and new
-pub row-new : (columns : ℕ) (b : Cells) (y c : ℕ) → b .right < columns → b .bottom ≤ y → y ≤ b .top → between (y * columns + b .left) (y * columns + b .right + 1) c ≡ true → weight (rowsUnder columns b y c) ≡ 0
+pub row-new : (columns : ℕ) (b : Cells) (y c : ℕ) → b .right < columns → b .bottom ≤ y → y ≤ b .top
+    → between (y * columns + b .left) (y * columns + b .right + 1) c ≡ true → weight (rowsUnder columns b y c) ≡ 0
 row-new columns b y c hx hl hh e = omega (arith, row-more columns b y hx hl hh c, weight-on _ e, weight-le (rowsUnder columns b (y + 1) c))
 
 -- an end before the begin covers nothing
@@ -203,5 +233,6 @@ rows-all columns b y c h =
     (λ l. under-none columns b c y l ∙ sym (weight-off _ (above columns b c (omega arith))))
 
 -- where the loop over the rows ends
-pub rows-end : (columns : ℕ) (b : Cells) (y c : ℕ) → b .top + 1 ≤ y → y ≤ max (b .bottom) (b .top + 1) → weight (rowsUnder columns b y c) ≡ weight (covers columns b c)
+pub rows-end : (columns : ℕ) (b : Cells) (y c : ℕ) → b .top + 1 ≤ y → y ≤ max (b .bottom) (b .top + 1)
+    → weight (rowsUnder columns b y c) ≡ weight (covers columns b c)
 rows-end columns b y c h k = rows-all columns b y c (omega arith)

@@ -57,7 +57,8 @@ module _ (columns : ℕ) (b : Cells) (k : ℕ) (right : b .right < columns) (som
       rw (e, suc-mul d)
       (omega (
         arith,
-        size-split (rowsUnder columns b y) (between (y * columns + b .left) (y * columns + b .right + 1)) (rowsUnder columns b (y + 1)) k (row-more columns b y right (omega arith) (omega arith)),
+        size-split (rowsUnder columns b y) (between (y * columns + b .left) (y * columns + b .right + 1)) (rowsUnder columns b (y + 1)) k
+            (row-more columns b y right (omega arith) (omega arith)),
         size-rows d (omega arith),
         size-between (y * columns + b .left) (y * columns + b .right + 1) k (omega arith),
       ))
@@ -102,8 +103,13 @@ module _ (on : Cover) where
   unfolding startOf listed sums
   start-triangle n zero = omega arith
   start-triangle n (suc k) =
-      omega
-      (arith, length-append (listed on (suc n) k) (membersOf on (suc n) k), length-append (listed on n k) (membersOf on n k), start-triangle n k, members-suc on n k)
+      omega (
+        arith,
+        length-append (listed on (suc n) k) (membersOf on (suc n) k),
+        length-append (listed on n k) (membersOf on n k),
+        start-triangle n k,
+        members-suc on n k,
+      )
 
 -- all members, triangle by triangle
 module _ (on : Cover) (columns rows : ℕ) (box : ℕ → Cells) (same : (i c : ℕ) → on i c ≡ covers columns (box i) c)

@@ -53,7 +53,8 @@ unfolding ne
 not-same x y e f p = let z : eq x x ≡ false = ap (eq x) p ∙ e in no (sym f ∙ ap not z)
 
 -- ---- boxes
-pub box-is : (b c : Bounds) → b .«low_x» ≡ c .«low_x» → b .«low_y» ≡ c .«low_y» → b .«high_x» ≡ c .«high_x» → b .«high_y» ≡ c .«high_y» → b .top ≡ c .top → b ≡ c
+pub box-is : (b c : Bounds) → b .«low_x» ≡ c .«low_x» → b .«low_y» ≡ c .«low_y» → b .«high_x» ≡ c .«high_x» → b .«high_y» ≡ c .«high_y»
+    → b .top ≡ c .top → b ≡ c
 box-is b c e₀ e₁ e₂ e₃ e₄ =
     ap (λ (u : Float). record { «low_x» = u; «low_y» = b .«low_y»; «high_x» = b .«high_x»; «high_y» = b .«high_y»; top = b .top }) e₀
     ∙ ap (λ (u : Float). record { «low_x» = c .«low_x»; «low_y» = u; «high_x» = b .«high_x»; «high_y» = b .«high_y»; top = b .top }) e₁
@@ -85,19 +86,22 @@ module _ (mesh boxes : List Float) (n : ℕ) (l : length boxes ≡ n * 5) where
 
 -- ---- the cells of a box, axis by axis
 module _ (g : Grid) (b B : Bounds) (p : b ≡ B) (s : Stretch) (k : ℕ) where
-  pub columns-of : s ≡ stretchOf (g .x) (g .size) (g .columns) (b .«low_x») (b .«high_x») → isFrom (s .first) (s .last) k ≡ isFrom (cellsUnder g B .left) (cellsUnder g B .right) k
+  pub columns-of : s ≡ stretchOf (g .x) (g .size) (g .columns) (b .«low_x») (b .«high_x»)
+      → isFrom (s .first) (s .last) k ≡ isFrom (cellsUnder g B .left) (cellsUnder g B .right) k
   unfolding cellsUnder
   columns-of q =
       ap (λ (v : Stretch). isFrom (v .first) (v .last) k) (q ∙ ap (λ (v : Bounds). stretchOf (g .x) (g .size) (g .columns) (v .«low_x») (v .«high_x»)) p)
 
-  pub rows-of : s ≡ stretchOf (g .y) (g .size) (g .rows) (b .«low_y») (b .«high_y») → isFrom (s .first) (s .last) k ≡ isFrom (cellsUnder g B .bottom) (cellsUnder g B .top) k
+  pub rows-of : s ≡ stretchOf (g .y) (g .size) (g .rows) (b .«low_y») (b .«high_y»)
+      → isFrom (s .first) (s .last) k ≡ isFrom (cellsUnder g B .bottom) (cellsUnder g B .top) k
   unfolding cellsUnder
   rows-of q =
       ap (λ (v : Stretch). isFrom (v .first) (v .last) k) (q ∙ ap (λ (v : Bounds). stretchOf (g .y) (g .size) (g .rows) (v .«low_y») (v .«high_y»)) p)
 
 -- ---- headers
 module _ (mesh : List Float) (n : ℕ) (g : Grid) (h : Header) where
-  pub header-is : (h .n ≡ n) × (h .columns ≡ g .columns) × (h .rows ≡ g .rows) → (h .«origin_x» ≡ g .x) × (h .«origin_y» ≡ g .y) → (h .cell ≡ g .size) × (h .eps ≡ epsOf mesh n)
+  pub header-is : (h .n ≡ n) × (h .columns ≡ g .columns) × (h .rows ≡ g .rows) → (h .«origin_x» ≡ g .x) × (h .«origin_y» ≡ g .y)
+      → (h .cell ≡ g .size) × (h .eps ≡ epsOf mesh n)
       → h ≡ headerOf mesh n g (h .floor) (h .r)
   unfolding headerOf
   header-is (a, b, c) (d, e) (f, i) = rw (← i, ← a, ← b, ← c, ← d, ← e, ← f) refl

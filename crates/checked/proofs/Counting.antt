@@ -1,5 +1,5 @@
--- Numbers that rise, are below n and cover a cell are no more than the cell has members, and if they are as many, they are its members. So where every cell holds
--- such numbers and all together are as many as there should be, none is missing in any cell.
+-- Numbers that rise, are below n and cover a cell are no more than the cell has members, and if they are as many, they are its members. So where every cell
+-- holds such numbers and all together are as many as there should be, none is missing in any cell.
 use mathlib.Core.Bool.{Bool, true, false, _&&_}
 use mathlib.Core.List.{List, [], _∷_, _++_, append-nil}
 use mathlib.Core.Path.{_≡_, refl, ap, ap₂, sym, _∙_}
@@ -47,7 +47,8 @@ module _ (on : ℕ → Bool) where
 
 -- the next number decides, or the rest does
 module _ (on : ℕ → Bool) (n low j : ℕ) (part : List ℕ) (l : j < length part) where
-  cut : risesFrom on n low (drop j part) ≡ (leb low (getD part j 0) && (ltb (getD part j 0) n && (on (getD part j 0) && risesFrom on n (getD part j 0 + 1) (drop (j + 1) part))))
+  cut : risesFrom on n low (drop j part)
+      ≡ (leb low (getD part j 0) && (ltb (getD part j 0) n && (on (getD part j 0) && risesFrom on n (getD part j 0 + 1) (drop (j + 1) part))))
   unfolding risesFrom
   cut = ap (risesFrom on n low) (drop-cons part j 0 l) ∙ ap (λ (k : ℕ). risesFrom on n low (getD part j 0 ∷ drop k part)) (sym (add-one j))
 
@@ -60,7 +61,8 @@ module _ (on : ℕ → Bool) (n low j : ℕ) (part : List ℕ) (l : j < length p
   pub outside : on (getD part j 0) ≡ false → false ≡ risesFrom on n low (drop j part)
   outside h = sym (cut ∙ off-right (leb low (getD part j 0)) _ (off-right (ltb (getD part j 0) n) _ (sym (and-off _ _ _ h refl))))
 
-  pub goes-on : low ≤ getD part j 0 → getD part j 0 < n → on (getD part j 0) ≡ true → risesFrom on n (getD part j 0 + 1) (drop (j + 1) part) ≡ risesFrom on n low (drop j part)
+  pub goes-on : low ≤ getD part j 0 → getD part j 0 < n → on (getD part j 0) ≡ true
+      → risesFrom on n (getD part j 0 + 1) (drop (j + 1) part) ≡ risesFrom on n low (drop j part)
   goes-on a b c = sym (cut ∙ (rw (le-leb low (getD part j 0) a, lt-ltb (getD part j 0) n b, c) refl))
 
 pub at-end : (on : ℕ → Bool) (n low j : ℕ) (part : List ℕ) → length part ≤ j → true ≡ risesFrom on n low (drop j part)
@@ -119,7 +121,8 @@ module _ (on : Cover) (c : ℕ) where
         omega (arith, r .0, m, w, o),
         λ q.
             let v = same-below low i (a .0) (omega (arith, q, r .0, m, w, o)) in
-            ap (λ (l : List ℕ). l ++ (i ∷ xs)) (sym v) ∙ sym (append-snoc (membersOf on i c) i xs) ∙ ap (λ (l : List ℕ). l ++ xs) (sym (with-one i (a .2))) ∙ r .1 (omega (arith, q, r .0, m, w, o)),
+            ap (λ (l : List ℕ). l ++ (i ∷ xs)) (sym v) ∙ sym (append-snoc (membersOf on i c) i xs) ∙ ap (λ (l : List ℕ). l ++ xs) (sym (with-one i (a .2)))
+            ∙ r .1 (omega (arith, q, r .0, m, w, o)),
       )
 
   -- the members themselves rise

@@ -20,7 +20,8 @@ use Rattle.rules.specs.Ladder.{demand, refuse}
 use Rattle.grid.specs.Grid.{trianglesIn, gridOf, cellsIn, coverOf}
 use Rattle.grid.specs.Boxes.{isBoxed, boxesOf}
 use Rattle.grid.specs.Header.{headerOf}
-use Rattle.grid.specs.Build.{isNowhere, refusalOfNumbers, refusalOfMesh, refusalOfGrid, refusalOfMembers, Outcome, outcome, refusedBy, acceptedWith, unless, filledOf, gridded, buildOf}
+use Rattle.grid.specs.Build.{isNowhere, refusalOfNumbers, refusalOfMesh, refusalOfGrid, refusalOfMembers, Outcome}
+use Rattle.grid.specs.Build.{outcome, refusedBy, acceptedWith, unless, filledOf, gridded, buildOf}
 use Rattle.grid.specs.Index.{Index, BuiltFrom}
 use Rattle.grid.proofs.Boxing.{boxes-length}
 use Rattle.grid.proofs.Accepting.{accepted, passed, members-fit, unless-next}
@@ -67,15 +68,22 @@ module _ (on : Cover) (n cells : ℕ) (old : List ℕ) where
   starts-again : startsOf on n cells (startsOf on n cells old) ≡ startsOf on n cells old
   unfolding startsOf
   starts-again =
-      ap (λ (t : List ℕ). entries (startOf on n) (suc cells) ++ t) (drop-at (entries (startOf on n) (suc cells)) (drop (suc cells) old) (suc cells) (entries-length (startOf on n) (suc cells)))
+      ap (λ (t : List ℕ). entries (startOf on n) (suc cells) ++ t)
+      (drop-at (entries (startOf on n) (suc cells)) (drop (suc cells) old) (suc cells) (entries-length (startOf on n) (suc cells)))
 
   members-again : membersTable on n cells (membersTable on n cells old) ≡ membersTable on n cells old
   unfolding membersTable startOf
-  members-again = ap (λ (t : List ℕ). listed on n cells ++ t) (drop-at (listed on n cells) (drop (length (listed on n cells)) old) (length (listed on n cells)) refl)
+  members-again = ap (λ (t : List ℕ). listed on n cells ++ t)
+      (drop-at (listed on n cells) (drop (length (listed on n cells)) old) (length (listed on n cells)) refl)
 
   starts-long : cells + 1 ≤ length old → length (startsOf on n cells old) ≡ length old
   unfolding startsOf
-  starts-long h = omega (arith, length-append (entries (startOf on n) (suc cells)) (drop (suc cells) old), entries-length (startOf on n) (suc cells), length-drop (suc cells) old)
+  starts-long h = omega (
+    arith,
+    length-append (entries (startOf on n) (suc cells)) (drop (suc cells) old),
+    entries-length (startOf on n) (suc cells),
+    length-drop (suc cells) old,
+  )
 
   members-long : startOf on n cells ≤ length old → length (membersTable on n cells old) ≡ length old
   unfolding membersTable startOf
@@ -93,7 +101,8 @@ cut k p s m x next h s′ m′ x′ e =
     absurd (eqb-false k 0 t (ap (λ (o : Outcome). o .built .refusal) u)))
 
 -- outcomes of the same parts
-same-outcome : (h h′ : Header) (s s′ m m′ : List ℕ) (x x′ : List Float) → h ≡ h′ → s ≡ s′ → m ≡ m′ → x ≡ x′ → outcome (acceptedWith h) s m x ≡ outcome (acceptedWith h′) s′ m′ x′
+same-outcome : (h h′ : Header) (s s′ m m′ : List ℕ) (x x′ : List Float) → h ≡ h′ → s ≡ s′ → m ≡ m′ → x ≡ x′
+    → outcome (acceptedWith h) s m x ≡ outcome (acceptedWith h′) s′ m′ x′
 same-outcome h h′ s s′ m m′ x x′ a b c d = rw (a, b, c, d) refl
 
 boxed-as : (mesh : List Float) (floor r : Float) (x y : List Float) → length x ≡ length y → refusalOfMesh mesh floor r x ≡ refusalOfMesh mesh floor r y
@@ -117,7 +126,8 @@ module _ (ix : Index) where
       (unless-next _ _ (ix .starts) (ix .members) (ix .boxes) _ _ (i .tables .few)
       (same-outcome _ _ _ _ _ _ _ _ (i .header) (i .tables .starts) (i .tables .members) (i .boxes))))
 
-  pub from-same : refusalOfMesh (ix .mesh) (ix .header .floor) (ix .header .r) (ix .boxes) ≡ 0 → SameIndex count (gridOf (ix .mesh) count (ix .header .r)) ix → BuiltFrom ix
+  pub from-same : refusalOfMesh (ix .mesh) (ix .header .floor) (ix .header .r) (ix .boxes) ≡ 0
+      → SameIndex count (gridOf (ix .mesh) count (ix .header .r)) ix → BuiltFrom ix
   from-same z i =
       record {
         floor = ix .header .floor;
@@ -145,8 +155,10 @@ module _ (ix : Index) where
     abbrev on : Cover
     on = coverOf (ix .mesh) grid
 
-    facts : refusalOfMesh (ix .mesh) floor r x ≡ 0 → refusalOfGrid (grid .columns) (grid .rows) (length s) ≡ 0 → refusalOfMembers (startOf on count (cellsIn grid)) (length m) ≡ 0
-        → outcome (acceptedWith (headerOf (ix .mesh) count grid floor r)) (startsOf on count (cellsIn grid) s) (membersTable on count (cellsIn grid) m) (boxesOf (ix .mesh) count) ≡ own
+    facts : refusalOfMesh (ix .mesh) floor r x ≡ 0 → refusalOfGrid (grid .columns) (grid .rows) (length s) ≡ 0
+        → refusalOfMembers (startOf on count (cellsIn grid)) (length m) ≡ 0
+        → outcome (acceptedWith (headerOf (ix .mesh) count grid floor r)) (startsOf on count (cellsIn grid) s) (membersTable on count (cellsIn grid) m)
+        (boxesOf (ix .mesh) count) ≡ own
         → Facts floor r
     unfolding acceptedWith
     facts a b c e =
@@ -186,7 +198,8 @@ module _ (ix : Index) where
   pub to-same : BuiltFrom ix
       → (refusalOfMesh (ix .mesh) (ix .header .floor) (ix .header .r) (ix .boxes) ≡ 0) × SameIndex count (gridOf (ix .mesh) count (ix .header .r)) ix
   to-same b =
-      let f = its-own (b .floor) (b .r) (b .oldStarts) (b .oldMembers) (b .oldBoxes) (apart (b .floor) (b .r) (b .oldStarts) (b .oldMembers) (b .oldBoxes) (b .built)) in
+      let f = its-own (b .floor) (b .r) (b .oldStarts) (b .oldMembers) (b .oldBoxes)
+      (apart (b .floor) (b .r) (b .oldStarts) (b .oldMembers) (b .oldBoxes) (b .built)) in
       (f .0, record { fits = f .1; header = f .2; boxes = f .3; tables = f .4 })
 
   -- ---- the promise

@@ -26,7 +26,8 @@ use Rattle.ask.specs.declared.Finding.the-variants.{Clear, Blocked}
 use Rattle.ask.specs.Ask.{isCorner, refusalOf, begun, Outcome, ended, blockedEarly, ruledBy, rulingOf, askedChord}
 use Rattle.tool.specs.Tool.{sectionsIn, isTool, widestOf, lowestOf}
 use Rattle.chords.proofs.Ruling.{chord-demand, chord-told}
-use Rattle.chords.specs.Chords.{isChord, blockedAtOnce, bullBlocksAt, isRide, bullChordOf, BullChordPromise, toolBlocksAt, sectionsChordOf, SectionsChordPromise}
+use Rattle.chords.specs.Chords.{isChord, blockedAtOnce, bullBlocksAt, isRide, bullChordOf, BullChordPromise}
+use Rattle.chords.specs.Chords.{toolBlocksAt, sectionsChordOf, SectionsChordPromise}
 use Rattle.chords.specs.Inside.{ruledChord}
 
 -- what one member keeps
@@ -41,14 +42,20 @@ module _ (ix : Index) (marks : List ℕ) (stamp : ℕ) (c : Ruling) (o : List �
 
   -- the answer, and what is promised beside it
   module _ (p : Patch) (a b : Bool) where
-    pub bull-answers : (r rc : Float) → p ≡ patchOf (ix .header) (m .ax) (m .ay) (m .bx) (m .by) r → a ≡ isRide m r → b ≡ isCorner r rc → ended c o ≡ askedChord a b (blockedAtOnce (ix .header .floor) m) (bullBlocksAt (ix .mesh) (ix .boxes) m r rc) ix marks stamp p → (ended c o ≡ bullChordOf ix marks stamp m r rc) × BullChordPromise ix marks stamp m r rc c
+    pub bull-answers : (r rc : Float) → p ≡ patchOf (ix .header) (m .ax) (m .ay) (m .bx) (m .by) r → a ≡ isRide m r → b ≡ isCorner r rc
+        → ended c o ≡ askedChord a b (blockedAtOnce (ix .header .floor) m) (bullBlocksAt (ix .mesh) (ix .boxes) m r rc) ix marks stamp p
+        → (ended c o ≡ bullChordOf ix marks stamp m r rc) × BullChordPromise ix marks stamp m r rc c
     unfolding bullChordOf
     bull-answers r rc = chord-told _ _ ix marks stamp (m .ax) (m .ay) (m .bx) (m .by) r o _ _ c p a b
 
-    pub tool-answers : (reach low : Float) (table : List Float) → reach ≡ widestOf table (sectionsIn table) → low ≡ lowestOf table (sectionsIn table) → p ≡ patchOf (ix .header) (m .ax) (m .ay) (m .bx) (m .by) reach → a ≡ isChord m → b ≡ isTool table → ended c o ≡ askedChord a b (blockedAtOnce (ix .header .floor) m) (toolBlocksAt (ix .mesh) (ix .boxes) m low table) ix marks stamp p → (ended c o ≡ sectionsChordOf ix marks stamp m table) × SectionsChordPromise ix marks stamp m table c
+    pub tool-answers : (reach low : Float) (table : List Float) → reach ≡ widestOf table (sectionsIn table)
+        → low ≡ lowestOf table (sectionsIn table) → p ≡ patchOf (ix .header) (m .ax) (m .ay) (m .bx) (m .by) reach → a ≡ isChord m → b ≡ isTool table
+        → ended c o ≡ askedChord a b (blockedAtOnce (ix .header .floor) m) (toolBlocksAt (ix .mesh) (ix .boxes) m low table) ix marks stamp p
+        → (ended c o ≡ sectionsChordOf ix marks stamp m table) × SectionsChordPromise ix marks stamp m table c
     unfolding sectionsChordOf
     tool-answers reach low table r l e f g i =
-        chord-told _ _ ix marks stamp (m .ax) (m .ay) (m .bx) (m .by) _ o _ _ c p a b (e ∙ ap (patchOf (ix .header) (m .ax) (m .ay) (m .bx) (m .by)) r) f g (rw l at i)
+        chord-told _ _ ix marks stamp (m .ax) (m .ay) (m .bx) (m .by) _ o _ _ c p a b (e
+        ∙ ap (patchOf (ix .header) (m .ax) (m .ay) (m .bx) (m .by)) r) f g (rw l at i)
 
 -- ---- where nothing is left to refuse
 module _ (early : Bool) (blocks : ℕ → Bool) (ix : Index) (marks : List ℕ) (stamp : ℕ) (p : Patch) where
@@ -56,7 +63,9 @@ module _ (early : Bool) (blocks : ℕ → Bool) (ix : Index) (marks : List ℕ) 
   unfolding ruledChord rulingOf
   ruled-early b = taken _ _ _ _ b refl
 
-  pub ruled-chased : (next : ℕ) (m m′ : List ℕ) (v : Verdict) (f : Finding) → early ≡ false → next ≡ nextStamp stamp → m ≡ readyMarks marks stamp → judged m′ v ≡ fold (strike next blocks) (judged m (record { count = 0; clear = true })) (within ix p) → f ≡ cond (v .clear) Clear Blocked → ended (record { refusal = 0; finding = f; count = v .count; stamp = next }) m′ ≡ ruledChord early blocks ix marks stamp p
+  pub ruled-chased : (next : ℕ) (m m′ : List ℕ) (v : Verdict) (f : Finding) → early ≡ false → next ≡ nextStamp stamp → m ≡ readyMarks marks stamp
+      → judged m′ v ≡ fold (strike next blocks) (judged m (record { count = 0; clear = true })) (within ix p) → f ≡ cond (v .clear) Clear Blocked
+      → ended (record { refusal = 0; finding = f; count = v .count; stamp = next }) m′ ≡ ruledChord early blocks ix marks stamp p
   unfolding ruledChord rulingOf
   ruled-chased next m m′ v f b g k w r =
       let u : Walk Bool = chased (nextStamp stamp) blocks (begun marks stamp true) (within ix p) in
@@ -67,12 +76,16 @@ module _ (early : Bool) (blocks : ℕ → Bool) (ix : Index) (marks : List ℕ) 
       ∙ ap (λ (x : ℕ). ended (ruledBy u x) (u .marks)) g)
 
   -- a question that was not refused is ruled so
-  pub ruled-asked : (numbers tool : Bool) (n : ℕ) (o : Outcome Ruling) → n ≡ refusalOf numbers tool ix marks stamp p → n ≡ 0 → o ≡ ruledChord early blocks ix marks stamp p → o ≡ askedChord numbers tool early blocks ix marks stamp p
+  pub ruled-asked : (numbers tool : Bool) (n : ℕ) (o : Outcome Ruling) → n ≡ refusalOf numbers tool ix marks stamp p → n ≡ 0
+      → o ≡ ruledChord early blocks ix marks stamp p → o ≡ askedChord numbers tool early blocks ix marks stamp p
   unfolding ruledChord askedChord
-  ruled-asked numbers tool n o e z r = r ∙ ap (λ (k : ℕ). rulingOf k early marks stamp (chased (nextStamp stamp) blocks (begun marks stamp true) (within ix p))) (sym z ∙ e)
+  ruled-asked numbers tool n o e z r = r
+      ∙ ap (λ (k : ℕ). rulingOf k early marks stamp (chased (nextStamp stamp) blocks (begun marks stamp true) (within ix p))) (sym z ∙ e)
 
 -- what an accepted question may rely on
-pub accepted-ready : (numbers tool : Bool) (ix : Index) (marks : List ℕ) (stamp : ℕ) (p : Patch) (n : ℕ) → n ≡ refusalOf numbers tool ix marks stamp p → n ≡ 0 → (p .x1 ≤ ix .header .columns) × (p .y1 ≤ ix .header .rows) → (length (ix .mesh) ≡ length marks * 9) × (length marks ≤ 65536) × Walkable (ix .starts) (ix .members) (length marks) (ix .header .columns) (p .x0) (p .x1) (p .y0) (p .y1) × (length (ix .boxes) ≡ length marks * 5)
+pub accepted-ready : (numbers tool : Bool) (ix : Index) (marks : List ℕ) (stamp : ℕ) (p : Patch) (n : ℕ) → n ≡ refusalOf numbers tool ix marks stamp p
+    → n ≡ 0 → (p .x1 ≤ ix .header .columns) × (p .y1 ≤ ix .header .rows) → (length (ix .mesh) ≡ length marks * 9) × (length marks ≤ 65536)
+    × Walkable (ix .starts) (ix .members) (length marks) (ix .header .columns) (p .x0) (p .x1) (p .y0) (p .y1) × (length (ix .boxes) ≡ length marks * 5)
 accepted-ready numbers tool ix marks stamp p n e z i =
     let a = passed numbers tool ix marks stamp p (sym e ∙ z) in
     let k = a .marked in
@@ -81,7 +94,10 @@ accepted-ready numbers tool ix marks stamp p n e z i =
     (k .nine, k .few, rw s (walkable ix marks stamp p (a .index-stands) (i .0) (i .1)), a .five)
 
 -- the marks of a walk that begins, from those that the question was asked with
-pub begins : (ix : Index) (marks : List ℕ) (stamp next : ℕ) (m : List ℕ) (p : Patch) → m ≡ readyMarks marks stamp → (length (ix .mesh) ≡ length marks * 9) × (length marks ≤ 65536) × Walkable (ix .starts) (ix .members) (length marks) (ix .header .columns) (p .x0) (p .x1) (p .y0) (p .y1) × (length (ix .boxes) ≡ length marks * 5) → (length (ix .mesh) ≡ length m * 9) × Walkable (ix .starts) (ix .members) (length m) (ix .header .columns) (p .x0) (p .x1) (p .y0) (p .y1) × Room next (record { marks = m; count = 0; value = true }) × (length (ix .boxes) ≡ length m * 5)
+pub begins : (ix : Index) (marks : List ℕ) (stamp next : ℕ) (m : List ℕ) (p : Patch) → m ≡ readyMarks marks stamp → (length (ix .mesh) ≡ length marks * 9)
+    × (length marks ≤ 65536) × Walkable (ix .starts) (ix .members) (length marks) (ix .header .columns) (p .x0) (p .x1) (p .y0) (p .y1)
+    × (length (ix .boxes) ≡ length marks * 5) → (length (ix .mesh) ≡ length m * 9) × Walkable (ix .starts) (ix .members) (length m) (ix .header .columns)
+    (p .x0) (p .x1) (p .y0) (p .y1) × Room next (record { marks = m; count = 0; value = true }) × (length (ix .boxes) ≡ length m * 5)
 begins ix marks stamp next m p f r =
     let l : length m ≡ length marks = ap length f ∙ ready-length marks stamp in
     (omega (arith, r .0), rw l (r .2), omega (arith, unmarked-length next m, r .1), omega (arith, r .3))

@@ -29,7 +29,8 @@ unfolding upTo clearOf
 clear-whole blocks [] e = refl
 clear-whole blocks (i ∷ is) e = by-blocks (blocks i) (clear-whole blocks is) e
   where
-    by-blocks : (b : Bool) → (clearOf blocks (upTo blocks is) ≡ true → upTo blocks is ≡ is) → cond b false (clearOf blocks (cond b [] (upTo blocks is))) ≡ true → _≡_ {A = List ℕ} (i ∷ cond b [] (upTo blocks is)) (i ∷ is)
+    by-blocks : (b : Bool) → (clearOf blocks (upTo blocks is) ≡ true → upTo blocks is ≡ is) → cond b false (clearOf blocks (cond b [] (upTo blocks is))) ≡ true
+        → _≡_ {A = List ℕ} (i ∷ cond b [] (upTo blocks is)) (i ∷ is)
     by-blocks true more p = let z : _≡_ {A = ℕ} 0 1 = cc in absurd (omega arith)
     by-blocks false more p = ap (λ (l : List ℕ). i ∷ l) (more p)
 
@@ -40,7 +41,8 @@ clear-is false e = let z : _≡_ {A = ℕ} 0 1 = cc in absurd (omega arith)
 differ : (f : Finding) → f ≡ Blocked → f ≡ Clear → ⊥
 differ f p q = let z : _≡_ {A = ℕ} 0 1 = cc in omega arith
 
-module _ (numbers tool : Bool) (ix : Index) (marks : List ℕ) (stamp : ℕ) (p : Patch) (right : p .x1 ≤ ix .header .columns) (top : p .y1 ≤ ix .header .rows) (early : Bool) (blocks : ℕ → Bool) (a : Ruling) (m : List ℕ) (e : ended a m ≡ askedChord numbers tool early blocks ix marks stamp p) where
+module _ (numbers tool : Bool) (ix : Index) (marks : List ℕ) (stamp : ℕ) (p : Patch) (right : p .x1 ≤ ix .header .columns) (top : p .y1 ≤ ix .header .rows)
+    (early : Bool) (blocks : ℕ → Bool) (a : Ruling) (m : List ℕ) (e : ended a m ≡ askedChord numbers tool early blocks ix marks stamp p) where
   abbrev refusal : ℕ
   refusal = refusalOf numbers tool ix marks stamp p
 
@@ -70,7 +72,8 @@ module _ (numbers tool : Bool) (ix : Index) (marks : List ℕ) (stamp : ℕ) (p 
       (λ t. ap (λ (o : Outcome Ruling). o .answer .refusal) (chord-refused t))
 
   -- the walk of a chord that was neither refused nor blocked early
-  chased-looks : BuiltFrom ix → refusal ≡ 0 → ended a m ≡ ended (ruledBy chase (nextStamp stamp)) (chase .marks) → LookedTo ix p (lookedIn ix marks stamp p) early blocks a
+  chased-looks : BuiltFrom ix → refusal ≡ 0 → ended a m ≡ ended (ruledBy chase (nextStamp stamp)) (chase .marks)
+      → LookedTo ix p (lookedIn ix marks stamp p) early blocks a
   unfolding chased lookedIn
   chased-looks b z f =
       let is = lookedIn ix marks stamp p in
@@ -78,8 +81,11 @@ module _ (numbers tool : Bool) (ix : Index) (marks : List ℕ) (stamp : ℕ) (p 
       let v : a .finding ≡ cond (clearOf blocks (upTo blocks is)) Clear Blocked = ap (λ (o : Outcome Ruling). o .answer .finding) f in
       record {
         clear = λ c.
-            let w = clear-whole blocks is (clear-is _ (sym v ∙ c)) in
-            (w, subst (λ (l : List ℕ). LookedAll ix p l (a .count)) (sym w) (counted numbers tool ix marks stamp p right top (a .count) b z (omega (arith, n, ap length w))));
+            let w = clear-whole blocks is (clear-is _ (sym v ∙ c)) in (
+              w,
+              subst (λ (l : List ℕ). LookedAll ix p l (a .count)) (sym w)
+                  (counted numbers tool ix marks stamp p right top (a .count) b z (omega (arith, n, ap length w))),
+            );
         blocked = λ c t. omega (arith, n);
       }
 
@@ -106,5 +112,6 @@ module _ (numbers tool : Bool) (ix : Index) (marks : List ℕ) (stamp : ℕ) (px
     pub chord-demand : ended c m ≡ askedChord numbers tool early blocks ix marks stamp cells → ChordPromise numbers tool early blocks ix marks stamp cells c
     chord-demand e = let i = patch-inside (ix .header) px py qx qy reach in chord-promise numbers tool ix marks stamp cells (i .0) (i .1) early blocks c m e
 
-    pub chord-told : (p : Patch) (a b : Bool) → p ≡ cells → a ≡ numbers → b ≡ tool → ended c m ≡ askedChord a b early blocks ix marks stamp p → (ended c m ≡ askedChord numbers tool early blocks ix marks stamp cells) × ChordPromise numbers tool early blocks ix marks stamp cells c
+    pub chord-told : (p : Patch) (a b : Bool) → p ≡ cells → a ≡ numbers → b ≡ tool → ended c m ≡ askedChord a b early blocks ix marks stamp p
+        → (ended c m ≡ askedChord numbers tool early blocks ix marks stamp cells) × ChordPromise numbers tool early blocks ix marks stamp cells c
     chord-told p a b e f g i = let o = rw (e, f, g) at i in (o, chord-demand o)

@@ -1,5 +1,5 @@
--- A question asked through C's arrays. What the library says of the header h that was read from them holds of the header g that they stand for: its answer laid out,
--- and what it promises, L.
+-- A question asked through C's arrays. What the library says of the header h that was read from them holds of the header g that they stand for: its answer laid
+-- out, and what it promises, L.
 use mathlib.Core.List.{List, [], _∷_}
 use mathlib.Core.Path.{_≡_, ap, subst, _∙_}
 use Prim.Native.Nat.{ℕ}

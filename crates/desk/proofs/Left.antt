@@ -35,7 +35,8 @@ narrow h e =
     let a = both-true (isFrom 1 65536 (h .n)) (isCoordinate (h .«origin_x») && (isCoordinate (h .«origin_y») && (isCoordinate (h .floor) && f))) e in
     let b = both-true (isCoordinate (h .«origin_x»)) (isCoordinate (h .«origin_y») && (isCoordinate (h .floor) && f)) (a .1) in
     let c = both-true (isCoordinate (h .floor)) f (both-true (isCoordinate (h .«origin_y»)) (isCoordinate (h .floor) && f) (b .1) .1) in
-    let d = both-true (isFrom 1 65536 (h .columns)) g (both-true (le millionth (h .cell) && le (h .cell) twoMillion) (isFrom 1 65536 (h .columns) && g) (c .1) .1) in
+    let d = both-true (isFrom 1 65536 (h .columns)) g
+    (both-true (le millionth (h .cell) && le (h .cell) twoMillion) (isFrom 1 65536 (h .columns) && g) (c .1) .1) in
     let k = both-true (isFrom 1 65536 (h .rows)) i (d .1) in
     record { n = fits (h .n) (a .0); columns = fits (h .columns) (d .0); rows = fits (h .rows) (k .0) }
 

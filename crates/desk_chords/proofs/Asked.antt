@@ -19,10 +19,12 @@ finding-back Blocked = refl
 
 module _ (h g : Header) (same : h ≡ g) where
   -- of a verdict C gets the number
-  pub verdict-told : (asked : Header → Outcome Ruling) (L : Header → Ruling → Type 0) (a : Ruling) (marks : List ℕ) (n : ℕ) → n ≡ findingNumber (a .finding) → ended a marks ≡ asked h → L h a
+  pub verdict-told : (asked : Header → Outcome Ruling) (L : Header → Ruling → Type 0) (a : Ruling) (marks : List ℕ) (n : ℕ) → n ≡ findingNumber (a .finding)
+      → ended a marks ≡ asked h → L h a
       → (verdictLeft (a .refusal) marks (n ∷ a .count ∷ a .stamp ∷ []) ≡ verdictLeftBy (asked g)) × L g (rulingFrom (a .refusal) (n ∷ a .count ∷ a .stamp ∷ []))
   unfolding verdictLeftBy
   verdict-told asked L a marks n number e l = (
     ap (λ (k : ℕ). verdictLeft (a .refusal) marks (k ∷ a .count ∷ a .stamp ∷ [])) number ∙ ap verdictLeftBy (e ∙ ap asked same),
-    subst (λ (f : Finding). L g (record { refusal = a .refusal; finding = f; count = a .count; stamp = a .stamp })) (sym (ap findingFrom number ∙ finding-back (a .finding))) (subst (λ (k : Header). L k a) same l),
+    subst (λ (f : Finding). L g (record { refusal = a .refusal; finding = f; count = a .count; stamp = a .stamp }))
+        (sym (ap findingFrom number ∙ finding-back (a .finding))) (subst (λ (k : Header). L k a) same l),
   )

@@ -19,7 +19,8 @@ use Rattle.moves.specs.Phases.{phaseNumber}
 use Rattle.moves.specs.Begin.{beginOf}
 use Rattle.moves.specs.Next.{stepped, nextOf}
 use Rattle.moves.specs.Laws.{Followed}
-use Rattle.desk_moves.specs.Doors.{heightsFrom, earlyPhase, latePhase, phaseFrom, stateFrom, pointLeft, begunLeft, begunLeftBy, nextFrom, endLeft, kindLeft, idLeft, nextLeft, nextLeftBy}
+use Rattle.desk_moves.specs.Doors.{heightsFrom, earlyPhase, latePhase, phaseFrom, stateFrom, pointLeft, begunLeft}
+use Rattle.desk_moves.specs.Doors.{begunLeftBy, nextFrom, endLeft, kindLeft, idLeft, nextLeft, nextLeftBy}
 
 -- a phase's number gives the phase back, and so a state's numbers the state
 phase-back : (ph : Phase) → phaseFrom (phaseNumber ph) ≡ ph
@@ -44,7 +45,8 @@ module _ (t ps : List Float) (ns : List ℕ) (h h′ : Heights) (eh : h ≡ h′
   asked : a ≡ beginOf t h′ p′ first
   asked = q ∙ ap (λ (h : Heights). beginOf t h p first) eh ∙ ap (λ (p : Point). beginOf t h′ p first) ep
 
-  pub begin-held : (a .refusal ≡ 0 → ⊥) → (begunLeft (a .refusal) ps ns ≡ begunLeftBy ps ns (beginOf t h′ p′ first)) × Followed t h′ (a .refusal) (stateFrom ps ns)
+  pub begin-held : (a .refusal ≡ 0 → ⊥) → (begunLeft (a .refusal) ps ns ≡ begunLeftBy ps ns (beginOf t h′ p′ first))
+      × Followed t h′ (a .refusal) (stateFrom ps ns)
   unfolding begunLeftBy Followed
   begin-held n = (sym (rw (ne-eqb (a .refusal) 0 n)) ∙ ap (begunLeftBy ps ns) asked, λ z. absurd (n z))
 
@@ -69,7 +71,8 @@ module _ (t hs ps : List Float) (ns : List ℕ) (s : State) (es : s ≡ stateFro
   unfolding nextFrom
   phase-fits l h e = rw (le-ltb 7 (getD ns 0 0) l, e, es)
 
-module _ (ps : List Float) (ns : List ℕ) (a w : Stepped) (q : a ≡ w) (e : Point) (k i : ℕ) (ee : e ≡ endLeft (a .step)) (ek : k ≡ kindLeft (a .step)) (ei : i ≡ idLeft (a .step)) where
+module _ (ps : List Float) (ns : List ℕ) (a w : Stepped) (q : a ≡ w) (e : Point) (k i : ℕ) (ee : e ≡ endLeft (a .step)) (ek : k ≡ kindLeft (a .step))
+    (ei : i ≡ idLeft (a .step)) where
   pub next-held : (a .refusal ≡ 0 → ⊥) → nextLeft (a .refusal) ps ns (pointLeft e) (k ∷ i ∷ []) ≡ nextLeftBy ps ns w
   unfolding nextLeftBy
   next-held n = sym (rw (ne-eqb (a .refusal) 0 n, ee, ek, ei)) ∙ ap (nextLeftBy ps ns) q

@@ -10,7 +10,8 @@ use Rattle.look_over.specs.Verdict.{Outcome, ended, verdictNumber, badNumber, r
 use Rattle.desk_paths.specs.Paths.{findingOf, lookedLeft, lookedLeftBy, Told}
 
 module _ (h g : Header) (same : h ≡ g) (ix : Header → Index) (bytes : List ℕ) (table : List Float) (tolerance : Float) where
-  pub look-told : (asked : Index → Outcome) (a : Looked) (marks : List ℕ) (v b r : ℕ) → v ≡ verdictNumber (a .verdict) → b ≡ badNumber (a .verdict) → r ≡ reasonNumber (a .verdict)
+  pub look-told : (asked : Index → Outcome) (a : Looked) (marks : List ℕ) (v b r : ℕ) → v ≡ verdictNumber (a .verdict) → b ≡ badNumber (a .verdict)
+      → r ≡ reasonNumber (a .verdict)
       → ended a marks ≡ asked (ix h)
       → (a .refusal ≡ 0 → Judged bytes (ix h) table tolerance (a .verdict))
       → (lookedLeft (a .refusal) marks (v ∷ b ∷ r ∷ []) ≡ lookedLeftBy (asked (ix g))) × (a .refusal ≡ 0 → Told bytes (ix g) table tolerance (v ∷ b ∷ r ∷ []))

@@ -31,7 +31,8 @@ module _ (ix : Index) (marks : List ℕ) (levels runs : List Float) (p : Paramet
   unfolding planAlong
   along-y o n e q = left (eqb axis 0) _ _ _ (ne-eqb axis 0 n) (taken (eqb axis 1) _ _ _ (eq-eqb axis 1 e) q)
 
-  pub along-none : (a : Planned) (k : ℕ) → (axis ≡ 0 → ⊥) → (axis ≡ 1 → ⊥) → k ≡ demand (isMarked (ix .mesh) marks) 1 (demand (isBoxed (ix .mesh) (ix .boxes)) 23 9) → a ≡ refusedBy k → outcome a levels runs marks ≡ planAlong ix marks levels runs p axis
+  pub along-none : (a : Planned) (k : ℕ) → (axis ≡ 0 → ⊥) → (axis ≡ 1 → ⊥) → k ≡ demand (isMarked (ix .mesh) marks) 1
+      (demand (isBoxed (ix .mesh) (ix .boxes)) 23 9) → a ≡ refusedBy k → outcome a levels runs marks ≡ planAlong ix marks levels runs p axis
   unfolding planAlong
   along-none a k n m e q =
       left (eqb axis 0) _ _ _ (ne-eqb axis 0 n)
@@ -61,15 +62,19 @@ module _ (ix : Index) (p : Parameters) (axis : ℕ) (a : Planned) where
   lost-y e f z = rw e (f z)
 
 module _ (ix : Index) (p : Parameters) (axis : Axis) (a : Planned) where
-  pub lost-none : (marks : List ℕ) (k : ℕ) → k ≡ demand (isMarked (ix .mesh) marks) 1 (demand (isBoxed (ix .mesh) (ix .boxes)) 23 9) → a ≡ refusedBy k → a .refusal ≡ 0 → NothingLost ix p axis a
-  lost-none marks k e q z = let n = demanded _ 23 9 (lit< tt) (demanded (isMarked (ix .mesh) marks) 1 _ (lit< tt) (sym e ∙ sym (ap (λ (x : Planned). x .refusal) q) ∙ z) .1) .1 in absurd (omega arith)
+  pub lost-none : (marks : List ℕ) (k : ℕ) → k ≡ demand (isMarked (ix .mesh) marks) 1 (demand (isBoxed (ix .mesh) (ix .boxes)) 23 9) → a ≡ refusedBy k
+      → a .refusal ≡ 0 → NothingLost ix p axis a
+  lost-none marks k e q z = let n = demanded _ 23 9 (lit< tt)
+      (demanded (isMarked (ix .mesh) marks) 1 _ (lit< tt) (sym e ∙ sym (ap (λ (x : Planned). x .refusal) q) ∙ z) .1) .1 in absurd (omega arith)
 
   -- only the refusal and the dropped length count
-  pub lost-laid : (b : Planned) → a .refusal ≡ b .refusal → a .dropped ≡ b .dropped → (a .refusal ≡ 0 → NothingLost ix p axis a) → b .refusal ≡ 0 → NothingLost ix p axis b
+  pub lost-laid : (b : Planned) → a .refusal ≡ b .refusal → a .dropped ≡ b .dropped → (a .refusal ≡ 0 → NothingLost ix p axis a) → b .refusal ≡ 0
+      → NothingLost ix p axis b
   lost-laid b r d f z =
       let n = f (r ∙ z) in
       record { pieces = n .pieces; chained = n .chained; kept = n .kept; dropped = sym d ∙ n .dropped; joined = n .joined; runs = n .runs }
 
-pub laid : (o : Outcome) (a b c : ℕ) → a ≡ narrowed (o .answer .levels) → b ≡ narrowed (o .answer .rows) → c ≡ narrowed (o .answer .runs) → planLeft (o .answer .refusal) (o .levels) (o .runs) (o .marks) (o .answer .cut ∷ o .answer .dropped ∷ []) (a ∷ b ∷ c ∷ []) ≡ planLeftBy o
+pub laid : (o : Outcome) (a b c : ℕ) → a ≡ narrowed (o .answer .levels) → b ≡ narrowed (o .answer .rows) → c ≡ narrowed (o .answer .runs)
+    → planLeft (o .answer .refusal) (o .levels) (o .runs) (o .marks) (o .answer .cut ∷ o .answer .dropped ∷ []) (a ∷ b ∷ c ∷ []) ≡ planLeftBy o
 unfolding planLeftBy
 laid o a b c p q r = rw (p, q, r)

@@ -20,7 +20,8 @@ zeros o =
 
 abbrev header : Raised → RaisedLeft
 header o =
-    raisedLeft (o .answer .refusal) (o .mesh) (o .boxes) (measuresOf (o .answer .header)) (sizesOf (o .answer .header)) (o .answer .triangle ∷ o .answer .number ∷ [])
+    raisedLeft (o .answer .refusal) (o .mesh) (o .boxes) (measuresOf (o .answer .header)) (sizesOf (o .answer .header))
+    (o .answer .triangle ∷ o .answer .number ∷ [])
 
 refused-left : (o : Raised) → (o .answer .refusal ≡ 0 → ⊥) → zeros o ≡ raisedLeftBy o
 unfolding raisedLeftBy
@@ -49,7 +50,8 @@ module _ (mesh boxes : List Float) (a : Float) (h g : Header) (q : h ≡ g) (b :
       absurd (eqb-false refusal 0 t (sym (ap (λ (w : Raised). w .answer .refusal) u) ∙ z)))
 
   pub refused-door : (b .refusal ≡ 0 → ⊥) → (fs : List Float) (ns : List ℕ)
-      → (zeros (left b m x) ≡ raisedLeftBy (raiseOf mesh boxes g a)) × RaisePromise mesh boxes g m x (builtFrom (b .refusal) fs ns (b .triangle ∷ b .number ∷ []))
+      → (zeros (left b m x) ≡ raisedLeftBy (raiseOf mesh boxes g a))
+      × RaisePromise mesh boxes g m x (builtFrom (b .refusal) fs ns (b .triangle ∷ b .number ∷ []))
   refused-door some fs ns =
       (refused-left (left b m x) some ∙ ap raisedLeftBy same, record { afresh = λ s t u z. absurd (some z); still = λ s t u z. absurd (some z) })
 

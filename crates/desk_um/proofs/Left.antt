@@ -28,7 +28,8 @@ use Rattle.setup.specs.declared.Question.{Question}
 use Rattle.setup.specs.declared.Answer.{Answer}
 use Rattle.setup.specs.Answer.{setupHeightOf}
 use Rattle.setup.specs.Demand.{SetupPromise}
-use Rattle.desk_um.specs.Doors.{jobLeft, jobLeftBy, BuiltLeft, builtLeft, measuresOf, sizesOf, builtLeftBy, headerFrom, indexFrom, questionFrom, heightLeft, heightLeftBy, answerFrom}
+use Rattle.desk_um.specs.Doors.{jobLeft, jobLeftBy, BuiltLeft, builtLeft, measuresOf, sizesOf, builtLeftBy}
+use Rattle.desk_um.specs.Doors.{headerFrom, indexFrom, questionFrom, heightLeft, heightLeftBy, answerFrom}
 
 pub counted-number : (k : ℕ) → k < 4294967296 → counted (numberOf k) ≡ k
 unfolding counted numberOf
@@ -37,7 +38,8 @@ counted-number k h =
     (λ t. let l = leb-true 2147483648 k t in rw t (omega arith))
     (λ t. let l = leb-false 2147483648 k t in rw t (omega arith))
 
-pub job-left : (a : Read) (ms qs : List ℤ) (f r : ℤ) → f ≡ a .floor → r ≡ a .radius → jobLeft (a .refusal) ms qs (f ∷ r ∷ []) (a .n ∷ a .m ∷ []) ≡ jobLeftBy (reader.ended a ms qs)
+pub job-left : (a : Read) (ms qs : List ℤ) (f r : ℤ) → f ≡ a .floor → r ≡ a .radius
+    → jobLeft (a .refusal) ms qs (f ∷ r ∷ []) (a .n ∷ a .m ∷ []) ≡ jobLeftBy (reader.ended a ms qs)
 unfolding jobLeftBy
 job-left a ms qs f r p q = rw (p, q) refl
 
@@ -63,7 +65,8 @@ module _ (mesh : List ℤ) (s m : List ℕ) (F R f r : ℕ) (p : f ≡ F) (q : r
   unfolding builtLeftBy
   refused-left some = left (eqb (o .built .refusal) 0) (zeros o) (header o) (zeros o) (ne-eqb _ 0 some) refl ∙ ap builtLeftBy built-is
 
-  pub accepted-left : o .built .refusal ≡ 0 → (x y f r : ℤ) → x ≡ numberOf (o .built .header .x) → y ≡ numberOf (o .built .header .y) → f ≡ numberOf (o .built .header .floor) → r ≡ numberOf (o .built .header .r)
+  pub accepted-left : o .built .refusal ≡ 0 → (x y f r : ℤ) → x ≡ numberOf (o .built .header .x) → y ≡ numberOf (o .built .header .y)
+      → f ≡ numberOf (o .built .header .floor) → r ≡ numberOf (o .built .header .r)
       → leftWith o (x ∷ y ∷ f ∷ r ∷ []) (sizesOf (o .built .header)) ≡ builtLeftBy (buildOf mesh F R s m)
   unfolding builtLeftBy
   accepted-left none x y f r a b c d =
@@ -137,8 +140,15 @@ narrow h e =
       cell = power-small (h .cell) (v .1);
     }
 
-pub promise-left : (mesh : List ℤ) (s m : List ℕ) (k : ℕ) (h : Header) (x y f r : ℤ) → x ≡ numberOf (h .x) → y ≡ numberOf (h .y) → f ≡ numberOf (h .floor) → r ≡ numberOf (h .r) → Narrow h
+pub promise-left : (mesh : List ℤ) (s m : List ℕ) (k : ℕ) (h : Header) (x y f r : ℤ) → x ≡ numberOf (h .x) → y ≡ numberOf (h .y) → f ≡ numberOf (h .floor)
+    → r ≡ numberOf (h .r) → Narrow h
     → BuildPromise (indexOf mesh h s m) k → BuildPromise (indexFrom mesh (x ∷ y ∷ f ∷ r ∷ []) (sizesOf h) s m) k
 unfolding headerFrom
 promise-left mesh s m k h x y f r a b c d w p =
-    rw (ap counted a ∙ counted-number (h .x) (w .x), ap counted b ∙ counted-number (h .y) (w .y), ap counted c ∙ counted-number (h .floor) (w .floor), ap counted d ∙ counted-number (h .r) (w .r)) p
+    rw (
+      ap counted a ∙ counted-number (h .x) (w .x),
+      ap counted b ∙ counted-number (h .y) (w .y),
+      ap counted c
+          ∙ counted-number (h .floor) (w .floor),
+      ap counted d ∙ counted-number (h .r) (w .r),
+    ) p

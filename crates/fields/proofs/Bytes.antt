@@ -28,7 +28,8 @@ module _ (bytes : List ℕ) (at : ℕ) where
   value-byte h = rw (drop-cons bytes at 0 h) (omega arith)
 
   -- so two readings side by side give the reading of both
-  pub joined : (a b x y : ℕ) → at + a ≤ length bytes → x ≡ value (field at a) bytes → y ≡ value (field (at + a) b) bytes → x + y * 256 ^ a ≡ value (field at (a + b)) bytes
+  pub joined : (a b x y : ℕ) → at + a ≤ length bytes → x ≡ value (field at a) bytes → y ≡ value (field (at + a) b) bytes
+      → x + y * 256 ^ a ≡ value (field at (a + b)) bytes
   joined a b x y h p q = rw (p, q, mul-comm) (sym (value-halves a b h))
 
 -- ---- a file cut after k bytes

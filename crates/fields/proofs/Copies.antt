@@ -40,7 +40,8 @@ module _ (l : Ladder) (refusal told : List ℕ → ℕ) (bytes : List ℕ)
     (exact : length bytes ≡ bytesOf (l .shape bytes))
   where
     -- a file with the same head is judged by its length
-    judged : (xs : List ℕ) (k : ℕ) → take (l .head) xs ≡ take (l .head) bytes → l .head ≤ length xs → k ≡ refuseLength (lengthRule (l .shape bytes) (length xs)) (l .late xs) → refusal xs ≡ k
+    judged : (xs : List ℕ) (k : ℕ) → take (l .head) xs ≡ take (l .head) bytes → l .head ≤ length xs
+        → k ≡ refuseLength (lengthRule (l .shape bytes) (length xs)) (l .late xs) → refusal xs ≡ k
     unfolding said
     judged xs k e h p =
         let d = same xs e in

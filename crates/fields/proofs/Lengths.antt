@@ -1,7 +1,8 @@
 -- Laws of the length rule.
 use mathlib.Core.Path.{_≡_, refl, ap, sym, _∙_}
 use Prim.Native.Nat.{ℕ, _-_, _*_, _/_, _≤_, _<_, min}
-use native.Mathlib.Nat.{mul-le-mul-left, mul-le-mul-right, div-zero, zero-div, div-mul-le-self, div-add-mod', mod-lt, add-mul, one-mul, min-le-left, min-le-right}
+use native.Mathlib.Nat.{mul-le-mul-left, mul-le-mul-right, div-zero, zero-div, div-mul-le-self}
+use native.Mathlib.Nat.{div-add-mod', mod-lt, add-mul, one-mul, min-le-left, min-le-right}
 use native.Mathlib.Omega.{arith}
 use borrow.Author.Tests.{lt-ltb, le-ltb, ltb-true, ltb-false}
 use lib.Dec.{ltb}
@@ -69,12 +70,14 @@ module _ (s : Shape) (length : ℕ) where
   with-whole c e = (e, λ h l. rw e (whole-is h l))
 
   -- ---- what a refusal says of the length
-  judge : (P : Length → Type 0) → (length < bytesOf s → P (Short (wholeIn s length))) → (bytesOf s < length → P Surplus) → (length ≡ bytesOf s → P Exact) → P (lengthRule s length)
+  judge : (P : Length → Type 0) → (length < bytesOf s → P (Short (wholeIn s length))) → (bytesOf s < length → P Surplus) → (length ≡ bytesOf s → P Exact)
+      → P (lengthRule s length)
   unfolding lengthRule
   judge P short surplus exact =
       either P (ltb length (bytesOf s)) _ _
       (λ t. short (ltb-true length (bytesOf s) t))
-      (λ t. either P (ltb (bytesOf s) length) _ _ (λ u. surplus (ltb-true (bytesOf s) length u)) (λ u. exact (omega (arith, ltb-false length (bytesOf s) t, ltb-false (bytesOf s) length u))))
+      (λ t. either P (ltb (bytesOf s) length) _ _ (λ u. surplus (ltb-true (bytesOf s) length u))
+      (λ u. exact (omega (arith, ltb-false length (bytesOf s) t, ltb-false (bytesOf s) length u))))
 
   pub exact-only : (next : ℕ) → refuseLength (lengthRule s length) next ≡ 0 → (length ≡ bytesOf s) × (next ≡ 0)
   unfolding refuseLength

@@ -72,5 +72,6 @@ module _ {A : Type 0} (f : ℕ → A) where
   filled-next z k i out h =
       rw (add-one i, drop-cons out i z h, row-more) (set-at (row f k i) _ _ _ i (row-length k i))
 
-pub filled-more : (f : ℕ → Float) (k i : ℕ) (out : List Float) → i < length out → set (row f k i ++ drop i out) i (f (k + i)) ≡ row f k (i + 1) ++ drop (i + 1) out
+pub filled-more : (f : ℕ → Float) (k i : ℕ) (out : List Float) → i < length out
+    → set (row f k i ++ drop i out) i (f (k + i)) ≡ row f k (i + 1) ++ drop (i + 1) out
 filled-more f = filled-next f nan

@@ -20,7 +20,8 @@ on-or-off false = inr refl
 
 -- the code's five stores, where there is room, and where there is none
 module _ (t : List Float) (m : ℕ) (a b c d e : Float) where
-  pub put-stores : m < length t / 5 → set (set (set (set (set t (m * 5) a) (m * 5 + 1) b) (m * 5 + 2) c) (m * 5 + 3) d) (m * 5 + 4) e ≡ putAt t m (a ∷ b ∷ c ∷ d ∷ e ∷ [])
+  pub put-stores : m < length t / 5
+      → set (set (set (set (set t (m * 5) a) (m * 5 + 1) b) (m * 5 + 2) c) (m * 5 + 3) d) (m * 5 + 4) e ≡ putAt t m (a ∷ b ∷ c ∷ d ∷ e ∷ [])
   unfolding putAt
   put-stores h =
       taken _ _ _ _ (le-leb (m * 5 + 5) (length t) (omega arith))
@@ -47,7 +48,8 @@ module _ {A : Type 0} (f : A → List Float) (five : (x : A) → length (f x) �
       let k : suc m * 5 ≡ length (f y) + m * 5 = omega (arith, five y) in
       let d : drop (suc m * 5 + 5) (f y ++ w) ≡ drop (m * 5 + 5) w = ap (λ (i : ℕ). drop i (f y ++ w)) n ∙ drop-append-add (f y) w (m * 5 + 5) in
       let h : take (suc m * 5) (f y ++ w) ≡ f y ++ take (m * 5) w = ap (λ (i : ℕ). take i (f y ++ w)) k ∙ take-append-add (f y) w (m * 5) in
-      rw (p, r, d, h) (append-assoc (f y ++ take (m * 5) w) v _ ∙ append-assoc (f y) (take (m * 5) w) _ ∙ ap (λ (l : List Float). f y ++ l) (sym (append-assoc (take (m * 5) w) v _))))
+      rw (p, r, d, h) (append-assoc (f y ++ take (m * 5) w) v _ ∙ append-assoc (f y) (take (m * 5) w) _
+      ∙ ap (λ (l : List Float). f y ++ l) (sym (append-assoc (take (m * 5) w) v _))))
       (λ (p : leb (m * 5 + 5) (length w) ≡ false).
       let q : length w < m * 5 + 5 = leb-false (m * 5 + 5) (length w) p in
       let r : leb (suc m * 5 + 5) (length (f y ++ w)) ≡ false = lt-leb (suc m * 5 + 5) (length (f y ++ w)) (omega (arith, length-append (f y) w, five y)) in
@@ -62,7 +64,8 @@ module _ {A : Type 0} (f : A → List Float) (five : (x : A) → length (f x) �
       w : List Float
       w = written (map f ys) (drop 5 t)
 
-      by-room : (b : Bool) → leb 5 (length t) ≡ b → written (map f (ys ++ x ∷ [])) (drop 5 t) ≡ putAt w (length ys) (f x) → cond b (f y ++ written (map f (ys ++ x ∷ [])) (drop 5 t)) t ≡ putAt (cond b (f y ++ w) t) (suc (length ys)) (f x)
+      by-room : (b : Bool) → leb 5 (length t) ≡ b → written (map f (ys ++ x ∷ [])) (drop 5 t) ≡ putAt w (length ys) (f x)
+          → cond b (f y ++ written (map f (ys ++ x ∷ [])) (drop 5 t)) t ≡ putAt (cond b (f y ++ w) t) (suc (length ys)) (f x)
       by-room true p r = ap (λ (l : List Float). f y ++ l) r ∙ sym (put-behind y w (length ys) (f x))
       by-room false p r = none-behind t (length ys) (f x) (leb-false 5 (length t) p)
 
@@ -88,7 +91,8 @@ clear-more n v d h = rw (add-one n) (go n d h)
 
 -- entry number (length xs) of what was written
 module _ {A : Type 0} (f : A → List Float) (five : (x : A) → length (f x) ≡ 5) where
-  pub written-at : (xs ys : List A) (x : A) (t : List Float) (k : ℕ) (d : Float) → length xs * 5 + 5 ≤ length t → k < 5 → getD (written (map f (xs ++ x ∷ ys)) t) (length xs * 5 + k) d ≡ getD (f x) k d
+  pub written-at : (xs ys : List A) (x : A) (t : List Float) (k : ℕ) (d : Float) → length xs * 5 + 5 ≤ length t → k < 5
+      → getD (written (map f (xs ++ x ∷ ys)) t) (length xs * 5 + k) d ≡ getD (f x) k d
   unfolding written
   written-at [] ys x t k d h l =
       let p : leb 5 (length t) ≡ true = le-leb 5 (length t) (omega arith) in

@@ -16,7 +16,8 @@ use Rattle.flatten.specs.declared.Table.{Table}
 use Rattle.flatten.specs.Flat.{four, flatOf, sectionIn, copiedOf, heldIn}
 
 -- four stores at k, in a table with room for them
-pub four-stored : (t : List Float) (k : ℕ) (a b c d : Float) → k + 4 ≤ length t → take (k + 4) (set (set (set (set t k a) (k + 1) b) (k + 2) c) (k + 3) d) ≡ take k t ++ (a ∷ b ∷ c ∷ d ∷ [])
+pub four-stored : (t : List Float) (k : ℕ) (a b c d : Float) → k + 4 ≤ length t
+    → take (k + 4) (set (set (set (set t k a) (k + 1) b) (k + 2) c) (k + 3) d) ≡ take k t ++ (a ∷ b ∷ c ∷ d ∷ [])
 four-stored t k a b c d h =
     let vs : List Float = a ∷ b ∷ c ∷ d ∷ [] in
     let front : length (take k t ++ vs) ≡ k + 4 = simp (length-append, length-take) (omega arith) in

@@ -11,7 +11,8 @@ use Rattle.golden.specs.declared.Bracket.{Bracket}
 use Rattle.golden.specs.Search.{rises, goldenStart, goldenStep}
 use Rattle.golden.specs.Upper.{heldOf, bracketStart, bracketStep, apart, bracketRun, upperOf, concaveMaxUpper}
 
-pub bracket-begins : (f : Float → Float) (lo hi fa fb : Float) (g : Golden) → g ≡ goldenStart f lo hi → fa ≡ f lo → fb ≡ f hi → _≡_ {A = Bracket} (record { g = g; fa = fa; fb = fb }) (bracketStart f lo hi)
+pub bracket-begins : (f : Float → Float) (lo hi fa fb : Float) (g : Golden) → g ≡ goldenStart f lo hi → fa ≡ f lo → fb ≡ f hi
+    → _≡_ {A = Bracket} (record { g = g; fa = fa; fb = fb }) (bracketStart f lo hi)
 unfolding bracketStart
 bracket-begins f lo hi fa fb g e p q = rw (e, p, q)
 

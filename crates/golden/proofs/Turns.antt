@@ -7,13 +7,16 @@ use native.Mathlib.Omega.{arith}
 use lib.Ieee.{Float}
 use Rattle.numbers.specs.Reals.{_⊕_, _⊘_, f2}
 use Rattle.golden.specs.declared.Golden.{Golden}
-use Rattle.golden.specs.Search.{lower, upper, rises, falls, probeOf, narrowedOf, startOf, goldenStart, goldenStep, goldenAt, bestOf, goldenMax, goldenArgmin}
+use Rattle.golden.specs.Search.{lower, upper, rises, falls, probeOf, narrowedOf, startOf, goldenStart}
+use Rattle.golden.specs.Search.{goldenStep, goldenAt, bestOf, goldenMax, goldenArgmin}
 
-pub begins : (f : Float → Float) (lo hi u v fu fv : Float) (g : Golden) → u ≡ lower lo hi → v ≡ upper lo hi → fu ≡ f u → fv ≡ f v → g ≡ startOf lo hi fu fv → g ≡ goldenStart f lo hi
+pub begins : (f : Float → Float) (lo hi u v fu fv : Float) (g : Golden) → u ≡ lower lo hi → v ≡ upper lo hi → fu ≡ f u → fv ≡ f v → g ≡ startOf lo hi fu fv
+    → g ≡ goldenStart f lo hi
 unfolding goldenStart
 begins f lo hi u v fu fv g p q r s e = rw (e, r, s, p, q)
 
-pub steps : (left : Golden → Bool) (f : Float → Float) (b : Bool) (g g′ : Golden) (p v : Float) → b ≡ left g → p ≡ probeOf b g → v ≡ f p → g′ ≡ narrowedOf b g p v → g′ ≡ goldenStep left f g
+pub steps : (left : Golden → Bool) (f : Float → Float) (b : Bool) (g g′ : Golden) (p v : Float) → b ≡ left g → p ≡ probeOf b g → v ≡ f p
+    → g′ ≡ narrowedOf b g p v → g′ ≡ goldenStep left f g
 unfolding goldenStep
 steps left f b g g′ p v e₀ e₁ e₂ e₃ = rw (e₃, e₂, e₁, e₀)
 

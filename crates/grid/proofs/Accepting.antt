@@ -23,7 +23,8 @@ use Rattle.grid.specs.declared.Built.{Built}
 use Rattle.grid.specs.Grid.{trianglesIn, gridOf, cellsIn, coverOf, totalOf}
 use Rattle.grid.specs.Header.{headerOf}
 use Rattle.grid.specs.Boxes.{isBoxed, boxesOf}
-use Rattle.grid.specs.Build.{isNowhere, toldWith, refusalOfNumbers, refusalOfMesh, refusalOfGrid, refusalOfMembers, Outcome, outcome, refusedBy, acceptedWith, unless, filledOf, gridded, buildOf}
+use Rattle.grid.specs.Build.{isNowhere, toldWith, refusalOfNumbers, refusalOfMesh, refusalOfGrid, refusalOfMembers}
+use Rattle.grid.specs.Build.{Outcome, outcome, refusedBy, acceptedWith, unless, filledOf, gridded, buildOf}
 use Rattle.grid.specs.Inside.{Gridded}
 use Rattle.rules.proofs.Ladder.{refused-not, demanded}
 use Rattle.grid.proofs.Gridding.{counted}
@@ -113,7 +114,8 @@ module _ (k p : ℕ) (s m : List ℕ) (x : List Float) (next : Outcome) where
   unless-next o h e = taken _ _ _ _ (eq-eqb k 0 h) e
 
 -- ---- the tables, or refusal 6
-module _ (mesh : List Float) (n : ℕ) (g : Grid) (floor r : Float) (s m : List ℕ) (x : List Float) (z : Gridded mesh n g) (t k : ℕ) (p : t ≡ totalOf mesh g n) (q : k ≡ refusalOfMembers t (length m)) where
+module _ (mesh : List Float) (n : ℕ) (g : Grid) (floor r : Float) (s m : List ℕ) (x : List Float) (z : Gridded mesh n g) (t k : ℕ) (p : t ≡ totalOf mesh g n)
+    (q : k ≡ refusalOfMembers t (length m)) where
   asked : k ≡ refusalOfMembers (startOf (coverOf mesh g) n (cellsIn g)) (length m)
   asked = q ∙ ap (λ (v : ℕ). refusalOfMembers v (length m)) (p ∙ counted mesh g n z)
 
@@ -128,7 +130,8 @@ module _ (mesh : List Float) (n : ℕ) (g : Grid) (floor r : Float) (s m : List 
   filled-accepted h s′ m′ x′ e a b c d = unless-next _ 0 s m x _ _ (sym asked ∙ e) (rw (a, b, c, d) refl)
 
 -- ---- refusal 5, or what comes next; g is the grid as it was found
-module _ (mesh : List Float) (n : ℕ) (G : Grid) (floor r : Float) (s m : List ℕ) (x : List Float) (g : Grid) (p : g ≡ G) (k : ℕ) (q : k ≡ refusalOfGrid (g .columns) (g .rows) (length s)) where
+module _ (mesh : List Float) (n : ℕ) (G : Grid) (floor r : Float) (s m : List ℕ) (x : List Float) (g : Grid) (p : g ≡ G) (k : ℕ)
+    (q : k ≡ refusalOfGrid (g .columns) (g .rows) (length s)) where
   pub gridded-refused : (b : Built) → b ≡ refusedBy k 0 → (k ≡ 0 → ⊥) → outcome b s m x ≡ gridded mesh n G floor r s m x
   unfolding gridded
   gridded-refused b e h =

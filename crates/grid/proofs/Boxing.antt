@@ -60,12 +60,14 @@ module _ (mesh : List Float) (i : ℕ) (old new : List Float) (b : Bounds) (h : 
   front : take (i * 5) new ≡ boxesOf mesh i
   front =
       let z : i * 5 ≡ length (boxesOf mesh i) + 0 = omega (arith, boxes-length mesh i) in
-      ap (take (i * 5)) (h .is) ∙ ap (λ (k : ℕ). take k (boxesOf mesh i ++ drop (i * 5) old)) z ∙ take-append-add (boxesOf mesh i) _ 0 ∙ append-nil (boxesOf mesh i)
+      ap (take (i * 5)) (h .is) ∙ ap (λ (k : ℕ). take k (boxesOf mesh i ++ drop (i * 5) old)) z ∙ take-append-add (boxesOf mesh i) _ 0
+      ∙ append-nil (boxesOf mesh i)
 
   back : drop (i * 5 + 5) new ≡ drop (i * 5 + 5) old
   back =
       let y : i * 5 + 5 ≡ length (boxesOf mesh i) + 5 = omega (arith, boxes-length mesh i) in
-      ap (drop (i * 5 + 5)) (h .is) ∙ ap (λ (k : ℕ). drop k (boxesOf mesh i ++ drop (i * 5) old)) y ∙ drop-append-add (boxesOf mesh i) _ 5 ∙ drop-drop 5 (i * 5) old
+      ap (drop (i * 5 + 5)) (h .is) ∙ ap (λ (k : ℕ). drop k (boxesOf mesh i ++ drop (i * 5) old)) y ∙ drop-append-add (boxesOf mesh i) _ 5
+      ∙ drop-drop 5 (i * 5) old
 
   put-is : putAt new i (fiveOf b) ≡ boxesOf mesh i ++ fiveOf (boxOf mesh i) ++ drop (i * 5 + 5) old
   unfolding putAt

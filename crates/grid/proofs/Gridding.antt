@@ -26,7 +26,8 @@ abbrev pub joined : Stretch → Stretch → Cells
 joined x y = record { left = x .first; right = x .last; bottom = y .first; top = y .last }
 
 pub cells-are : (mesh : List Float) (g : Grid) (i : ℕ) (b : Bounds) (x y : Stretch) → b ≡ boxOf mesh i
-    → x ≡ stretchOf (g .x) (g .size) (g .columns) (b .«low_x») (b .«high_x») → y ≡ stretchOf (g .y) (g .size) (g .rows) (b .«low_y») (b .«high_y») → joined x y ≡ cellsOf mesh g i
+    → x ≡ stretchOf (g .x) (g .size) (g .columns) (b .«low_x») (b .«high_x») → y ≡ stretchOf (g .y) (g .size) (g .rows) (b .«low_y») (b .«high_y»)
+    → joined x y ≡ cellsOf mesh g i
 unfolding cellsOf
 cells-are mesh g i b x y p q r =
     ap₂ joined
@@ -39,7 +40,8 @@ gridFrom n r e =
     let size = sizeOf n (spanOf e r) r in
     record { x = e .left; y = e .bottom; size = size; columns = cellsAlong (e .left) (e .right) size; rows = cellsAlong (e .bottom) (e .top) size }
 
-module _ (mesh : List Float) (n : ℕ) (r : Float) (e : Extent) (span size : Float) (p : e ≡ extentOf mesh n) (q : span ≡ spanOf e r) (t : size ≡ sizeOf n span r) where
+module _ (mesh : List Float) (n : ℕ) (r : Float) (e : Extent) (span size : Float) (p : e ≡ extentOf mesh n) (q : span ≡ spanOf e r)
+    (t : size ≡ sizeOf n span r) where
   pub grid-is : (columns rows : ℕ) → columns ≡ cellsAlong (e .left) (e .right) size → rows ≡ cellsAlong (e .bottom) (e .top) size
       → record { x = e .left; y = e .bottom; size = size; columns = columns; rows = rows } ≡ gridOf mesh n r
   unfolding gridFrom gridOf
@@ -71,7 +73,8 @@ module _ (mesh : List Float) (g : Grid) where
     pub counted : totalOf mesh g n ≡ startOf (coverOf mesh g) n (cellsIn g)
     unfolding totalOf
     counted =
-        total-is (coverOf mesh g) (g .columns) (g .rows) (cellsOf mesh g) (λ i c. refl) (λ i. within i (z .some .0) (z .some .1) .0) (λ i. within i (z .some .0) (z .some .1) .1) n
+        total-is (coverOf mesh g) (g .columns) (g .rows) (cellsOf mesh g) (λ i c. refl) (λ i. within i (z .some .0) (z .some .1) .0)
+        (λ i. within i (z .some .0) (z .some .1) .1) n
 
     pub fits : (s m : List ℕ) → cellsIn g + 1 ≤ length s → totalOf mesh g n ≤ 16777216 → totalOf mesh g n ≤ length m → Fits (coverOf mesh g) n (cellsIn g) s m
     fits s m t h l =

@@ -42,10 +42,12 @@ unfolding isFrom
 from a e k h l = rw (le-leb a k h, le-leb k e l)
 
 module _ (mesh : List Float) (floor r : Float) (x : List Float) (a : Accepted mesh floor r x) where
-  across : (i : ℕ) → i < trianglesIn mesh → Ordered (extentOf mesh (trianglesIn mesh) .left) (boxOf mesh i .«low_x») (boxOf mesh i .«high_x») (extentOf mesh (trianglesIn mesh) .right)
+  across : (i : ℕ) → i < trianglesIn mesh
+      → Ordered (extentOf mesh (trianglesIn mesh) .left) (boxOf mesh i .«low_x») (boxOf mesh i .«high_x») (extentOf mesh (trianglesIn mesh) .right)
   across = ordered-x mesh (a .numbers) (trianglesIn mesh) (omega (arith, a .nine))
 
-  upward : (i : ℕ) → i < trianglesIn mesh → Ordered (extentOf mesh (trianglesIn mesh) .bottom) (boxOf mesh i .«low_y») (boxOf mesh i .«high_y») (extentOf mesh (trianglesIn mesh) .top)
+  upward : (i : ℕ) → i < trianglesIn mesh
+      → Ordered (extentOf mesh (trianglesIn mesh) .bottom) (boxOf mesh i .«low_y») (boxOf mesh i .«high_y») (extentOf mesh (trianglesIn mesh) .top)
   upward = ordered-y mesh (a .numbers) (trianglesIn mesh) (omega (arith, a .nine))
 
   size-good : Size (gridOf mesh (trianglesIn mesh) r .size)
@@ -53,7 +55,8 @@ module _ (mesh : List Float) (floor r : Float) (x : List Float) (a : Accepted me
   size-good =
       let x = across 0 (a .some) in
       let y = upward 0 (a .some) in
-      size-range (extentOf mesh (trianglesIn mesh)) r (coordinate _ (x .lo-good)) (coordinate _ (x .hi-good)) (coordinate _ (y .lo-good)) (coordinate _ (y .hi-good)) (radius r (a .radius)) (trianglesIn mesh) (a .some) (a .few)
+      size-range (extentOf mesh (trianglesIn mesh)) r (coordinate _ (x .lo-good)) (coordinate _ (x .hi-good)) (coordinate _ (y .lo-good))
+      (coordinate _ (y .hi-good)) (radius r (a .radius)) (trianglesIn mesh) (a .some) (a .few)
 
   pub grid-fits : (gridOf mesh (trianglesIn mesh) r .columns < 2 ^ 64) × (gridOf mesh (trianglesIn mesh) r .rows < 2 ^ 64)
   unfolding gridOf
@@ -63,14 +66,16 @@ module _ (mesh : List Float) (floor r : Float) (x : List Float) (a : Accepted me
   unfolding gridOf cellsAlong
   grid-some = (omega arith, omega arith)
 
-  near-box : (i : ℕ) → i < trianglesIn mesh → gridOf mesh (trianglesIn mesh) r .columns ≤ 65536 → gridOf mesh (trianglesIn mesh) r .rows ≤ 65536 → NearBox (gridOf mesh (trianglesIn mesh) r) (boxOf mesh i)
+  near-box : (i : ℕ) → i < trianglesIn mesh → gridOf mesh (trianglesIn mesh) r .columns ≤ 65536 → gridOf mesh (trianglesIn mesh) r .rows ≤ 65536
+      → NearBox (gridOf mesh (trianglesIn mesh) r) (boxOf mesh i)
   unfolding gridOf
   near-box i h c d =
       let x = near-ends _ _ _ _ _ (across i h) size-good c in
       let y = near-ends _ _ _ _ _ (upward i h) size-good d in
       record { left = x .0; right = x .1; bottom = y .0; top = y .1 }
 
-  pub grid-gridded : (lent : ℕ) → Passed (gridOf mesh (trianglesIn mesh) r .columns) (gridOf mesh (trianglesIn mesh) r .rows) lent → Gridded mesh (trianglesIn mesh) (gridOf mesh (trianglesIn mesh) r)
+  pub grid-gridded : (lent : ℕ) → Passed (gridOf mesh (trianglesIn mesh) r .columns) (gridOf mesh (trianglesIn mesh) r .rows) lent
+      → Gridded mesh (trianglesIn mesh) (gridOf mesh (trianglesIn mesh) r)
   grid-gridded lent p =
       record {
         nine = omega (arith, a .nine);

@@ -58,11 +58,17 @@ unfolding nodes
 nodes-more zero h = absurd (omega arith)
 nodes-more (suc n) h = let e : suc n - 1 ≡ n = omega arith in rw e
 
-stack-same : (bx by bx′ by′ : List Float) (left left′ : List ℕ) (t : ℕ) → ((i : ℕ) → i < t → num bx′ i ≡ num bx i) → ((i : ℕ) → i < t → num by′ i ≡ num by i) → ((i : ℕ) → i < t → getD left′ i 0 ≡ getD left i 0) → stackOf bx′ by′ left′ t ≡ stackOf bx by left t
+stack-same : (bx by bx′ by′ : List Float) (left left′ : List ℕ) (t : ℕ) → ((i : ℕ) → i < t → num bx′ i ≡ num bx i) → ((i : ℕ) → i < t → num by′ i ≡ num by i)
+    → ((i : ℕ) → i < t → getD left′ i 0 ≡ getD left i 0) → stackOf bx′ by′ left′ t ≡ stackOf bx by left t
 unfolding stackOf
 stack-same bx by bx′ by′ left left′ zero p q r = refl
 stack-same bx by bx′ by′ left left′ (suc t) p q r =
-    rw (p t (omega arith), q t (omega arith), r t (omega arith), stack-same bx by bx′ by′ left left′ t (λ i h. p i (omega arith)) (λ i h. q i (omega arith)) (λ i h. r i (omega arith)))
+    rw (
+      p t (omega arith),
+      q t (omega arith),
+      r t (omega arith),
+      stack-same bx by bx′ by′ left left′ t (λ i h. p i (omega arith)) (λ i h. q i (omega arith)) (λ i h. r i (omega arith)),
+    )
 
 module _ (clear : Run → Bool) (least : Float) (z : Float) where
   -- the pieces of all that wait, the first from (ax, ay)
@@ -84,16 +90,19 @@ module _ (clear : Run → Bool) (least : Float) where
   pieces-one zero r e = refl
   pieces-one (suc k) r e = by (clear r) (le (lengthOf r) least) e
     where
-      by : (b c : Bool) → cond b false (cond (eqb (suc k) 0) false (not c)) ≡ false → cond b (piece r true ∷ []) (cond c (piece r false ∷ []) (piecesOf clear least k (firstHalf r) ++ piecesOf clear least k (secondHalf r))) ≡ piece r b ∷ []
+      by : (b c : Bool) → cond b false (cond (eqb (suc k) 0) false (not c)) ≡ false → cond b (piece r true ∷ [])
+          (cond c (piece r false ∷ []) (piecesOf clear least k (firstHalf r) ++ piecesOf clear least k (secondHalf r))) ≡ piece r b ∷ []
       by true c p = refl
       by false true p = refl
       by false false p = clash (rw (ne-eqb (suc k) 0 (λ q. omega arith)) at p)
 
-  pub pieces-two : (k : ℕ) (r : Run) → splitsOf (clear r) least k r ≡ true → (0 < k) × (piecesOf clear least k r ≡ piecesOf clear least (k - 1) (firstHalf r) ++ piecesOf clear least (k - 1) (secondHalf r))
+  pub pieces-two : (k : ℕ) (r : Run) → splitsOf (clear r) least k r ≡ true
+      → (0 < k) × (piecesOf clear least k r ≡ piecesOf clear least (k - 1) (firstHalf r) ++ piecesOf clear least (k - 1) (secondHalf r))
   unfolding piecesOf splitsOf
   pieces-two zero r e = by (clear r) e
     where
-      by : (b : Bool) → cond b false (cond (eqb 0 0) false (not (le (lengthOf r) least))) ≡ true → (0 < 0) × (piece r b ∷ [] ≡ piecesOf clear least (0 - 1) (firstHalf r) ++ piecesOf clear least (0 - 1) (secondHalf r))
+      by : (b : Bool) → cond b false (cond (eqb 0 0) false (not (le (lengthOf r) least))) ≡ true
+          → (0 < 0) × (piece r b ∷ [] ≡ piecesOf clear least (0 - 1) (firstHalf r) ++ piecesOf clear least (0 - 1) (secondHalf r))
       by true p = clash (sym p)
       by false p = clash (sym (rw (eq-eqb 0 0 refl) at p))
   pieces-two (suc k) r e = (omega arith, rw m (by (clear r) (le (lengthOf r) least) e))
@@ -101,7 +110,9 @@ module _ (clear : Run → Bool) (least : Float) where
       m : suc k - 1 ≡ k
       m = omega arith
 
-      by : (b c : Bool) → cond b false (cond (eqb (suc k) 0) false (not c)) ≡ true → cond b (piece r true ∷ []) (cond c (piece r false ∷ []) (piecesOf clear least k (firstHalf r) ++ piecesOf clear least k (secondHalf r))) ≡ piecesOf clear least k (firstHalf r) ++ piecesOf clear least k (secondHalf r)
+      by : (b c : Bool) → cond b false (cond (eqb (suc k) 0) false (not c)) ≡ true
+          → cond b (piece r true ∷ []) (cond c (piece r false ∷ []) (piecesOf clear least k (firstHalf r) ++ piecesOf clear least k (secondHalf r)))
+          ≡ piecesOf clear least k (firstHalf r) ++ piecesOf clear least k (secondHalf r)
       by true c p = clash (sym p)
       by false true p = clash (sym (rw (ne-eqb (suc k) 0 (λ q. omega arith)) at p))
       by false false p = refl
@@ -116,7 +127,8 @@ module _ (clear : Run → Bool) (least z : Float) (bx by : List Float) (left : L
   r = record { ax = ax; ay = ay; bx = num bx t; by = num by t; z = z }
 
   -- the piece on top is taken, and the next begins where it ends
-  pub stack-takes : (w w′ : Work) (all : Work) → splitsOf (clear r) least k r ≡ false → takenAll w (waiting clear least z ax ay (stackOf bx by left (t + 1))) ≡ all → w′ ≡ takenBy (w .table) (w .tally) r (clear r) → takenAll w′ (waiting clear least z (num bx t) (num by t) (stackOf bx by left t)) ≡ all
+  pub stack-takes : (w w′ : Work) (all : Work) → splitsOf (clear r) least k r ≡ false → takenAll w (waiting clear least z ax ay (stackOf bx by left (t + 1)))
+      ≡ all → w′ ≡ takenBy (w .table) (w .tally) r (clear r) → takenAll w′ (waiting clear least z (num bx t) (num by t) (stackOf bx by left t)) ≡ all
   unfolding stackOf waiting takenAll
   stack-takes w w′ all e g p =
       let g′ : takenAll w (piecesOf clear least k r ++ waiting clear least z (num bx t) (num by t) (stackOf bx by left t)) ≡ all = rw (add-one t) at g in
@@ -176,7 +188,8 @@ module _ (clear : Run → Bool) (least z : Float) (bx by : List Float) (left : L
               (on-or-off (eqb i top));
         }
 
-    split-stack : stackOf bx′ by′ left′ (top + 1) ≡ record { x = firstHalf r .bx; y = firstHalf r .by; left = k - 1 } ∷ record { x = num bx t; y = num by t; left = k - 1 } ∷ stackOf bx by left t
+    split-stack : stackOf bx′ by′ left′ (top + 1)
+        ≡ record { x = firstHalf r .bx; y = firstHalf r .by; left = k - 1 } ∷ record { x = num bx t; y = num by t; left = k - 1 } ∷ stackOf bx by left t
     unfolding stackOf
     split-stack =
         let u : top + 1 ≡ suc (suc t) = omega arith in
@@ -190,16 +203,19 @@ module _ (clear : Run → Bool) (least z : Float) (bx by : List Float) (left : L
           getD-set-other bx top t (firstHalf r .bx) nan (λ q. omega arith),
           getD-set-other by top t (firstHalf r .by) nan (λ q. omega arith),
           left-t,
-          stack-same bx by bx′ by′ left left′ t (λ i l. getD-set-other bx top i (firstHalf r .bx) nan (λ q. omega arith)) (λ i l. getD-set-other by top i (firstHalf r .by) nan (λ q. omega arith)) left-else,
+          stack-same bx by bx′ by′ left left′ t (λ i l. getD-set-other bx top i (firstHalf r .bx) nan (λ q. omega arith))
+              (λ i l. getD-set-other by top i (firstHalf r .by) nan (λ q. omega arith)) left-else,
         )
 
-    pub stack-splits : (w all : Work) → takenAll w (waiting clear least z ax ay (stackOf bx by left top)) ≡ all → takenAll w (waiting clear least z ax ay (stackOf bx′ by′ left′ (top + 1))) ≡ all
+    pub stack-splits : (w all : Work) → takenAll w (waiting clear least z ax ay (stackOf bx by left top)) ≡ all
+        → takenAll w (waiting clear least z ax ay (stackOf bx′ by′ left′ (top + 1))) ≡ all
     unfolding stackOf waiting
     stack-splits w all g =
         let g′ : takenAll w (piecesOf clear least k r ++ waiting clear least z (num bx t) (num by t) (stackOf bx by left t)) ≡ all = rw (e, add-one t) at g in
         let o = pieces-two clear least k r h .1 in
         ap (λ (es : List End). takenAll w (waiting clear least z ax ay es)) split-stack
-        ∙ ap (takenAll w) (sym (append-assoc (piecesOf clear least (k - 1) (firstHalf r)) (piecesOf clear least (k - 1) (secondHalf r)) (waiting clear least z (num bx t) (num by t) (stackOf bx by left t))))
+        ∙ ap (takenAll w) (sym (append-assoc (piecesOf clear least (k - 1) (firstHalf r)) (piecesOf clear least (k - 1) (secondHalf r))
+        (waiting clear least z (num bx t) (num by t) (stackOf bx by left t))))
         ∙ ap (λ (ps : List Piece). takenAll w (ps ++ waiting clear least z (num bx t) (num by t) (stackOf bx by left t))) (sym o)
         ∙ g′
 
@@ -211,11 +227,13 @@ module _ (clear : Run → Bool) (least z : Float) (bx by : List Float) (left : L
 
 -- ---- the first and the last turn
 
-pub stack-ends : (clear : Run → Bool) (least z : Float) (bx by : List Float) (left : List ℕ) (top : ℕ) (ax ay : Float) (w all : Work) → top ≡ 0 → takenAll w (waiting clear least z ax ay (stackOf bx by left top)) ≡ all → w ≡ all
+pub stack-ends : (clear : Run → Bool) (least z : Float) (bx by : List Float) (left : List ℕ) (top : ℕ) (ax ay : Float) (w all : Work) → top ≡ 0
+    → takenAll w (waiting clear least z ax ay (stackOf bx by left top)) ≡ all → w ≡ all
 unfolding stackOf waiting takenAll
 stack-ends clear least z bx by left top ax ay w all e g = rw e at g
 
-pub waiting-first : (clear : Run → Bool) (least : Float) (r : Run) (bx by : List Float) (left : List ℕ) → num bx 0 ≡ r .bx → num by 0 ≡ r .by → getD left 0 0 ≡ 32 → waiting clear least (r .z) (r .ax) (r .ay) (stackOf bx by left 1) ≡ piecesOf clear least 32 r
+pub waiting-first : (clear : Run → Bool) (least : Float) (r : Run) (bx by : List Float) (left : List ℕ) → num bx 0 ≡ r .bx → num by 0 ≡ r .by
+    → getD left 0 0 ≡ 32 → waiting clear least (r .z) (r .ax) (r .ay) (stackOf bx by left 1) ≡ piecesOf clear least 32 r
 unfolding stackOf waiting
 waiting-first clear least r bx by left p q s = rw (p, q, s) (append-nil (piecesOf clear least 32 r))
 
@@ -223,8 +241,10 @@ pub stacked-less : (bx by : List Float) (left : List ℕ) (top t : ℕ) → t �
 stacked-less bx by left top t h s = record { xs = s .xs; ys = s .ys; ls = s .ls; deep = λ i l. s .deep i (omega arith) }
 
 -- the stack's top, counted from the entry below it
-pub falls : (bx by : List Float) (left : List ℕ) (top t : ℕ) → top ≡ t + 1 → weight (stackOf bx by left t) < weight (stackOf bx by left (t + 1)) → weight (stackOf bx by left t) < weight (stackOf bx by left top)
+pub falls : (bx by : List Float) (left : List ℕ) (top t : ℕ) → top ≡ t + 1 → weight (stackOf bx by left t) < weight (stackOf bx by left (t + 1))
+    → weight (stackOf bx by left t) < weight (stackOf bx by left top)
 falls bx by left top t e h = rw e h
 
-pub one-more : (clear : Run → Bool) (least z : Float) (bx by : List Float) (left : List ℕ) (top t : ℕ) (ax ay : Float) (w all : Work) → top ≡ t + 1 → takenAll w (waiting clear least z ax ay (stackOf bx by left top)) ≡ all → takenAll w (waiting clear least z ax ay (stackOf bx by left (t + 1))) ≡ all
+pub one-more : (clear : Run → Bool) (least z : Float) (bx by : List Float) (left : List ℕ) (top t : ℕ) (ax ay : Float) (w all : Work) → top ≡ t + 1
+    → takenAll w (waiting clear least z ax ay (stackOf bx by left top)) ≡ all → takenAll w (waiting clear least z ax ay (stackOf bx by left (t + 1))) ≡ all
 one-more clear least z bx by left top t ax ay w all e g = rw e at g

@@ -17,14 +17,19 @@ use Rattle.grid.specs.Header.{inRanges}
 use Rattle.header.specs.Head.{headUsable, sizesInRanges}
 use Rattle.header.proofs.Ands.{three, from-is}
 
-pub sizes-are : (cell : Float) (columns rows : ℕ) (eps r : Float) (a : Bool) → a ≡ ((le millionth cell && le cell twoMillion) && ((isFrom 1 65536 columns && (isFrom 1 65536 rows && isFrom 1 1048576 (rows * columns))) && ((lt f0 eps && le eps twoMillionths) && isRadius r))) → a ≡ sizesInRanges cell columns rows eps r
+pub sizes-are : (cell : Float) (columns rows : ℕ) (eps r : Float) (a : Bool) → a ≡ ((le millionth cell && le cell twoMillion)
+    && ((isFrom 1 65536 columns && (isFrom 1 65536 rows && isFrom 1 1048576 (rows * columns))) && ((lt f0 eps && le eps twoMillionths) && isRadius r)))
+    → a ≡ sizesInRanges cell columns rows eps r
 unfolding sizesInRanges
 sizes-are cell columns rows eps r a e =
-    e ∙ ap (λ (b : Bool). (le millionth cell && le cell twoMillion) && b) (three (isFrom 1 65536 columns) (isFrom 1 65536 rows) (isFrom 1 1048576 (rows * columns)) ((lt f0 eps && le eps twoMillionths) && isRadius r))
+    e ∙ ap (λ (b : Bool). (le millionth cell && le cell twoMillion) && b)
+    (three (isFrom 1 65536 columns) (isFrom 1 65536 rows) (isFrom 1 1048576 (rows * columns)) ((lt f0 eps && le eps twoMillionths) && isRadius r))
 
-pub ranges-are : (h : Header) (a : Bool) → a ≡ (isFrom 1 65536 (h .n) && ((isCoordinate (h .«origin_x») && (isCoordinate (h .«origin_y») && isCoordinate (h .floor))) && sizesInRanges (h .cell) (h .columns) (h .rows) (h .eps) (h .r))) → a ≡ inRanges h
+pub ranges-are : (h : Header) (a : Bool) → a ≡ (isFrom 1 65536 (h .n) && ((isCoordinate (h .«origin_x»)
+    && (isCoordinate (h .«origin_y») && isCoordinate (h .floor))) && sizesInRanges (h .cell) (h .columns) (h .rows) (h .eps) (h .r))) → a ≡ inRanges h
 unfolding inRanges sizesInRanges
-ranges-are h a e = e ∙ ap (λ (b : Bool). isFrom 1 65536 (h .n) && b) (three (isCoordinate (h .«origin_x»)) (isCoordinate (h .«origin_y»)) (isCoordinate (h .floor)) (sizesInRanges (h .cell) (h .columns) (h .rows) (h .eps) (h .r)))
+ranges-are h a e = e ∙ ap (λ (b : Bool). isFrom 1 65536 (h .n) && b) (three (isCoordinate (h .«origin_x»)) (isCoordinate (h .«origin_y»))
+    (isCoordinate (h .floor)) (sizesInRanges (h .cell) (h .columns) (h .rows) (h .eps) (h .r)))
 
 pub few-cells : (columns rows : ℕ) → isFrom 1 65536 columns ≡ true → isFrom 1 65536 rows ≡ true → rows * columns ≤ 65536 * 65536
 few-cells columns rows c r = mul-le-mul (from-is 1 65536 rows r .1) (from-is 1 65536 columns c .1)
@@ -44,8 +49,10 @@ in-ranges-is h e =
     let a = both-true (isFrom 1 65536 (h .n)) (isCoordinate (h .«origin_x») && (isCoordinate (h .«origin_y») && (isCoordinate (h .floor) && f))) e in
     let b = both-true (isCoordinate (h .«origin_x»)) (isCoordinate (h .«origin_y») && (isCoordinate (h .floor) && f)) (a .1) in
     let c = both-true (isCoordinate (h .floor)) f (both-true (isCoordinate (h .«origin_y»)) (isCoordinate (h .floor) && f) (b .1) .1) in
-    let d = both-true (isFrom 1 65536 (h .columns)) g (both-true (le millionth (h .cell) && le (h .cell) twoMillion) (isFrom 1 65536 (h .columns) && g) (c .1) .1) in
-    let k = both-true (isFrom 1 1048576 (h .rows * h .columns)) i (both-true (isFrom 1 65536 (h .rows)) (isFrom 1 1048576 (h .rows * h .columns) && i) (d .1) .1) in
+    let d = both-true (isFrom 1 65536 (h .columns)) g
+    (both-true (le millionth (h .cell) && le (h .cell) twoMillion) (isFrom 1 65536 (h .columns) && g) (c .1) .1) in
+    let k = both-true (isFrom 1 1048576 (h .rows * h .columns)) i
+    (both-true (isFrom 1 65536 (h .rows)) (isFrom 1 1048576 (h .rows * h .columns) && i) (d .1) .1) in
     record { few = from-is 1 65536 (h .n) (a .0) .1; floor = c .0; cells = from-is 1 1048576 (h .rows * h .columns) (k .0) .1 }
 
 -- and one whose n is the mesh's, with room in starts

@@ -25,7 +25,8 @@ use Rattle.height.proofs.Demanding.{disk-promise}
 -- p, a and n are the cells, the test of the numbers and the refusal that the code found
 module _ (ix : Index) (marks : List ℕ) (stamp : ℕ) (p : Patch) (a : Bool) (n : ℕ) (e : n ≡ refusalOf a true ix marks stamp p) where
   -- what the walk of an accepted question may rely on
-  pub may-sweep : n ≡ 0 → p .x1 ≤ ix .header .columns → p .y1 ≤ ix .header .rows → (length (ix .mesh) ≡ length marks * 9) × (length marks ≤ 65536) × Sweepable ix (length marks) p × (length (ix .boxes) ≡ length marks * 5)
+  pub may-sweep : n ≡ 0 → p .x1 ≤ ix .header .columns → p .y1 ≤ ix .header .rows
+      → (length (ix .mesh) ≡ length marks * 9) × (length marks ≤ 65536) × Sweepable ix (length marks) p × (length (ix .boxes) ≡ length marks * 5)
   may-sweep z right top =
       let b = passed _ _ _ _ _ _ (sym e ∙ z) in
       let k = b .marked in
@@ -35,7 +36,8 @@ module _ (ix : Index) (marks : List ℕ) (stamp : ℕ) (p : Patch) (a : Bool) (n
 
   module _ (s : Sweep) (f : p ≡ patchFor (ix .header) s) (g : a ≡ isSweep s) where
     -- the answer, and what is promised beside it
-    tells : (x : Answer) (m : List ℕ) → ended x m ≡ askedHeight a true (diskStep (ix .mesh) (ix .boxes) (capsuleFor (ix .header) s)) ix marks stamp p → (ended x m ≡ maxHeightOf ix marks stamp s) × DiskPromise ix marks stamp s x
+    tells : (x : Answer) (m : List ℕ) → ended x m ≡ askedHeight a true (diskStep (ix .mesh) (ix .boxes) (capsuleFor (ix .header) s)) ix marks stamp p
+        → (ended x m ≡ maxHeightOf ix marks stamp s) × DiskPromise ix marks stamp s x
     tells x m i =
         let k : ended x m ≡ maxHeightOf ix marks stamp s = unfold maxHeightOf in (i ∙ (rw (f, g))) in
         (k, disk-promise ix marks stamp s x m k)
@@ -43,12 +45,14 @@ module _ (ix : Index) (marks : List ℕ) (stamp : ℕ) (p : Patch) (a : Bool) (n
     pub refused : (n ≡ 0 → ⊥) → (ended (refusedBy n stamp) marks ≡ maxHeightOf ix marks stamp s) × DiskPromise ix marks stamp s (refusedBy n stamp)
     refused z = tells (refusedBy n stamp) marks (height-refused a true ix marks stamp p n e _ z)
 
-    walk-told : n ≡ 0 → (w : Walk Best) → w ≡ capsuleWalk ix marks stamp (capsuleFor (ix .header) s) p → ended (answeredBy w (nextStamp stamp)) (w .marks) ≡ askedHeight a true (diskStep (ix .mesh) (ix .boxes) (capsuleFor (ix .header) s)) ix marks stamp p
+    walk-told : n ≡ 0 → (w : Walk Best) → w ≡ capsuleWalk ix marks stamp (capsuleFor (ix .header) s) p → ended (answeredBy w (nextStamp stamp)) (w .marks)
+        ≡ askedHeight a true (diskStep (ix .mesh) (ix .boxes) (capsuleFor (ix .header) s)) ix marks stamp p
     unfolding askedHeight answerOf capsuleWalk
     walk-told z w v =
         taken _ _ _ _ (eq-eqb _ 0 (sym e ∙ z)) (ap (λ (u : Walk Best). ended (answeredBy u (nextStamp stamp)) (u .marks)) v)
 
-    pub answered : n ≡ 0 → (q : Capsule) (w : Walk Best) (next : ℕ) → q ≡ capsuleFor (ix .header) s → w ≡ capsuleWalk ix marks stamp q p → next ≡ nextStamp stamp → (ended (answeredBy w next) (w .marks) ≡ maxHeightOf ix marks stamp s) × DiskPromise ix marks stamp s (answeredBy w next)
+    pub answered : n ≡ 0 → (q : Capsule) (w : Walk Best) (next : ℕ) → q ≡ capsuleFor (ix .header) s → w ≡ capsuleWalk ix marks stamp q p
+        → next ≡ nextStamp stamp → (ended (answeredBy w next) (w .marks) ≡ maxHeightOf ix marks stamp s) × DiskPromise ix marks stamp s (answeredBy w next)
     answered z q w next b c d =
         tells (answeredBy w next) (w .marks)
         (ap (λ (k : ℕ). ended (answeredBy w k) (w .marks)) d ∙ walk-told z w (c ∙ ap (λ (k : Capsule). capsuleWalk ix marks stamp k p) b))

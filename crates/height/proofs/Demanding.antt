@@ -27,11 +27,13 @@ use Rattle.height.specs.Demand.{Demand3, DiskPromise}
 use Rattle.height.proofs.Heights.{coordinate-real, fold-is, fold-none}
 
 module _ (ix : Index) (marks : List ℕ) (stamp : ℕ) (s : Sweep) (a : Answer) (m : List ℕ) (e : ended a m ≡ maxHeightOf ix marks stamp s) where
-  demand-3 : BuiltFrom ix → a .refusal ≡ 0 → Demand3 ix (patchFor (ix .header) s) (capsuleFor (ix .header) s) (lookedIn ix marks stamp (patchFor (ix .header) s)) a
+  demand-3 : BuiltFrom ix → a .refusal ≡ 0
+      → Demand3 ix (patchFor (ix .header) s) (capsuleFor (ix .header) s) (lookedIn ix marks stamp (patchFor (ix .header) s)) a
   unfolding maxHeightOf walked lookedIn
   demand-3 b z =
       let sound = index-sound ix b in
-      let top-is : (k : ℕ) → k < ix .header .n → boxAt (ix .boxes) k .top ≡ topOf (triangleOf (ix .mesh) k) = λ k l. unfold boxOf boundsOf in ap (λ (u : Bounds). u .top) (sound .boxed k l) in
+      let top-is : (k : ℕ) → k < ix .header .n → boxAt (ix .boxes) k .top ≡ topOf (triangleOf (ix .mesh) k) = λ k l. unfold boxOf boundsOf in
+      ap (λ (u : Bounds). u .top) (sound .boxed k l) in
       let p = patchFor (ix .header) s in
       let i = patch-inside (ix .header) (s .px) (s .py) (s .qx) (s .qy) (s .r) in
       let q = capsuleFor (ix .header) s in

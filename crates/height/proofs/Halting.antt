@@ -25,7 +25,8 @@ module _ {stamp : ℕ} {s : Walk Best → ℕ → Walk Best} {w₀ : Walk Best} 
   gone-starts = record { front = []; whole = refl; walk = refl; kept = kept-same stamp w₀ }
 
   -- a row
-  pub gone-turns : (f : ℕ → List ℕ) (a b : ℕ) {w w′ : Walk Best} → a < b → Kept stamp w w′ → Gone stamp s w₀ all w (over f a (b - a)) → w′ ≡ fold s w (f a) → Gone stamp s w₀ all w′ (over f (a + 1) (b - (a + 1)))
+  pub gone-turns : (f : ℕ → List ℕ) (a b : ℕ) {w w′ : Walk Best} → a < b → Kept stamp w w′ → Gone stamp s w₀ all w (over f a (b - a)) → w′ ≡ fold s w (f a)
+      → Gone stamp s w₀ all w′ (over f (a + 1) (b - (a + 1)))
   unfolding over
   gone-turns f a b {w} {w′} h k g e =
       let n : b - a ≡ suc (b - (a + 1)) = omega arith in
@@ -43,7 +44,8 @@ module _ {stamp : ℕ} {s : Walk Best → ℕ → Walk Best} {w₀ : Walk Best} 
       let n : b - a ≡ 0 = omega arith in
       record { front = g .front; rest = []; whole = rw n at (g .whole); walk = g .walk; why = inl refl }
 
-  pub gone-halts : (limit : Float) (rest : List ℕ) {w : Walk Best} → lt limit (w .value .height) ≡ true → Gone stamp s w₀ all w rest → Halted (fold s w₀) all limit w
+  pub gone-halts : (limit : Float) (rest : List ℕ) {w : Walk Best} → lt limit (w .value .height) ≡ true → Gone stamp s w₀ all w rest
+      → Halted (fold s w₀) all limit w
   gone-halts limit rest h g = record { front = g .front; rest = rest; whole = g .whole; walk = g .walk; why = inr h }
 
 -- no best is above infinity

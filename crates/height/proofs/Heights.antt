@@ -120,7 +120,9 @@ module _ (mesh boxes : List Float) (q : Capsule) where
       (fold-is is (diskStep mesh boxes q b i) (r .1))
 
   -- the triangle that was just looked at: its top or its height is not above what the walk ends at
-  last-none : (is : List ℕ) (b : Best) → Real b → (i : ℕ) (z : Float) (t : Touch) → heightOf mesh q i ≡ Height z t → lt (fold (diskStep mesh boxes q) (diskStep mesh boxes q b i) is .height) (boxAt boxes i .top) ≡ true → lt (fold (diskStep mesh boxes q) (diskStep mesh boxes q b i) is .height) z ≡ true → ⊥
+  last-none : (is : List ℕ) (b : Best) → Real b → (i : ℕ) (z : Float) (t : Touch) → heightOf mesh q i ≡ Height z t
+      → lt (fold (diskStep mesh boxes q) (diskStep mesh boxes q b i) is .height) (boxAt boxes i .top) ≡ true
+      → lt (fold (diskStep mesh boxes q) (diskStep mesh boxes q b i) is .height) z ≡ true → ⊥
   last-none is b n i z touch g above higher =
       let r = step-rises b i n in
       let f = fold-rises is (diskStep mesh boxes q b i) (r .1) in
@@ -132,7 +134,8 @@ module _ (mesh boxes : List Float) (q : Capsule) where
       (λ s. lt-never-same z (rw (s .new, height-is _ z _ touch (sym (s .met) ∙ g)) at (under _ _ z f higher)))
       (step-is b i n)
 
-  pub fold-none : (is : List ℕ) (b : Best) → Real b → (i : ℕ) → 0 < times i is → (z : Float) (touch : Touch) → heightOf mesh q i ≡ Height z touch → lt (fold (diskStep mesh boxes q) b is .height) (boxAt boxes i .top) ≡ true → lt (fold (diskStep mesh boxes q) b is .height) z ≡ true → ⊥
+  pub fold-none : (is : List ℕ) (b : Best) → Real b → (i : ℕ) → 0 < times i is → (z : Float) (touch : Touch) → heightOf mesh q i ≡ Height z touch
+      → lt (fold (diskStep mesh boxes q) b is .height) (boxAt boxes i .top) ≡ true → lt (fold (diskStep mesh boxes q) b is .height) z ≡ true → ⊥
   unfolding fold times
   fold-none [] b n i t z touch g above higher = absurd (omega arith)
   fold-none (j ∷ is) b n i t z touch g above higher =

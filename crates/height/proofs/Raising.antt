@@ -26,7 +26,8 @@ module _ (mesh boxes : List Float) (q : Capsule) (best : Best) (i : ℕ) (b : Bo
   unfolding diskStep
   raise-skips e = taken _ _ _ _ (test-is ∙ e) refl
 
-  pub raise-takes : le (b .top) (best .height) ≡ false → (t : Triangle) (k : Contact) (v : Best) → t ≡ triangleOf mesh i → k ≡ onTop (best .height) (highestIn q t) → v ≡ raisedBy k i best → v ≡ diskStep mesh boxes q best i
+  pub raise-takes : le (b .top) (best .height) ≡ false → (t : Triangle) (k : Contact) (v : Best) → t ≡ triangleOf mesh i
+      → k ≡ onTop (best .height) (highestIn q t) → v ≡ raisedBy k i best → v ≡ diskStep mesh boxes q best i
   unfolding diskStep heightOf
   raise-takes e t k v f c d =
       left _ _ _ _ (test-is ∙ e)

@@ -29,5 +29,6 @@ module _ (bytes : List ℕ) (mesh qs : List Float) where
 
   -- all that reading a job promises
   pub whole-contract : (o : Outcome) → o ≡ readOf bytes mesh qs →
-      (o ≡ readOf bytes mesh qs) × (SoundExactly bytes (length mesh / 9) (length qs / 5) (o .answer .refusal) × (o .answer .refusal ≡ 0 → NeverTakenForAPart bytes mesh qs))
+      (o ≡ readOf bytes mesh qs)
+      × (SoundExactly bytes (length mesh / 9) (length qs / 5) (o .answer .refusal) × (o .answer .refusal ≡ 0 → NeverTakenForAPart bytes mesh qs))
   whole-contract o p = (p, (exactly bytes mesh qs o p, never-a-part o p))

@@ -1,5 +1,5 @@
--- The head and the length of a job, in any version: what a job that passes them is, what 19 says, and that a part of a job, or a job with more behind it, is never
--- taken for one.
+-- The head and the length of a job, in any version: what a job that passes them is, what 19 says, and that a part of a job, or a job with more behind it, is
+-- never taken for one.
 use mathlib.Core.Bool.{Bool, true, false, not}
 use mathlib.Core.List.{List}
 use mathlib.Core.Path.{_≡_, refl, ap, sym, _∙_}
@@ -47,12 +47,14 @@ module _ (w : ℕ) (bytes : List ℕ) (k : ℕ) where
   unfolding toldIn
   none-told h = left _ _ _ _ (ne-eqb k 19 h) refl
 
-  pub whole-told : (c n m : ℕ) (s : Shape) → k ≡ 19 → n ≡ value triangles bytes → m ≡ value questions bytes → s ≡ shape w n m → c ≡ wholeIn s (length bytes) → c ≡ toldIn w k bytes
+  pub whole-told : (c n m : ℕ) (s : Shape) → k ≡ 19 → n ≡ value triangles bytes → m ≡ value questions bytes → s ≡ shape w n m
+      → c ≡ wholeIn s (length bytes) → c ≡ toldIn w k bytes
   unfolding toldIn
   whole-told c n m s z p q i e = taken _ _ _ _ (eq-eqb k 19 z) (e ∙ ap (λ (t : Shape). wholeIn t (length bytes)) (i ∙ rw (p, q)))
 
 -- ---- what the length decides
-pub length-refused : (w : ℕ) (bytes : List ℕ) (n m : ℕ) (s : Shape) → s ≡ shape w n m → (r : Length) (k late : ℕ) → r ≡ lengthRule s (length bytes) → k ≡ refuseLength r late → k ≡ refusalOfLength w bytes n m late
+pub length-refused : (w : ℕ) (bytes : List ℕ) (n m : ℕ) (s : Shape) → s ≡ shape w n m → (r : Length) (k late : ℕ) → r ≡ lengthRule s (length bytes)
+    → k ≡ refuseLength r late → k ≡ refusalOfLength w bytes n m late
 unfolding refusalOfLength
 length-refused w bytes n m s i r k late p e = rung-told r _ k _ (p ∙ ap (λ (t : Shape). lengthRule t (length bytes)) i) e
 

@@ -65,7 +65,8 @@ module _ (nroom mroom : ℕ) where
 told-alike : (xs ys : List ℕ) (k : ℕ) → (k ≡ 19 → ⊥) → refusedBy k xs ≡ refusedBy k ys
 told-alike xs ys k h = rw (← none-told wide xs k h, ← none-told wide ys k h)
 
-pub read-cut : (xs : List ℕ) (mesh qs : List Float) (k : ℕ) → bytesOf wide (length mesh / 9) (length qs / 5) < k → readOf (take k xs) mesh qs ≡ readOf xs mesh qs
+pub read-cut : (xs : List ℕ) (mesh qs : List Float) (k : ℕ) → bytesOf wide (length mesh / 9) (length qs / 5) < k
+    → readOf (take k xs) mesh qs ≡ readOf xs mesh qs
 read-cut xs mesh qs k h =
     by-test (ltb k (length xs))
     (λ t. let l = ltb-true k (length xs) t in
@@ -73,5 +74,6 @@ read-cut xs mesh qs k h =
     let m = length qs / 5 in
     let r = refusalOf xs n m in
     let z = never-sound n m xs (omega arith) in
-    sym (refused-is (take k xs) mesh qs r (sym (cut-refusal n m xs k h (omega arith))) z) ∙ ap (λ (a : Read). ended a mesh qs) (told-alike (take k xs) xs r (never-short n m xs (omega arith))) ∙ refused-is xs mesh qs r refl z)
+    sym (refused-is (take k xs) mesh qs r (sym (cut-refusal n m xs k h (omega arith))) z)
+    ∙ ap (λ (a : Read). ended a mesh qs) (told-alike (take k xs) xs r (never-short n m xs (omega arith))) ∙ refused-is xs mesh qs r refl z)
     (λ t. ap (λ (ys : List ℕ). readOf ys mesh qs) (take-all k xs (ltb-false k (length xs) t)))

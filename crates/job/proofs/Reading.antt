@@ -28,12 +28,15 @@ module _ (bytes : List ℕ) (nroom mroom k : ℕ) (e : k ≡ refusalOfHead wide 
     pub head-whole : Headed wide 1 bytes nroom mroom
     head-whole = headed wide 1 bytes nroom mroom 0 (sym e ∙ z) .0
 
-    pub refused-last : (n m r : ℕ) → n ≡ value triangles bytes → m ≡ value questions bytes → r ≡ refusalOfNumbers bytes (2 + 9 * n + 5 * m) → r ≡ refusalOf bytes nroom mroom
+    pub refused-last : (n m r : ℕ) → n ≡ value triangles bytes → m ≡ value questions bytes → r ≡ refusalOfNumbers bytes (2 + 9 * n + 5 * m)
+        → r ≡ refusalOf bytes nroom mroom
     unfolding refusalOf
     refused-last n m r p q f = f ∙ (rw (p, q) (head-passes wide 1 bytes nroom mroom head-whole _))
 
 module _ (bytes : List ℕ) (mesh qs : List Float) where
-  pub decoded-is : (n m : ℕ) (f r : Float) (mesh′ qs′ : List Float) → f ≡ numberOf bytes 0 → r ≡ numberOf bytes 1 → mesh′ ≡ row (numberOf bytes) meshFrom (9 * n) ++ drop (9 * n) mesh → qs′ ≡ row (numberOf bytes) (questionsFrom n) (5 * m) ++ drop (5 * m) qs → ended (record { refusal = 0; n = n; m = m; floor = f; radius = r }) mesh′ qs′ ≡ acceptedOf bytes n m mesh qs
+  pub decoded-is : (n m : ℕ) (f r : Float) (mesh′ qs′ : List Float) → f ≡ numberOf bytes 0 → r ≡ numberOf bytes 1
+      → mesh′ ≡ row (numberOf bytes) meshFrom (9 * n) ++ drop (9 * n) mesh → qs′ ≡ row (numberOf bytes) (questionsFrom n) (5 * m) ++ drop (5 * m) qs
+      → ended (record { refusal = 0; n = n; m = m; floor = f; radius = r }) mesh′ qs′ ≡ acceptedOf bytes n m mesh qs
   unfolding acceptedOf
   decoded-is n m f r mesh′ qs′ p q e₁ e₂ = rw (p, q, e₁, e₂)
 
@@ -41,7 +44,8 @@ module _ (bytes : List ℕ) (mesh qs : List Float) where
   pub refusal-is : readOf bytes mesh qs .answer .refusal ≡ refusalOf bytes (length mesh / 9) (length qs / 5)
   unfolding readOf acceptedOf
   refusal-is =
-      either (λ (o : Outcome). o .answer .refusal ≡ refusalOf bytes (length mesh / 9) (length qs / 5)) (eqb (refusalOf bytes (length mesh / 9) (length qs / 5)) 0) _ _
+      either (λ (o : Outcome). o .answer .refusal ≡ refusalOf bytes (length mesh / 9) (length qs / 5))
+      (eqb (refusalOf bytes (length mesh / 9) (length qs / 5)) 0) _ _
       (λ t. sym (eqb-true _ 0 t))
       (λ t. refl)
 
@@ -73,7 +77,8 @@ module _ (bytes : List ℕ) (mesh qs : List Float) where
     head-stands z = omega (arith, cut-only bytes _ _ (sym e ∙ z) .0)
 
     module _ (z : k ≡ 0) where
-      pub accepted-is : (n m : ℕ) (o : Outcome) → n ≡ value triangles bytes → m ≡ value questions bytes → o ≡ acceptedOf bytes n m mesh qs → o ≡ readOf bytes mesh qs
+      pub accepted-is : (n m : ℕ) (o : Outcome) → n ≡ value triangles bytes → m ≡ value questions bytes → o ≡ acceptedOf bytes n m mesh qs
+          → o ≡ readOf bytes mesh qs
       unfolding readOf
       accepted-is n m o p q a = rw (← e, ← p, ← q) (taken _ _ _ _ (eq-eqb k 0 z) a)
 
@@ -82,7 +87,8 @@ module _ (bytes : List ℕ) (mesh qs : List Float) where
       counts-within = let s = sound bytes _ _ (sym e ∙ z) in omega (arith, s .whole)
 
       -- so do all numbers, which are finite and have room
-      pub ready : (n m : ℕ) → n ≡ value triangles bytes → m ≡ value questions bytes → ((bytesOf wide n m ≤ length bytes) × (9 * n ≤ length mesh) × (5 * m ≤ length qs)) × ((i : ℕ) → i < numbers n m → finite (numberOf bytes i) ≡ true)
+      pub ready : (n m : ℕ) → n ≡ value triangles bytes → m ≡ value questions bytes
+          → ((bytesOf wide n m ≤ length bytes) × (9 * n ≤ length mesh) × (5 * m ≤ length qs)) × ((i : ℕ) → i < numbers n m → finite (numberOf bytes i) ≡ true)
       ready n m p q =
           let s = sound bytes _ _ (sym e ∙ z) in
           ((omega (arith, s .whole), omega (arith, s .few .1), omega (arith, s .few-questions .1)), λ i h. s .finite-all i (omega arith))

@@ -15,7 +15,8 @@ use Rattle.job.specs.Layout.{triangles, questions, meshFrom, questionsFrom, byt
 use Rattle.job.specs.Head.{refusalOfHead, toldIn, Headed}
 use Rattle.job.specs.Reader as version1
 use Rattle.job.proofs.Heads.{headed, head-cut, head-passes, head-apart}
-use Rattle.job_um.specs.Reader.{numberOf, refusalOf, Outcome, ended, refusedBy, acceptedOf, readOf, SoundExactly, NeverTakenForAPart, OtherVersion, AcceptedPromise}
+use Rattle.job_um.specs.Reader.{numberOf, refusalOf, Outcome, ended, refusedBy, acceptedOf, readOf}
+use Rattle.job_um.specs.Reader.{SoundExactly, NeverTakenForAPart, OtherVersion, AcceptedPromise}
 use Rattle.job_um.specs.declared.Read.{Read}
 
 -- ---- the other version
@@ -27,14 +28,17 @@ other-version bytes nroom mroom s a b =
     (refuse-here _ 16 _ 16 (differs _ _ 1 (sym (s .first)) (λ (z : _≡_ {A = ℕ} 2 1). omega arith)) refl)))
 
 module _ (bytes : List ℕ) (mesh qs : List ℤ) where
-  pub decoded-is : (n m : ℕ) (f r : ℤ) (mesh′ qs′ : List ℤ) → f ≡ numberOf bytes 0 → r ≡ numberOf bytes 1 → mesh′ ≡ row (numberOf bytes) meshFrom (9 * n) ++ drop (9 * n) mesh → qs′ ≡ row (numberOf bytes) (questionsFrom n) (5 * m) ++ drop (5 * m) qs → ended (record { refusal = 0; n = n; m = m; floor = f; radius = r }) mesh′ qs′ ≡ acceptedOf bytes n m mesh qs
+  pub decoded-is : (n m : ℕ) (f r : ℤ) (mesh′ qs′ : List ℤ) → f ≡ numberOf bytes 0 → r ≡ numberOf bytes 1
+      → mesh′ ≡ row (numberOf bytes) meshFrom (9 * n) ++ drop (9 * n) mesh → qs′ ≡ row (numberOf bytes) (questionsFrom n) (5 * m) ++ drop (5 * m) qs
+      → ended (record { refusal = 0; n = n; m = m; floor = f; radius = r }) mesh′ qs′ ≡ acceptedOf bytes n m mesh qs
   unfolding acceptedOf
   decoded-is n m f r mesh′ qs′ p q e₁ e₂ = rw (p, q, e₁, e₂)
 
   refusal-is : readOf bytes mesh qs .answer .refusal ≡ refusalOf bytes (length mesh / 9) (length qs / 5)
   unfolding readOf acceptedOf
   refusal-is =
-      either (λ (o : Outcome). o .answer .refusal ≡ refusalOf bytes (length mesh / 9) (length qs / 5)) (eqb (refusalOf bytes (length mesh / 9) (length qs / 5)) 0) _ _
+      either (λ (o : Outcome). o .answer .refusal ≡ refusalOf bytes (length mesh / 9) (length qs / 5))
+      (eqb (refusalOf bytes (length mesh / 9) (length qs / 5)) 0) _ _
       (λ t. sym (eqb-true _ 0 t))
       (λ t. refl)
 
@@ -57,7 +61,8 @@ module _ (bytes : List ℕ) (mesh qs : List ℤ) where
     head-stands z = omega (arith, head-cut narrow 2 bytes _ _ 0 (λ (w : _≡_ {A = ℕ} 0 19). omega arith) (sym e ∙ z) .0)
 
     module _ (z : k ≡ 0) where
-      pub accepted-is : (n m : ℕ) (o : Outcome) → n ≡ value triangles bytes → m ≡ value questions bytes → o ≡ acceptedOf bytes n m mesh qs → o ≡ readOf bytes mesh qs
+      pub accepted-is : (n m : ℕ) (o : Outcome) → n ≡ value triangles bytes → m ≡ value questions bytes → o ≡ acceptedOf bytes n m mesh qs
+          → o ≡ readOf bytes mesh qs
       unfolding readOf refusalOf
       accepted-is n m o p q a = rw (← e, ← p, ← q) (taken _ _ _ _ (eq-eqb k 0 z) a)
 
@@ -69,7 +74,8 @@ module _ (bytes : List ℕ) (mesh qs : List ℤ) where
       counts-within = omega (arith, stands .whole)
 
       -- so do all numbers, and have room
-      pub ready : (n m : ℕ) → n ≡ value triangles bytes → m ≡ value questions bytes → (bytesOf narrow n m ≤ length bytes) × (9 * n ≤ length mesh) × (5 * m ≤ length qs)
+      pub ready : (n m : ℕ) → n ≡ value triangles bytes → m ≡ value questions bytes
+          → (bytesOf narrow n m ≤ length bytes) × (9 * n ≤ length mesh) × (5 * m ≤ length qs)
       ready n m p q = let s = stands in (omega (arith, s .whole), omega (arith, s .few .1), omega (arith, s .few-questions .1))
 
 module _ (bytes : List ℕ) (mesh qs : List ℤ) where
@@ -84,7 +90,8 @@ module _ (bytes : List ℕ) (mesh qs : List ℤ) where
 
   -- all that reading a job promises
   pub whole-contract : (o : Outcome) → o ≡ readOf bytes mesh qs →
-      (o ≡ readOf bytes mesh qs) × (SoundExactly bytes (length mesh / 9) (length qs / 5) (o .answer .refusal) × AcceptedPromise bytes mesh qs (o .answer .refusal))
+      (o ≡ readOf bytes mesh qs)
+      × (SoundExactly bytes (length mesh / 9) (length qs / 5) (o .answer .refusal) × AcceptedPromise bytes mesh qs (o .answer .refusal))
   whole-contract o p =
       let x = exactly bytes mesh qs o p in
       (p, (x, λ z. (never-a-part (x .0 z), other-version bytes _ _ (x .0 z))))

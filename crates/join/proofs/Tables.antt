@@ -27,18 +27,26 @@ past (r ∷ rs) t i h =
     let n : i ≡ length (fiveOf r) + (i - 5) = omega arith in
     let m : 5 + (i - 5) ≡ i = omega arith in
     by-test (leb 5 (length t))
-    (λ (p : leb 5 (length t) ≡ true). rw p (ap (λ (k : ℕ). getD (fiveOf r ++ written (map fiveOf rs) (drop 5 t)) k nan) n ∙ getD-append-add (fiveOf r) (written (map fiveOf rs) (drop 5 t)) (i - 5) nan ∙ rest ∙ getD-drop 5 t (i - 5) nan ∙ ap (num t) m))
+    (λ (p : leb 5 (length t) ≡ true). rw p (ap (λ (k : ℕ). getD (fiveOf r ++ written (map fiveOf rs) (drop 5 t)) k nan) n
+    ∙ getD-append-add (fiveOf r) (written (map fiveOf rs) (drop 5 t)) (i - 5) nan ∙ rest ∙ getD-drop 5 t (i - 5) nan ∙ ap (num t) m))
     (λ (p : leb 5 (length t) ≡ false). rw p)
 
 pub run-past : (rs : List Run) (t : List Float) (m : ℕ) → length rs ≤ m → runIn (written (map fiveOf rs) t) m ≡ runIn t m
 run-past rs t m h =
-    rw (past rs t (m * 5) (omega arith), past rs t (m * 5 + 1) (omega arith), past rs t (m * 5 + 2) (omega arith), past rs t (m * 5 + 3) (omega arith), past rs t (m * 5 + 4) (omega arith))
+    rw (
+      past rs t (m * 5) (omega arith),
+      past rs t (m * 5 + 1) (omega arith),
+      past rs t (m * 5 + 2) (omega arith),
+      past rs t (m * 5 + 3) (omega arith),
+      past rs t (m * 5 + 4) (omega arith),
+    )
 
 -- what was written is read back
 module _ (t : List Float) where
   run-at : (xs ys : List Run) (r : Run) → length xs * 5 + 5 ≤ length t → runIn (written (map fiveOf (xs ++ r ∷ ys)) t) (length xs) ≡ r
   run-at xs ys r h =
-      let at : (k : ℕ) → k < 5 → num (written (map fiveOf (xs ++ r ∷ ys)) t) (length xs * 5 + k) ≡ num (fiveOf r) k = λ k l. written-at fiveOf (λ _. refl) xs ys r t k nan h l in
+      let at : (k : ℕ) → k < 5 → num (written (map fiveOf (xs ++ r ∷ ys)) t) (length xs * 5 + k) ≡ num (fiveOf r) k =
+      λ k l. written-at fiveOf (λ _. refl) xs ys r t k nan h l in
       let z : length xs * 5 ≡ length xs * 5 + 0 = omega arith in
       let first = ap (num (written (map fiveOf (xs ++ r ∷ ys)) t)) z ∙ at 0 (omega arith) in
       rw (first, at 1 (omega arith), at 2 (omega arith), at 3 (omega arith), at 4 (omega arith))
@@ -65,7 +73,8 @@ zeroed-behind (a ∷ b ∷ c ∷ []) = refl
 zeroed-behind (a ∷ b ∷ c ∷ d ∷ []) = refl
 zeroed-behind (a ∷ b ∷ c ∷ d ∷ e ∷ t) = refl
 
-pub cleared : (rs : List Run) (t : List Float) → length rs * 5 ≤ length t → take (length rs * 5) (written (map fiveOf rs) t) ++ zeroed (drop (length rs * 5) (written (map fiveOf rs) t)) ≡ written (map fiveOf rs) (zeroed t)
+pub cleared : (rs : List Run) (t : List Float) → length rs * 5 ≤ length t
+    → take (length rs * 5) (written (map fiveOf rs) t) ++ zeroed (drop (length rs * 5) (written (map fiveOf rs) t)) ≡ written (map fiveOf rs) (zeroed t)
 unfolding written
 cleared [] t h = refl
 cleared (r ∷ rs) t h =
@@ -78,7 +87,8 @@ cleared (r ∷ rs) t h =
     (append-assoc (fiveOf r) (take (length rs * 5) w) (zeroed (drop (length rs * 5) w)) ∙ ap (λ (l : List Float). fiveOf r ++ l) rest)
 
 -- the part behind a, cleared and back in its place
-pub cleared-part : (a : ℕ) (xs ys : List Float) → a ≤ length xs → ys ≡ zeroed (midOf a (length xs - a) xs) → putMid a (length xs - a) xs ys ≡ take a xs ++ zeroed (drop a xs)
+pub cleared-part : (a : ℕ) (xs ys : List Float) → a ≤ length xs → ys ≡ zeroed (midOf a (length xs - a) xs)
+    → putMid a (length xs - a) xs ys ≡ take a xs ++ zeroed (drop a xs)
 cleared-part a xs ys h e =
     let m : midOf a (length xs - a) xs ≡ drop a xs = take-all (length xs - a) (drop a xs) (omega (arith, length-drop a xs)) in
     let n = post-is a (length xs) xs h ∙ drop-length xs in

@@ -55,9 +55,11 @@ module _ (t₀ : List Float) (m : ℕ) (w : Work) (g : Taken t₀ m w) where
       kept : keptOf (all (runsIn t₀ 0 m)) ≡ runsIn t₀ 0 m
       kept = all-kept (runsIn t₀ 0 m)
 
-      by : (b : Bool) → cond b (Opened touchesOf lengthened (λ r. r) (keptOf (all (runsIn t₀ 0 m))) (g .done) (w .tally .last)) ((keptOf (all (runsIn t₀ 0 m)) ≡ []) × (g .done ≡ [])) → length (g .done) ≤ m
+      by : (b : Bool) → cond b (Opened touchesOf lengthened (λ r. r) (keptOf (all (runsIn t₀ 0 m))) (g .done) (w .tally .last))
+          ((keptOf (all (runsIn t₀ 0 m)) ≡ []) × (g .done ≡ [])) → length (g .done) ≤ m
       by true o =
-          let e : joinedOf (runsIn t₀ 0 m) ≡ g .done ++ w .tally .last ∷ [] = ap joinedOf (sym kept) ∙ (unfold joinedOf in opened-ends touchesOf lengthened (λ r. r) (keptOf (all (runsIn t₀ 0 m))) (g .done) (w .tally .last) o) in
+          let e : joinedOf (runsIn t₀ 0 m) ≡ g .done ++ w .tally .last ∷ [] = ap joinedOf (sym kept)
+          ∙ (unfold joinedOf in opened-ends touchesOf lengthened (λ r. r) (keptOf (all (runsIn t₀ 0 m))) (g .done) (w .tally .last) o) in
           omega (arith, joined-few (runsIn t₀ 0 m), in-length t₀ 0 m, ap length e, length-append (g .done) (w .tally .last ∷ []))
       by false n = rw (n .1) (omega arith)
 
@@ -68,7 +70,9 @@ module _ (t₀ : List Float) (m : ℕ) (w : Work) (g : Taken t₀ m w) where
   taken-goes r w′ e f =
       let next = tallied-goes t₀ (all (runsIn t₀ 0 m)) w (runIn t₀ m) true g in
       let z : 0 + m ≡ m = omega arith in
-      let p : all (runsIn t₀ 0 m) ++ piece (runIn t₀ m) true ∷ [] ≡ all (runsIn t₀ 0 (m + 1)) = ap (λ (i : ℕ). all (runsIn t₀ 0 m) ++ piece (runIn t₀ i) true ∷ []) (sym z) ∙ all-more t₀ 0 m ∙ ap (λ (i : ℕ). all (runsIn t₀ 0 i)) (sym (add-one m)) in
+      let p : all (runsIn t₀ 0 m) ++ piece (runIn t₀ m) true ∷ [] ≡ all (runsIn t₀ 0 (m + 1)) =
+      ap (λ (i : ℕ). all (runsIn t₀ 0 m) ++ piece (runIn t₀ i) true ∷ []) (sym z) ∙ all-more t₀ 0 m
+      ∙ ap (λ (i : ℕ). all (runsIn t₀ 0 i)) (sym (add-one m)) in
       rw (f, e, reads-run, ← p) next
 
 -- all are taken, and the open one is written
@@ -77,5 +81,6 @@ pub taken-ends : (t₀ : List Float) (w w′ : Work) → Taken t₀ (roomOf t₀
 taken-ends t₀ w w′ g e =
     let k : keptOf (all (runsOf t₀)) ≡ runsOf t₀ = all-kept (runsOf t₀) in
     let z = rw (← e) at (tallied-ends t₀ (all (runsOf t₀)) w g) in
-    let n : w′ .tally .count ≡ min (length (joinedOf (runsOf t₀))) (roomOf t₀ + 1) = z .count ∙ ap (λ (l : List Run). min (length (joinedOf l)) (roomOf t₀ + 1)) k in
+    let n : w′ .tally .count ≡ min (length (joinedOf (runsOf t₀))) (roomOf t₀ + 1) = z .count
+    ∙ ap (λ (l : List Run). min (length (joinedOf l)) (roomOf t₀ + 1)) k in
     (z .table ∙ ap (λ (l : List Run). written (map fiveOf (joinedOf l)) t₀) k, omega (arith, n, joined-few (runsOf t₀), in-length t₀ 0 (roomOf t₀)))

@@ -34,7 +34,8 @@ rejoined g [] ss = refl
 rejoined g (b ∷ bs) ss =
     let grown = rejoined (lengthened g b) bs ss in
     let next = rejoined b bs ss in
-    by-test (touchesOf g b) (λ (p : touchesOf g b ≡ true). rw p grown) (λ (p : touchesOf g b ≡ false). rw p (apart g b bs ss p ∙ ap (λ (l : List Run). g ∷ l) next))
+    by-test (touchesOf g b) (λ (p : touchesOf g b ≡ true). rw p grown)
+    (λ (p : touchesOf g b ≡ false). rw p (apart g b bs ss p ∙ ap (λ (l : List Run). g ∷ l) next))
 
 joined-more : (rs ss : List Run) → joinedOf (joinedOf rs ++ ss) ≡ joinedOf (rs ++ ss)
 joined-more [] ss = unfold joinedOf grouped in refl

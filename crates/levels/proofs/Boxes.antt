@@ -85,6 +85,7 @@ module _ (mesh boxes : List Float) (levelTolerance : Float) where
   all-boxed [] a = tt
   all-boxed (i ∷ is) a = from-boxed (opens i) is (opened-boxed _ _ (a .0)) (a .1)
 
-  pub levels-boxed : (n : ℕ) (tolerance floor : Float) → ((i : ℕ) → i < n → Sided (boxAt boxes i)) → Each Boxed (levelsOf mesh boxes n tolerance levelTolerance floor)
+  pub levels-boxed : (n : ℕ) (tolerance floor : Float) → ((i : ℕ) → i < n → Sided (boxAt boxes i))
+      → Each Boxed (levelsOf mesh boxes n tolerance levelTolerance floor)
   unfolding levelsOf sortedFlats
   levels-boxed n tolerance floor good = all-boxed _ (sorted-each Good (before mesh) _ (flats-each Good mesh tolerance (floor ⊕ levelTolerance) n good))

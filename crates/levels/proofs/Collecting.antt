@@ -25,10 +25,12 @@ module _ (mesh boxes : List Float) (tolerance : Float) (is : List ℕ) (t₀ : L
     pub done : List Level
     pub table : t ≡ written (map fiveOf done) t₀
     pub number : g .count ≡ length done
-    pub current : Opened (λ l i. joinsLevel tolerance l (triangleOf mesh i)) (λ l i. widenedBy l (boxAt boxes i)) (λ i. openedBy (triangleOf mesh i) (boxAt boxes i)) (take j is) done (g .level)
+    pub current : Opened (λ l i. joinsLevel tolerance l (triangleOf mesh i)) (λ l i. widenedBy l (boxAt boxes i))
+        (λ i. openedBy (triangleOf mesh i) (boxAt boxes i)) (take j is) done (g .level)
     pub few : g .count < j
 
-  pub collecting-starts : (l : Level) → 0 < length is → l ≡ openedBy (triangleOf mesh (getD is 0 0)) (boxAt boxes (getD is 0 0)) → Collecting t₀ (record { level = l; count = 0 }) 1
+  pub collecting-starts : (l : Level) → 0 < length is → l ≡ openedBy (triangleOf mesh (getD is 0 0)) (boxAt boxes (getD is 0 0))
+      → Collecting t₀ (record { level = l; count = 0 }) 1
   unfolding written
   collecting-starts l h e =
       record {
@@ -39,10 +41,12 @@ module _ (mesh boxes : List Float) (tolerance : Float) (is : List ℕ) (t₀ : L
         few = omega arith;
       }
 
-  pub collecting-goes : (t t′ : List Float) (g g′ : Group) (j : ℕ) → j < length is → Collecting t g j → grown t′ g′ ≡ grownBy tolerance t g (triangleOf mesh (getD is j 0)) (boxAt boxes (getD is j 0)) → Collecting t′ g′ (j + 1)
+  pub collecting-goes : (t t′ : List Float) (g g′ : Group) (j : ℕ) → j < length is → Collecting t g j
+      → grown t′ g′ ≡ grownBy tolerance t g (triangleOf mesh (getD is j 0)) (boxAt boxes (getD is j 0)) → Collecting t′ g′ (j + 1)
   unfolding grownBy
   collecting-goes t t′ g g′ j h c e =
-      by-test (joinsLevel tolerance (g .level) (triangleOf mesh (getD is j 0))) refl (ap (λ (x : Grown). x .table) e) (ap (λ (x : Grown). x .group .level) e) (ap (λ (x : Grown). x .group .count) e)
+      by-test (joinsLevel tolerance (g .level) (triangleOf mesh (getD is j 0))) refl (ap (λ (x : Grown). x .table) e) (ap (λ (x : Grown). x .group .level) e)
+      (ap (λ (x : Grown). x .group .count) e)
     where
       i : ℕ
       i = getD is j 0
@@ -56,7 +60,8 @@ module _ (mesh boxes : List Float) (tolerance : Float) (is : List ℕ) (t₀ : L
       next : take (j + 1) is ≡ take j is ++ (i ∷ [])
       next = rw (add-one j) (take-suc is j 0 h)
 
-      by-test : (b : Bool) → joinsLevel tolerance (g .level) (triangleOf mesh i) ≡ b → t′ ≡ cond b one two .table → g′ .level ≡ cond b one two .group .level → g′ .count ≡ cond b one two .group .count → Collecting t′ g′ (j + 1)
+      by-test : (b : Bool) → joinsLevel tolerance (g .level) (triangleOf mesh i) ≡ b → t′ ≡ cond b one two .table → g′ .level ≡ cond b one two .group .level
+          → g′ .count ≡ cond b one two .group .count → Collecting t′ g′ (j + 1)
       by-test true q p l n =
           record {
             done = c .done;
@@ -74,12 +79,16 @@ module _ (mesh boxes : List Float) (tolerance : Float) (is : List ℕ) (t₀ : L
             few = omega (arith, c .few);
           }
 
-  pub collecting-ends : (t t′ : List Float) (g : Group) (j : ℕ) → take j is ≡ is → Collecting t g j → t′ ≡ putAt t (g .count) (fiveOf (g .level)) → (t′ ≡ written (map fiveOf (levelsFrom mesh boxes tolerance is)) t₀) × (g .count + 1 ≡ length (levelsFrom mesh boxes tolerance is))
+  pub collecting-ends : (t t′ : List Float) (g : Group) (j : ℕ) → take j is ≡ is → Collecting t g j → t′ ≡ putAt t (g .count) (fiveOf (g .level))
+      → (t′ ≡ written (map fiveOf (levelsFrom mesh boxes tolerance is)) t₀) × (g .count + 1 ≡ length (levelsFrom mesh boxes tolerance is))
   unfolding levelsFrom
   collecting-ends t t′ g j w c e =
-      let all = opened-ends _ _ _ is (c .done) (g .level) (rw w at (c .current)) in
-      (rw all (e ∙ (rw (c .table, c .number) (sym (written-more fiveOf (λ _. refl) (c .done) (g .level) t₀)))), rw (all, length-append (c .done) (g .level ∷ [])) (ap (λ (k : ℕ). k + 1) (c .number)))
+      let all = opened-ends _ _ _ is (c .done) (g .level) (rw w at (c .current)) in (
+        rw all (e ∙ (rw (c .table, c .number) (sym (written-more fiveOf (λ _. refl) (c .done) (g .level) t₀)))),
+        rw (all, length-append (c .done) (g .level ∷ [])) (ap (λ (k : ℕ). k + 1) (c .number)),
+      )
 
-pub collected-none : (mesh boxes : List Float) (tolerance : Float) (is : List ℕ) (t : List Float) (k : ℕ) → k ≡ 0 → (t ≡ written (map fiveOf (levelsFrom mesh boxes tolerance (take k is))) t) × (0 ≡ length (levelsFrom mesh boxes tolerance (take k is)))
+pub collected-none : (mesh boxes : List Float) (tolerance : Float) (is : List ℕ) (t : List Float) (k : ℕ) → k ≡ 0
+    → (t ≡ written (map fiveOf (levelsFrom mesh boxes tolerance (take k is))) t) × (0 ≡ length (levelsFrom mesh boxes tolerance (take k is)))
 unfolding levelsFrom written grouped
 collected-none mesh boxes tolerance is t k e = rw e (refl, refl)

@@ -40,7 +40,8 @@ module _ (mesh : List Float) (tolerance least : Float) where
       fs : List ℕ
       fs = flatsOf mesh tolerance least i
 
-      by-test : (b : Bool) → p < length (fs ++ cond b (i ∷ []) []) → (d : Bool) → ltb p (length fs) ≡ d → (p < length fs → getD fs p 0 < i) → getD (fs ++ cond b (i ∷ []) []) p 0 < suc i
+      by-test : (b : Bool) → p < length (fs ++ cond b (i ∷ []) []) → (d : Bool) → ltb p (length fs) ≡ d → (p < length fs → getD fs p 0 < i)
+          → getD (fs ++ cond b (i ∷ []) []) p 0 < suc i
       by-test b l true e r = let q = ltb-true p (length fs) e in rw (List·getD-append fs (cond b (i ∷ []) []) 0 p q) (let w = r q in omega arith)
       by-test true l false e r =
           let q : length fs ≤ p = ltb-false p (length fs) e in
@@ -66,7 +67,8 @@ module _ (mesh : List Float) (tolerance least : Float) where
         let e = ap length (g .table) ∙ length-append (flatsOf mesh tolerance least i) (drop k l₀) in
         (omega (arith, g .number), omega (arith, g .number, length-drop k l₀))
 
-    pub gathering-goes : (l l′ : List ℕ) (i k k′ : ℕ) → i < length l₀ → Gathering l₀ l i k → listed l′ k′ ≡ gatheredOne mesh tolerance least l k i → Gathering l₀ l′ (i + 1) k′
+    pub gathering-goes : (l l′ : List ℕ) (i k k′ : ℕ) → i < length l₀ → Gathering l₀ l i k → listed l′ k′ ≡ gatheredOne mesh tolerance least l k i
+        → Gathering l₀ l′ (i + 1) k′
     unfolding flatsOf gatheredOne
     gathering-goes l l′ i k k′ h g e =
         rw (add-one i)
@@ -75,7 +77,8 @@ module _ (mesh : List Float) (tolerance least : Float) where
         fs : List ℕ
         fs = flatsOf mesh tolerance least i
 
-        by-test : (b : Bool) → isFlat (triangleOf mesh i) tolerance least ≡ b → l′ ≡ cond b (listed (set l k i) (k + 1)) (listed l k) .list → k′ ≡ cond b (listed (set l k i) (k + 1)) (listed l k) .k → Gathering l₀ l′ (suc i) k′
+        by-test : (b : Bool) → isFlat (triangleOf mesh i) tolerance least ≡ b → l′ ≡ cond b (listed (set l k i) (k + 1)) (listed l k) .list
+            → k′ ≡ cond b (listed (set l k i) (k + 1)) (listed l k) .k → Gathering l₀ l′ (suc i) k′
         by-test true t p q =
             let f = flats-few i in
             let hk : k < length l₀ = omega (arith, g .number) in
@@ -89,12 +92,14 @@ module _ (mesh : List Float) (tolerance least : Float) where
             }
         by-test false t p q = record { number = rw (t, append-nil fs) (q ∙ g .number); table = rw (t, append-nil fs, q) (p ∙ g .table) }
 
-    pub gathered-within : (n k : ℕ) (l : List ℕ) → n ≤ length l₀ → k ≡ length (flatsOf mesh tolerance least n) → l ≡ flatsOf mesh tolerance least n ++ drop k l₀ → Within n k l
+    pub gathered-within : (n k : ℕ) (l : List ℕ) → n ≤ length l₀ → k ≡ length (flatsOf mesh tolerance least n)
+        → l ≡ flatsOf mesh tolerance least n ++ drop k l₀ → Within n k l
     gathered-within n k l h e t =
         let f = flats-few n in
         record {
           table = rw t (rw (length-append (flatsOf mesh tolerance least n) (drop k l₀)) (omega arith));
-          numbers = λ p q. rw t (rw (List·getD-append (flatsOf mesh tolerance least n) (drop k l₀) 0 p (omega arith)) (lt-ltb _ n (flats-below n p (omega arith))));
+          numbers = λ p q. rw t (rw (List·getD-append (flatsOf mesh tolerance least n) (drop k l₀) 0 p (omega arith))
+              (lt-ltb _ n (flats-below n p (omega arith))));
         }
 
 pub number-below : (n e p : ℕ) (l : List ℕ) → Within n e l → p < e → getD l p 0 < n

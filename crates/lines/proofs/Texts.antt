@@ -66,7 +66,8 @@ module _ (b least k n : ℕ) where
   pub spells-done : (out : List ℕ) (at : ℕ) (d : Bool) → d ≡ (eqb n 0 && eqb least 0) → d ≡ true → Wrote out out at at (spelled b least k n)
   spells-done out at d p e = rw (done-is b least n k (sym p ∙ e)) (nothing out at)
 
-  pub spells-more : (o p q : List ℕ) (at r r′ g l : ℕ) (d : Bool) → (k ≡ 0 → ⊥) → d ≡ (eqb n 0 && eqb least 0) → d ≡ false → l ≡ least - 1 → Wrote o p at r (spelled b l (k - 1) (n / b)) → g ≡ glyphOf (n % b) → Wrote p q r r′ (g ∷ []) → Wrote o q at r′ (spelled b least k n)
+  pub spells-more : (o p q : List ℕ) (at r r′ g l : ℕ) (d : Bool) → (k ≡ 0 → ⊥) → d ≡ (eqb n 0 && eqb least 0) → d ≡ false → l ≡ least - 1
+      → Wrote o p at r (spelled b l (k - 1) (n / b)) → g ≡ glyphOf (n % b) → Wrote p q r r′ (g ∷ []) → Wrote o q at r′ (spelled b least k n)
   spells-more o p q at r r′ g l d h i e j w u v = rw (more-is b least n k h (sym i ∙ e), ← j, ← u) (w then v)
 
 -- how far a text may reach
@@ -75,7 +76,8 @@ reach b least k n w = omega (arith, w .ends, spelled-length b least k n)
 
 -- ---- one step of copying a word
 module _ (o p : List ℕ) (at i : ℕ) (word : List ℕ) where
-  pub word-more : i < length word → at + i < length p → Wrote o p at (at + i) (take i word) → Wrote o (set p (at + i) (getD word i 0)) at (at + (i + 1)) (take (i + 1) word)
+  pub word-more : i < length word → at + i < length p → Wrote o p at (at + i) (take i word)
+      → Wrote o (set p (at + i) (getD word i 0)) at (at + (i + 1)) (take (i + 1) word)
   word-more h l w =
       let s : at + (i + 1) ≡ at + i + 1 = omega arith in
       rw (s, add-one i, take-suc word i 0 h) (w then one p (at + i) (getD word i 0) l)

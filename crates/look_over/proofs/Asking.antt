@@ -40,12 +40,20 @@ module _ (ix : Index) (x : Indexed ix) where
       }
 
   -- the cells p can be walked with the look's own marks
-  pub walk-ready : (stamp : ℕ) (marks : List ℕ) → Marked (ix .header .n) stamp marks → (p : Patch) → (p .x1 ≤ ix .header .columns) × (p .y1 ≤ ix .header .rows) → (length (ix .mesh) ≡ length marks * 9) × (length marks ≤ 65536) × Walkable (ix .starts) (ix .members) (length marks) (ix .header .columns) (p .x0) (p .x1) (p .y0) (p .y1) × (length (ix .boxes) ≡ length marks * 5)
-  walk-ready stamp marks m p i =
-      (omega (arith, askable .nine, m .size), omega (arith, askable .few, m .size), rw (m .size) (askable .walkable _ _ _ _ (i .0) (i .1)), omega (arith, askable .five, m .size))
+  pub walk-ready : (stamp : ℕ) (marks : List ℕ) → Marked (ix .header .n) stamp marks → (p : Patch)
+      → (p .x1 ≤ ix .header .columns) × (p .y1 ≤ ix .header .rows) → (length (ix .mesh) ≡ length marks * 9) × (length marks ≤ 65536)
+      × Walkable (ix .starts) (ix .members) (length marks) (ix .header .columns) (p .x0) (p .x1) (p .y0) (p .y1) × (length (ix .boxes) ≡ length marks * 5)
+  walk-ready stamp marks m p i = (
+    omega (arith, askable .nine, m .size),
+    omega (arith, askable .few, m .size),
+    rw (m .size) (askable .walkable _ _ _ _ (i .0) (i .1)),
+    omega (arith, askable .five, m .size),
+  )
 
   -- a chord question over the cells p whose numbers and tool are in their ranges is not refused with wiped marks
-  pub asked-ruled : (numbers tool early : Bool) (blocks : ℕ → Bool) (p : Patch) → numbers ≡ true → tool ≡ true → (p .x1 ≤ ix .header .columns) × (p .y1 ≤ ix .header .rows) → askedChord numbers tool early blocks ix (replicate (ix .header .n) 0) 0 p ≡ ruledChord early blocks ix (replicate (ix .header .n) 0) 0 p
+  pub asked-ruled : (numbers tool early : Bool) (blocks : ℕ → Bool) (p : Patch)
+      → numbers ≡ true → tool ≡ true → (p .x1 ≤ ix .header .columns) × (p .y1 ≤ ix .header .rows)
+      → askedChord numbers tool early blocks ix (replicate (ix .header .n) 0) 0 p ≡ ruledChord early blocks ix (replicate (ix .header .n) 0) 0 p
   unfolding askedChord ruledChord refusalOf
   asked-ruled numbers tool early blocks p a b i =
       let wiped : List ℕ = replicate (ix .header .n) 0 in
@@ -59,12 +67,16 @@ module _ (ix : Index) (x : Indexed ix) where
 
 -- ---- a chord ruled with the look's own marks, and with wiped ones
 module _ (blocks : ℕ → Bool) (ix : Index) (stamp : ℕ) (marks : List ℕ) (m : Marked (ix .header .n) stamp marks) (p : Patch) where
-  pub ruled-same : (early : Bool) → ruledChord early blocks ix marks stamp p .answer .finding ≡ ruledChord early blocks ix (replicate (ix .header .n) 0) 0 p .answer .finding
+  pub ruled-same : (early : Bool)
+      → ruledChord early blocks ix marks stamp p .answer .finding ≡ ruledChord early blocks ix (replicate (ix .header .n) 0) 0 p .answer .finding
   unfolding ruledChord rulingOf chased
   ruled-same true = refl
-  ruled-same false = ap (λ (is : List ℕ). cond (clearOf blocks (upTo blocks is)) Clear Blocked) (looked-same _ _ _ _ (within ix p) (ready-alike (ix .header .n) stamp marks m))
+  ruled-same false = ap (λ (is : List ℕ). cond (clearOf blocks (upTo blocks is)) Clear Blocked)
+      (looked-same _ _ _ _ (within ix p) (ready-alike (ix .header .n) stamp marks m))
 
-  pub ruled-marks : (early : Bool) → Marked (ix .header .n) (ruledChord early blocks ix marks stamp p .answer .stamp) (ruledChord early blocks ix marks stamp p .marks)
+  pub ruled-marks : (early : Bool)
+      → Marked (ix .header .n) (ruledChord early blocks ix marks stamp p .answer .stamp) (ruledChord early blocks ix marks stamp p .marks)
   unfolding ruledChord rulingOf chased
   ruled-marks true = m
-  ruled-marks false = let b = ready-below (ix .header .n) stamp marks m in marked-below (nextStamp stamp) (ix .header .n) _ (readyMarks marks stamp) (b .0) (b .1)
+  ruled-marks false = let b = ready-below (ix .header .n) stamp marks m in
+      marked-below (nextStamp stamp) (ix .header .n) _ (readyMarks marks stamp) (b .0) (b .1)

@@ -71,7 +71,8 @@ module _ (fault : Move → Fault) (bytes : List ℕ) where
   over t c = verdictFrom fault t (movesFrom bytes t c)
 
   -- one move more
-  step : (P : Verdict → Type 0) (t c : ℕ) → (fault (moveOf bytes t) ≡ Sound → P (over (t + 1) c)) → ((f : Fault) → fault (moveOf bytes t) ≡ f → (f ≡ Sound → ⊥) → P (Fails t f)) → P (over t (suc c))
+  step : (P : Verdict → Type 0) (t c : ℕ) → (fault (moveOf bytes t) ≡ Sound → P (over (t + 1) c))
+      → ((f : Fault) → fault (moveOf bytes t) ≡ f → (f ≡ Sound → ⊥) → P (Fails t f)) → P (over t (suc c))
   unfolding verdictFrom movesFrom unlessBad isSound
   step P t c good bad = by (fault (moveOf bytes t)) refl
     where
@@ -89,7 +90,8 @@ module _ (fault : Move → Fault) (bytes : List ℕ) where
       (λ f p b d. absurd (never-both t f d))
       e
     where
-      here : fault (moveOf bytes t) ≡ Sound → ((j : ℕ) → j < c → fault (moveOf bytes (t + 1 + j)) ≡ Sound) → (j : ℕ) → j < suc c → fault (moveOf bytes (t + j)) ≡ Sound
+      here : fault (moveOf bytes t) ≡ Sound → ((j : ℕ) → j < c → fault (moveOf bytes (t + 1 + j)) ≡ Sound) → (j : ℕ) → j < suc c
+          → fault (moveOf bytes (t + j)) ≡ Sound
       here s more zero l = rw add-zero s
       here s more (suc j) l = let q : t + suc j ≡ t + 1 + j = omega arith in rw q (more j (omega arith))
 
@@ -133,7 +135,8 @@ module _ (fault : Move → Fault) (bytes : List ℕ) where
       })
       e
     where
-      earlier : ((i : ℕ) → t + 1 ≤ i → i < s → fault (moveOf bytes i) ≡ Sound) → fault (moveOf bytes t) ≡ Sound → (i : ℕ) → t ≤ i → i < s → fault (moveOf bytes i) ≡ Sound
+      earlier : ((i : ℕ) → t + 1 ≤ i → i < s → fault (moveOf bytes i) ≡ Sound) → fault (moveOf bytes t) ≡ Sound → (i : ℕ) → t ≤ i → i < s
+          → fault (moveOf bytes i) ≡ Sound
       earlier more here i h l =
           by-test (ltb t i)
           (λ (q : ltb t i ≡ true). more i (omega (arith, ltb-true t i q)) l)

@@ -33,7 +33,8 @@ use Rattle.look_over.specs.declared.Fault.the-variants.{Sound}
 use Rattle.look_over.specs.declared.Verdict.{Verdict}
 use Rattle.look_over.specs.declared.Verdict.the-variants.{Unsaid}
 use Rattle.look_over.specs.Look.{keepsZ, cutClear, faultOfCut, faultBy, faultOf}
-use Rattle.look_over.specs.Verdict.{isPlace, arePlaces, isTolerance, refusalOfTool, refusalOfNumbers, refusalOf, ended, verdictOf, lookOverOf, Judged, cutOf, OwnCutsPass}
+use Rattle.look_over.specs.Verdict.{isPlace, arePlaces, isTolerance, refusalOfTool, refusalOfNumbers, refusalOf}
+use Rattle.look_over.specs.Verdict.{ended, verdictOf, lookOverOf, Judged, cutOf, OwnCutsPass}
 use Rattle.look_over.specs.Inside.{Answerable, Readable, Placed}
 use Rattle.look_over.proofs.Listing.{passes-all, all-passes, fails-first}
 
@@ -135,6 +136,7 @@ module _ (bytes : List ℕ) (ix : Index) (marks : List ℕ) (table : List Float)
     unfolding lookOverOf
     look-refused n = rw (← e) (left _ _ _ _ (ne-eqb k 0 n) refl)
 
-    pub look-judged : (v : Verdict) (m : List ℕ) → k ≡ 0 → v ≡ verdictOf bytes ix table tolerance → m ≡ replicate (length marks) 0 → ended (record { refusal = 0; verdict = v }) m ≡ lookOverOf bytes ix marks table tolerance
+    pub look-judged : (v : Verdict) (m : List ℕ) → k ≡ 0 → v ≡ verdictOf bytes ix table tolerance → m ≡ replicate (length marks) 0
+        → ended (record { refusal = 0; verdict = v }) m ≡ lookOverOf bytes ix marks table tolerance
     unfolding lookOverOf
     look-judged v m z p q = rw (← e) (taken _ _ _ _ (eq-eqb k 0 z) (rw (p, q)))

@@ -70,7 +70,8 @@ module _ (m : Move) (i : Placed m) where
       (both-true (isPoint (m .start .y)) (isPoint (m .start .z)) (a .1) .1, both-true (isPoint (m .end .y)) (isPoint (m .end .z)) (b .1) .1)
 
 module _ (ix : Index) (stamp : ℕ) (marks : List ℕ) (k : Marked (ix .header .n) stamp marks) (m : Move) (i : Placed m) where
-  module _ (table : List Float) (q : Answerable ix table) (reach low : Float) (er : reach ≡ widestOf table (sectionsIn table)) (el : low ≡ lowestOf table (sectionsIn table)) (p : Patch) (ep : p ≡ patchOf (ix .header) (m .start .x) (m .start .y) (m .end .x) (m .end .y) reach) where
+  module _ (table : List Float) (q : Answerable ix table) (reach low : Float) (er : reach ≡ widestOf table (sectionsIn table)) (el : low
+      ≡ lowestOf table (sectionsIn table)) (p : Patch) (ep : p ≡ patchOf (ix .header) (m .start .x) (m .start .y) (m .end .x) (m .end .y) reach) where
     abbrev early : Bool
     early = blockedAtOnce (ix .header .floor) (chordOf m)
 
@@ -83,17 +84,21 @@ module _ (ix : Index) (stamp : ℕ) (marks : List ℕ) (k : Marked (ix .header .
     found =
         let cells = patchOf (ix .header) (m .start .x) (m .start .y) (m .end .x) (m .end .y) (widestOf table (sectionsIn table)) in
         let e : p ≡ cells = ep ∙ ap (patchOf (ix .header) (m .start .x) (m .start .y) (m .end .x) (m .end .y)) er in
-        let z = asked-ruled ix (q .indexed) (isChord (chordOf m)) (isTool table) early (toolBlocksAt (ix .mesh) (ix .boxes) (chordOf m) (lowestOf table (sectionsIn table)) table) cells (chord-fits m i) (q .tool) (patch-inside (ix .header) _ _ _ _ _) in
+        let z = asked-ruled ix (q .indexed) (isChord (chordOf m)) (isTool table) early (toolBlocksAt (ix .mesh) (ix .boxes) (chordOf m)
+        (lowestOf table (sectionsIn table)) table) cells (chord-fits m i) (q .tool) (patch-inside (ix .header) _ _ _ _ _) in
         ruled-same blocks ix stamp marks k p early
         ∙ ap (λ (x : Patch). ruledChord early blocks ix (replicate (ix .header .n) 0) 0 x .answer .finding) e
-        ∙ ap (λ (x : Float). ruledChord early (toolBlocksAt (ix .mesh) (ix .boxes) (chordOf m) x table) ix (replicate (ix .header .n) 0) 0 cells .answer .finding) el
+        ∙ ap (λ (x : Float). ruledChord early (toolBlocksAt (ix .mesh) (ix .boxes) (chordOf m) x table) ix
+        (replicate (ix .header .n) 0) 0 cells .answer .finding) el
         ∙ sym (ap (λ (o : Outcome Ruling). o .answer .finding) z)
 
-    pub rapid-told : (r : Ruling) (marks′ : List ℕ) (f : Fault) → ended r marks′ ≡ ruledChord early blocks ix marks stamp p → f ≡ cond (isClear (r .finding)) Sound BlockedRapid → (f ≡ faultOfRapid ix table m) × Marked (ix .header .n) (r .stamp) marks′
+    pub rapid-told : (r : Ruling) (marks′ : List ℕ) (f : Fault) → ended r marks′ ≡ ruledChord early blocks ix marks stamp p
+        → f ≡ cond (isClear (r .finding)) Sound BlockedRapid → (f ≡ faultOfRapid ix table m) × Marked (ix .header .n) (r .stamp) marks′
     unfolding faultOfRapid rapidClear
     rapid-told r marks′ f e d = (
       d ∙ ap (λ (x : Finding). cond (isClear x) Sound BlockedRapid) (ap (λ (o : Outcome Ruling). o .answer .finding) e ∙ found),
-      marked-is _ _ _ _ _ (ap (λ (o : Outcome Ruling). o .answer .stamp) e) (ap (λ (o : Outcome Ruling). o .marks) e) (ruled-marks blocks ix stamp marks k p early),
+      marked-is _ _ _ _ _ (ap (λ (o : Outcome Ruling). o .answer .stamp) e) (ap (λ (o : Outcome Ruling). o .marks) e)
+          (ruled-marks blocks ix stamp marks k p early),
     )
 
   -- ---- a cut
@@ -105,7 +110,9 @@ module _ (ix : Index) (stamp : ℕ) (marks : List ℕ) (k : Marked (ix .header .
     unfolding faultOfCut
     z-changed b e p = left _ _ _ _ (sym e ∙ p) refl
 
-    pub cut-told : (b : Bool) (w : Walk Best) (s : ℕ) (f : Fault) → b ≡ keepsZ m → b ≡ true → w ≡ sweepWalk ix marks stamp (sweepOf (ix .header .r) m) → s ≡ nextStamp stamp → f ≡ cond (le (w .value .height) (m .start .z ⊕ tolerance)) Sound TooDeep → (f ≡ faultOfCut ix tolerance m) × Marked (ix .header .n) s (w .marks)
+    pub cut-told : (b : Bool) (w : Walk Best) (s : ℕ) (f : Fault) → b ≡ keepsZ m → b ≡ true → w ≡ sweepWalk ix marks stamp (sweepOf (ix .header .r) m)
+        → s ≡ nextStamp stamp → f ≡ cond (le (w .value .height) (m .start .z ⊕ tolerance)) Sound TooDeep
+        → (f ≡ faultOfCut ix tolerance m) × Marked (ix .header .n) s (w .marks)
     unfolding faultOfCut cutClear askedAgain
     cut-told b w s f e p g n d =
         let h : w .value .height ≡ maxHeightOf ix (replicate (ix .header .n) 0) 0 (sweepOf (ix .header .r) m) .answer .height =

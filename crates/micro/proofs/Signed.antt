@@ -70,8 +70,10 @@ module _ (z : ℤ) (f : SFits w32 z) where
   sum-kept : toZ w64 (ofZ w64 (toZ w64 (ofZ w64 (toZ w32 (ofZ w32 z))) +ℤ pos 2147483648)) ≡ pos (counted z)
   sum-kept = kept _ _ sum small
 
-  pub count-fits : T (nonNeg (toZ w64 (ofZ w64 (toZ w64 (ofZ w64 (toZ w32 (ofZ w32 z))) +ℤ pos 2147483648)))) × Fits w64 (natAbs (toZ w64 (ofZ w64 (toZ w64 (ofZ w64 (toZ w32 (ofZ w32 z))) +ℤ pos 2147483648))))
+  pub count-fits : T (nonNeg (toZ w64 (ofZ w64 (toZ w64 (ofZ w64 (toZ w32 (ofZ w32 z))) +ℤ pos 2147483648))))
+      × Fits w64 (natAbs (toZ w64 (ofZ w64 (toZ w64 (ofZ w64 (toZ w32 (ofZ w32 z))) +ℤ pos 2147483648))))
   count-fits = cast-fits _ _ sum-kept small
 
-  pub count-is : (natAbs (toZ w64 (ofZ w64 (toZ w64 (ofZ w64 (toZ w32 (ofZ w32 z))) +ℤ pos 2147483648))) ≡ counted z) × (natAbs (toZ w64 (ofZ w64 (toZ w64 (ofZ w64 (toZ w32 (ofZ w32 z))) +ℤ pos 2147483648))) < 2 ^ 32)
+  pub count-is : (natAbs (toZ w64 (ofZ w64 (toZ w64 (ofZ w64 (toZ w32 (ofZ w32 z))) +ℤ pos 2147483648))) ≡ counted z)
+      × (natAbs (toZ w64 (ofZ w64 (toZ w64 (ofZ w64 (toZ w32 (ofZ w32 z))) +ℤ pos 2147483648))) < 2 ^ 32)
   count-is = let e = ap natAbs sum-kept in (e, rw e (counted-lt z (f .sfits)))

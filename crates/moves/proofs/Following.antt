@@ -94,7 +94,8 @@ told t h (suc k) s w z =
 
 -- ---- step after step
 
-passes : (t : List Float) (h : Heights) (s : State) → eqb (length t % 5) 0 ≡ true → isWithin (roomOf t) s ≡ true → s .«next_id» + linesLeft (roomOf t) s ≤ largest
+passes : (t : List Float) (h : Heights) (s : State) → eqb (length t % 5) 0 ≡ true → isWithin (roomOf t) s ≡ true
+    → s .«next_id» + linesLeft (roomOf t) s ≤ largest
     → refusalOfState t s ≡ 0
 unfolding refusalOfState demand refuse isSpent
 passes t h s five w ids =
@@ -127,7 +128,8 @@ module _ (t : List Float) (h : Heights) where
       record { all = ap (λ (w : Whole). w .moves) e ∙ sym r; accepted = ap (λ (w : Whole). w .stop .refusal) e; ended = ap (λ (w : Whole). w .stop .step) e }
 
   module _ (five : eqb (length t % 5) 0 ≡ true) where
-    all-steps : (j : ℕ) (s : State) → isWithin (roomOf t) s ≡ true → s .«next_id» + linesLeft (roomOf t) s ≤ largest → linesLeft (roomOf t) s ≤ j → Done t h s (movesOf t h j s)
+    all-steps : (j : ℕ) (s : State) → isWithin (roomOf t) s ≡ true → s .«next_id» + linesLeft (roomOf t) s ≤ largest → linesLeft (roomOf t) s ≤ j
+        → Done t h s (movesOf t h j s)
     all-steps zero s w i l =
         let n = sym (next-goes t h s 0 (sym (passes t h s five w i)) refl) in
         ⊎-elim (λ r. stopped s (r .last) _ (none-at s (r .last) (n ∙ r .given)) (r .rest))

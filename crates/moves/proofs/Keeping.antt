@@ -103,13 +103,15 @@ module _ (t : List Float) (h : Heights) (fit : Fit t h) where
     moved-above Plunge a = tt
     moved-above Cut a = tt
     moved-above Retract a = max-above (h .feed) (p .z) (fit .feed-fine)
-    moved-above Rise a = either (λ (l : Leg). Above h (l .next) (l .end .z)) (eqb (m + 1) (roomOf t)) _ _ (λ e. tt) (λ e. max-above (h .retract) (p .z) (fit .retract-fine))
+    moved-above Rise a = either (λ (l : Leg). Above h (l .next) (l .end .z)) (eqb (m + 1) (roomOf t)) _ _ (λ e. tt)
+        (λ e. max-above (h .retract) (p .z) (fit .retract-fine))
     moved-above Ended a = tt
 
     pub passed-above : (ph : Phase) → sameOf (line ph .end) p ≡ true → Above h ph (p .z) → Above h (line ph .next) (p .z)
     passed-above ph e a = above-same h (line ph .next) (line ph .end .z) (p .z) (same-parts (line ph .end) p e .2) (moved-above ph a)
 
-    pub moved-near : (ph : Phase) → (0 < phaseNumber ph → phaseNumber ph < 7 → m < roomOf t) → Near t ph m p → Near t (line ph .next) (line ph .run) (line ph .end)
+    pub moved-near : (ph : Phase) → (0 < phaseNumber ph → phaseNumber ph < 7 → m < roomOf t) → Near t ph m p
+        → Near t (line ph .next) (line ph .run) (line ph .end)
     unfolding lineOf phaseNumber
     moved-near Lift w n = either (λ ph. Near t ph m (point (p .x) (p .y) (h .clearance))) (eqb (roomOf t) 0) Ended Approach (λ e. tt) (λ e. tt)
     moved-near Approach w n = let f = fit .run-fine m (w (omega arith) (omega arith)) in (eq-self _ (f .0), eq-self _ (f .1))

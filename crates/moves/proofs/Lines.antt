@@ -79,11 +79,16 @@ module _ (t : List Float) (h : Heights) (m : ℕ) (p q : Point) (i j : ℕ) wher
       (λ g. let z = eqb-true (roomOf t) 0 g in rw g (record { fewer = omega arith; within = unfold isWithin in refl }))
       (λ g. let z = eqb-false (roomOf t) 0 g in
       let k = lift-within (roomOf t) m p i w (omega arith) in rw g (record { fewer = omega arith; within = in-run (roomOf t) m q j Approach k }))
-  led-on Approach w e = let k = run-within (roomOf t) m p i Approach (omega arith) (omega arith) w in record { fewer = omega arith; within = in-run (roomOf t) m q j Descend k }
-  led-on Descend w e = let k = run-within (roomOf t) m p i Descend (omega arith) (omega arith) w in record { fewer = omega arith; within = in-run (roomOf t) m q j Plunge k }
-  led-on Plunge w e = let k = run-within (roomOf t) m p i Plunge (omega arith) (omega arith) w in record { fewer = omega arith; within = in-run (roomOf t) m q j Cut k }
-  led-on Cut w e = let k = run-within (roomOf t) m p i Cut (omega arith) (omega arith) w in record { fewer = omega arith; within = in-run (roomOf t) m q j Retract k }
-  led-on Retract w e = let k = run-within (roomOf t) m p i Retract (omega arith) (omega arith) w in record { fewer = omega arith; within = in-run (roomOf t) m q j Rise k }
+  led-on Approach w e = let k =
+      run-within (roomOf t) m p i Approach (omega arith) (omega arith) w in record { fewer = omega arith; within = in-run (roomOf t) m q j Descend k }
+  led-on Descend w e = let k =
+      run-within (roomOf t) m p i Descend (omega arith) (omega arith) w in record { fewer = omega arith; within = in-run (roomOf t) m q j Plunge k }
+  led-on Plunge w e = let k =
+      run-within (roomOf t) m p i Plunge (omega arith) (omega arith) w in record { fewer = omega arith; within = in-run (roomOf t) m q j Cut k }
+  led-on Cut w e = let k = run-within (roomOf t) m p i Cut (omega arith)
+      (omega arith) w in record { fewer = omega arith; within = in-run (roomOf t) m q j Retract k }
+  led-on Retract w e = let k =
+      run-within (roomOf t) m p i Retract (omega arith) (omega arith) w in record { fewer = omega arith; within = in-run (roomOf t) m q j Rise k }
   led-on Rise w e =
       let k = run-within (roomOf t) m p i Rise (omega arith) (omega arith) w in
       by-test (eqb (m + 1) (roomOf t))

@@ -3,7 +3,8 @@
 use mathlib.Core.Path.{_≡_, refl, sym, ap, _∙_, subst}
 use mathlib.Core.Bool.{Bool, true, false, cond, _&&_}
 use Prim.Native.Nat.{ℕ, zero, suc, _+_, _-_, _*_, _/_, _%_, _^_, _≤_, _<_}
-use native.Mathlib.Nat.{le-trans, le-of-eq, lt-irrefl, lt-of-lt-of-le, lt-of-le-of-lt, lt-of-not-le, not-le-of-lt, zero-mul, mul-one, mul-assoc, mul-right-comm, mul-pos, mul-div-cancel, mul-le-mul-right, le-of-mul-le-mul-right, eq-of-mul-eq-mul-right}
+use native.Mathlib.Nat.{le-trans, le-of-eq, lt-irrefl, lt-of-lt-of-le, lt-of-le-of-lt, lt-of-not-le, not-le-of-lt, zero-mul, mul-one, mul-assoc}
+use native.Mathlib.Nat.{mul-right-comm, mul-pos, mul-div-cancel, mul-le-mul-right, le-of-mul-le-mul-right, eq-of-mul-eq-mul-right}
 use native.Mathlib.Omega.{arith}
 use borrow.Author.Tests.{ltb-true, ltb-false, lt-ltb, le-ltb}
 use lib.IntN.{ℤ, pos, negsuc}
@@ -94,10 +95,12 @@ module _ (m : ℕ) (e : ℤ) (n : ℕ) (d : ℤ) (a b : ℕ) (p : Count m e a) (
   right-side = mul-right-comm (n * up d) (down e) (2 ^ 1074) ∙ ap (λ (k : ℕ). k * down e) q ∙ mul-right-comm b (down d) (down e) ∙ mul-assoc b (down e) (down d)
 
   pub sizes-le : a ≤ b → m * up e * down d ≤ n * up d * down e
-  sizes-le h = le-of-mul-le-mul-right (le-trans (le-of-eq left-side) (le-trans (mul-le-mul-right (down e * down d) h) (le-of-eq (sym right-side)))) (pow-pos 1074)
+  sizes-le h = le-of-mul-le-mul-right
+      (le-trans (le-of-eq left-side) (le-trans (mul-le-mul-right (down e * down d) h) (le-of-eq (sym right-side)))) (pow-pos 1074)
 
   pub counts-le : m * up e * down d ≤ n * up d * down e → a ≤ b
-  counts-le h = le-of-mul-le-mul-right (le-trans (le-of-eq (sym left-side)) (le-trans (mul-le-mul-right (2 ^ 1074) h) (le-of-eq right-side))) (mul-pos (down-pos e) (down-pos d))
+  counts-le h = le-of-mul-le-mul-right (le-trans (le-of-eq (sym left-side)) (le-trans (mul-le-mul-right (2 ^ 1074) h) (le-of-eq right-side)))
+      (mul-pos (down-pos e) (down-pos d))
 
 pub sizes-ltb : (m : ℕ) (e : ℤ) (n : ℕ) (d : ℤ) (a b : ℕ) → Count m e a → Count n d b → ltb (m * up e * down d) (n * up d * down e) ≡ ltb a b
 sizes-ltb m e n d a b p q = go (ltb a b) refl
@@ -107,12 +110,16 @@ sizes-ltb m e n d a b p q = go (ltb a b) refl
     go false h = le-ltb _ _ (sizes-le n d m e b a q p (ltb-false a b h))
 
 -- ---- a sign and a count make one f64
-bits-of : (s : Bool) (m : ℕ) (e : ℤ) (a : ℕ) → Count m e a → toBits binary64 (fin s m e) ≡ cond s (top binary64) 0 + (size a - 53) * hid binary64 + a / 2 ^ (size a - 53)
+bits-of : (s : Bool) (m : ℕ) (e : ℤ) (a : ℕ) → Count m e a
+    → toBits binary64 (fin s m e) ≡ cond s (top binary64) 0 + (size a - 53) * hid binary64 + a / 2 ^ (size a - 53)
 unfolding toBits
-bits-of s m e a p = ap (λ (n : ℕ). cond s (top binary64) 0 + (size n - 53) * hid binary64 + n / 2 ^ (size n - 53)) (ap (λ (n : ℕ). n / down e) p ∙ mul-div-cancel a (down-pos e))
+bits-of s m e a p = ap (λ (n : ℕ). cond s (top binary64) 0 + (size n - 53) * hid binary64 + n / 2 ^ (size n - 53)) (ap (λ (n : ℕ). n / down e) p
+    ∙ mul-div-cancel a (down-pos e))
 
-pub same : (s : Bool) (m : ℕ) (e : ℤ) (n : ℕ) (d : ℤ) (a : ℕ) → Count m e a → Count n d a → T (fits binary64 (fin s m e)) → T (fits binary64 (fin s n d)) → fin s m e ≡ fin s n d
-same s m e n d a p q x y = sym (ofBits-toBits binary64 (fin s m e) x) ∙ ap (ofBits binary64) (bits-of s m e a p ∙ sym (bits-of s n d a q)) ∙ ofBits-toBits binary64 (fin s n d) y
+pub same : (s : Bool) (m : ℕ) (e : ℤ) (n : ℕ) (d : ℤ) (a : ℕ) → Count m e a → Count n d a → T (fits binary64 (fin s m e))
+    → T (fits binary64 (fin s n d)) → fin s m e ≡ fin s n d
+same s m e n d a p q x y = sym (ofBits-toBits binary64 (fin s m e) x) ∙ ap (ofBits binary64) (bits-of s m e a p ∙ sym (bits-of s n d a q))
+    ∙ ofBits-toBits binary64 (fin s n d) y
 
 -- ---- a value that fits is its own rounding
 pub exact-value : (s : Bool) (m : ℕ) (e : ℤ) → T (fits binary64 (fin s m e)) → HasValue (round binary64 s (m * up e) (down e)) s (m * up e) (down e)
@@ -126,7 +133,8 @@ of-value (fin t n d) s m e p q h =
     let a = m * 2 ^ c .0 in
     let k : Count n d a =
     eq-of-mul-eq-mul-right (down e) (down-pos e) (n * up d * 2 ^ 1074) (a * down d)
-    (mul-right-comm (n * up d) (2 ^ 1074) (down e) ∙ ap (λ (i : ℕ). i * 2 ^ 1074) (h .1) ∙ mul-right-comm (m * up e) (down d) (2 ^ 1074) ∙ ap (λ (i : ℕ). i * down d) (c .1) ∙ mul-right-comm a (down e) (down d)) in
+    (mul-right-comm (n * up d) (2 ^ 1074) (down e) ∙ ap (λ (i : ℕ). i * 2 ^ 1074) (h .1) ∙ mul-right-comm (m * up e) (down d) (2 ^ 1074)
+    ∙ ap (λ (i : ℕ). i * down d) (c .1) ∙ mul-right-comm a (down e) (down d)) in
     ap (λ (b : Bool). fin b n d) (h .0) ∙ same s n d m e a k (c .1) (fits-signed t s n d p) q
 
 pub round-self : (s : Bool) (m : ℕ) (e : ℤ) → T (fits binary64 (fin s m e)) → round binary64 s (m * up e) (down e) ≡ fin s m e

@@ -2,7 +2,9 @@
 use mathlib.Core.Bool.{Bool, true, false, cond}
 use mathlib.Core.Path.{_≡_, refl, ap, sym, _∙_, subst}
 use Prim.Native.Nat.{ℕ, suc, _+_, _-_, _*_, _/_, _^_, _≤_, _<_, min}
-use native.Mathlib.Nat.{le-trans, le-of-eq, le-of-lt, lt-of-lt-of-le, lt-of-le-of-lt, lt-of-mul-lt-mul-right, mul-comm, mul-one, mul-assoc, add-mul, suc-mul, div-one, add-zero, div-le-self, div-mul-le-self, lt-div-mul-add, mul-div-cancel, mul-lt-mul-of-pos-right, mul-le-mul-right, le-mul-of-pos-right}
+use native.Mathlib.Nat.{le-trans, le-of-eq, le-of-lt, lt-of-lt-of-le, lt-of-le-of-lt, lt-of-mul-lt-mul-right, mul-comm, mul-one}
+use native.Mathlib.Nat.{mul-assoc, add-mul, suc-mul, div-one, add-zero, div-le-self, div-mul-le-self, lt-div-mul-add}
+use native.Mathlib.Nat.{mul-div-cancel, mul-lt-mul-of-pos-right, mul-le-mul-right, le-mul-of-pos-right}
 use native.Mathlib.Omega.{arith}
 use lib.IntN.{ℤ, pos, negsuc}
 use lib.Dec.{T, lit<}
@@ -29,9 +31,11 @@ up-mono : (a b c d : ℕ) → 0 < c → 0 < d → b * c ≤ a * d → (b + (d - 
 up-mono a b c d C D h =
     let M = (b + (d - 1)) / d in
     let N = (a + (c - 1)) / c in
-    let p : M * (c * d) < b * c + c * d = lt-of-le-of-lt (le-of-eq (ap (λ (n : ℕ). M * n) (mul-comm c d) ∙ sym (mul-assoc M d c))) (lt-of-lt-of-le (mul-lt-mul-of-pos-right (up-says b d D .1) C) (le-of-eq (add-mul b d c ∙ ap (λ (n : ℕ). b * c + n) (mul-comm d c)))) in
+    let p : M * (c * d) < b * c + c * d = lt-of-le-of-lt (le-of-eq (ap (λ (n : ℕ). M * n) (mul-comm c d) ∙ sym (mul-assoc M d c)))
+    (lt-of-lt-of-le (mul-lt-mul-of-pos-right (up-says b d D .1) C) (le-of-eq (add-mul b d c ∙ ap (λ (n : ℕ). b * c + n) (mul-comm d c)))) in
     let q : a * d ≤ N * (c * d) = le-trans (mul-le-mul-right d (up-says a c C .0)) (le-of-eq (mul-assoc N c d)) in
-    le-of-lt-suc M N (lt-of-mul-lt-mul-right (c * d) (lt-of-lt-of-le (sum (M * (c * d)) (b * c) (a * d) (N * (c * d)) (c * d) p h q) (le-of-eq (sym (suc-mul N (c * d))))))
+    le-of-lt-suc M N (lt-of-mul-lt-mul-right (c * d)
+    (lt-of-lt-of-le (sum (M * (c * d)) (b * c) (a * d) (N * (c * d)) (c * d) p h q) (le-of-eq (sym (suc-mul N (c * d))))))
   where
     sum : (m b a n k : ℕ) → m < b + k → b ≤ a → a ≤ n → m < n + k
     sum m b a n k p h q = omega arith
@@ -46,7 +50,8 @@ size-under true m c C = le-trans (up-mono m m 1 c (lit< tt) C (le-trans (le-of-e
 pub whole-value : (s : Bool) (m : ℕ) (e : ℤ) → T (fits binary64 (fin s m e)) → HasValue (roundDownOf (fin s m e)) s (sizeDown s (m * up e) (down e)) 1
 unfolding roundDownOf
 whole-value s m (pos k) t = subst (λ (n : ℕ). HasValue (round binary64 s n 1) s n 1) (sym (size-whole s (m * 2 ^ k))) (exact-value s m (pos k) t)
-whole-value s m (negsuc k) t = round-whole binary64 s (sizeDown s (m * 1) (2 ^ suc k)) (le-trans (size-under s (m * 1) (2 ^ suc k) (pow-pos (suc k))) (le-trans (le-of-eq (mul-one m)) (le-of-lt (small s m (negsuc k) t))))
+whole-value s m (negsuc k) t = round-whole binary64 s (sizeDown s (m * 1) (2 ^ suc k))
+    (le-trans (size-under s (m * 1) (2 ^ suc k) (pow-pos (suc k))) (le-trans (le-of-eq (mul-one m)) (le-of-lt (small s m (negsuc k) t))))
 
 -- ---- it encloses the number
 encloses : (s : Bool) (a c : ℕ) → 0 < c → Encloses s (sizeDown s a c) a c
@@ -71,7 +76,8 @@ not-above : (x : Float) → T (fits binary64 x) → T (finite x) → T (le (roun
 not-above nan t f = absurd f
 not-above (inf s) t f = absurd f
 not-above (fin s m e) t f =
-    le-of-signed (roundDownOf (fin s m e)) (fin s m e) s (sizeDown s (m * up e) (down e)) 1 s (m * up e) (down e) (lit< tt) (down-pos e) (whole-value s m e t) (refl, refl)
+    le-of-signed (roundDownOf (fin s m e)) (fin s m e) s (sizeDown s (m * up e) (down e)) 1 s (m * up e) (down e) (lit< tt) (down-pos e)
+    (whole-value s m e t) (refl, refl)
     (go s (m * up e) (down e) (sizeDown s (m * up e) (down e)) (encloses s (m * up e) (down e) (down-pos e)))
   where
     go : (s : Bool) (a c n : ℕ) → Encloses s n a c → Under s n 1 s a c
@@ -118,12 +124,16 @@ no-nan-le (fin s m e) l = l
 pub ordered : (x y : Float) → T (fits binary64 x) → T (fits binary64 y) → T (le x y) → T (le (roundDownOf x) (roundDownOf y))
 ordered nan y p q l = absurd (unfold le in l)
 ordered (inf s) nan p q l = absurd (no-nan-le (inf s) l)
-ordered (inf s) (inf t) p q l = subst (λ (r : Float). T (le r (roundDownOf (inf t)))) (sym (down-inf s)) (subst (λ (r : Float). T (le (inf s) r)) (sym (down-inf t)) l)
-ordered (inf s) (fin t n d) p q l = subst (λ (r : Float). T (le r (roundDownOf (fin t n d)))) (sym (down-inf s)) (inf-below s n d (roundDownOf (fin t n d)) t _ 1 (whole-value t n d q) l)
+ordered (inf s) (inf t) p q l =
+    subst (λ (r : Float). T (le r (roundDownOf (inf t)))) (sym (down-inf s)) (subst (λ (r : Float). T (le (inf s) r)) (sym (down-inf t)) l)
+ordered (inf s) (fin t n d) p q l =
+    subst (λ (r : Float). T (le r (roundDownOf (fin t n d)))) (sym (down-inf s)) (inf-below s n d (roundDownOf (fin t n d)) t _ 1 (whole-value t n d q) l)
 ordered (fin s m e) nan p q l = absurd (no-nan-le (fin s m e) l)
-ordered (fin s m e) (inf t) p q l = subst (λ (r : Float). T (le (roundDownOf (fin s m e)) r)) (sym (down-inf t)) (below-inf m e t (roundDownOf (fin s m e)) s _ 1 (whole-value s m e p) l)
+ordered (fin s m e) (inf t) p q l =
+    subst (λ (r : Float). T (le (roundDownOf (fin s m e)) r)) (sym (down-inf t)) (below-inf m e t (roundDownOf (fin s m e)) s _ 1 (whole-value s m e p) l)
 ordered (fin s m e) (fin t n d) p q l =
-    le-of-signed (roundDownOf (fin s m e)) (roundDownOf (fin t n d)) s (sizeDown s (m * up e) (down e)) 1 t (sizeDown t (n * up d) (down d)) 1 (lit< tt) (lit< tt) (whole-value s m e p) (whole-value t n d q)
+    le-of-signed (roundDownOf (fin s m e)) (roundDownOf (fin t n d)) s (sizeDown s (m * up e) (down e)) 1 t (sizeDown t (n * up d) (down d)) 1 (lit< tt)
+    (lit< tt) (whole-value s m e p) (whole-value t n d q)
     (under s (m * up e) (down e) t (n * up d) (down d) (down-pos e) (down-pos d) (le→under s m e t n d l))
 
 -- ---- it is what truncating gives

@@ -16,7 +16,8 @@ use Rattle.numbers.proofs.Counts.{fits-signed, round-self}
 zero-plus : (t : Bool) (n d : ℕ) → 0 < n → sum binary64 false 0 t n d ≡ round binary64 t n d
 unfolding sum
 zero-plus false n d h = ap (λ (k : ℕ). round binary64 false k d) (zero-add n)
-zero-plus true n d h = ap (λ (b : Bool). cond b (round binary64 true (n - 0) d) (round binary64 (false && ltb n 0) (0 - n) d)) (lt-ltb 0 n h) ∙ ap (λ (k : ℕ). round binary64 true k d) (sub-zero n)
+zero-plus true n d h = ap (λ (b : Bool). cond b (round binary64 true (n - 0) d) (round binary64 (false && ltb n 0) (0 - n) d)) (lt-ltb 0 n h)
+    ∙ ap (λ (k : ℕ). round binary64 true k d) (sub-zero n)
 
 zero-plus-zero : (t : Bool) (d : ℕ) → sum binary64 false 0 t 0 d ≡ round binary64 false 0 d
 unfolding sum
@@ -63,7 +64,8 @@ magnitude (fin true (suc m) e) t = larger (fin true (suc m) e) _ (fin false (suc
 magnitude (fin false (suc m) e) t =
     let A = suc m * up e * down e in
     larger (fin false (suc m) e) _ (fin true (suc m) e) (minus-some false m e t)
-    (ap (λ (b : Bool). cond b (fin false (suc m) e) (fin true (suc m) e)) (lt-ltb 0 (A + A) (twice A (mul-pos (mul-pos (zero-lt-suc m) (up-pos e)) (down-pos e)))))
+    (ap (λ (b : Bool). cond b (fin false (suc m) e) (fin true (suc m) e))
+    (lt-ltb 0 (A + A) (twice A (mul-pos (mul-pos (zero-lt-suc m) (up-pos e)) (down-pos e)))))
   where
     twice : (a : ℕ) → 0 < a → 0 < a + a
     twice a h = omega arith

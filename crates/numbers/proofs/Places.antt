@@ -78,10 +78,14 @@ module _ (W : ℕ) where
   less-is (fin false m e) (inf true) a b p q A B = behind (W + 2 + a) 0 (omega arith)
   less-is (fin true m e) (inf false) a b p q A B = ahead (W + 1 - a) (2 * W + 3) (omega arith)
   less-is (fin false m e) (inf false) a b p q A B = ahead (W + 2 + a) (2 * W + 3) (omega arith)
-  less-is (fin false m e) (fin false n d) a b p q A B = three (m * up e * down d) (n * up d * down e) ∙ sizes-ltb m e n d a b p q ∙ ltb-same a b (W + 2 + a) (W + 2 + b) (λ h. omega arith) (λ h. omega arith)
-  less-is (fin false m e) (fin true n d) a b p q A B = either-way (ltb 0 (n * up d * down e + m * up e * down d)) false false false refl refl ∙ behind (W + 2 + a) (W + 1 - b) (omega arith)
-  less-is (fin true m e) (fin false n d) a b p q A B = either-way (ltb 0 (m * up e * down d + n * up d * down e)) true true true refl refl ∙ ahead (W + 1 - a) (W + 2 + b) (omega arith)
-  less-is (fin true m e) (fin true n d) a b p q A B = three (n * up d * down e) (m * up e * down d) ∙ sizes-ltb n d m e b a q p ∙ ltb-same b a (W + 1 - a) (W + 1 - b) (λ h. omega arith) (λ h. omega arith)
+  less-is (fin false m e) (fin false n d) a b p q A B = three (m * up e * down d) (n * up d * down e) ∙ sizes-ltb m e n d a b p q
+      ∙ ltb-same a b (W + 2 + a) (W + 2 + b) (λ h. omega arith) (λ h. omega arith)
+  less-is (fin false m e) (fin true n d) a b p q A B = either-way (ltb 0 (n * up d * down e + m * up e * down d)) false false false refl refl
+      ∙ behind (W + 2 + a) (W + 1 - b) (omega arith)
+  less-is (fin true m e) (fin false n d) a b p q A B = either-way (ltb 0 (m * up e * down d + n * up d * down e)) true true true refl refl
+      ∙ ahead (W + 1 - a) (W + 2 + b) (omega arith)
+  less-is (fin true m e) (fin true n d) a b p q A B = three (n * up d * down e) (m * up e * down d) ∙ sizes-ltb n d m e b a q p
+      ∙ ltb-same b a (W + 1 - a) (W + 1 - b) (λ h. omega arith) (λ h. omega arith)
 
   -- what stands at one place is one value
   one-place : (x y : Float) (a b : ℕ) → Counts x a → Counts y b → a ≤ W → b ≤ W → T (fits binary64 x) → T (fits binary64 y) → place W x a ≡ place W y b → x ≡ y

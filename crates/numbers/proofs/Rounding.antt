@@ -3,7 +3,10 @@ use mathlib.Core.Path.{_≡_, refl, sym, ap, _∙_, subst}
 use mathlib.Core.Logic.{_⊎_, inl, inr}
 use mathlib.Core.Bool.{Bool, true, false, not, cond}
 use Prim.Native.Nat.{ℕ, zero, suc, _+_, _-_, _*_, _/_, _%_, _^_, _≤_, _<_}
-use native.Mathlib.Nat.{le-antisymm, le-of-eq, le-of-suc-le-suc, lt-of-lt-of-le, lt-of-le-of-lt, le-trans, eq-or-lt-of-le, mul-comm, mul-assoc, mul-right-comm, mul-one, mul-zero, one-mul, mul-pos, mul-le-mul-right, mul-lt-mul-of-pos-right, le-of-mul-le-mul-right, lt-of-mul-lt-mul-right, add-mul, add-mul-div-right, div-lt-iff-lt-mul, le-div-iff-mul-le, div-one, add-zero, le-add-right, le-of-lt, mod-eq-of-lt, div-mul-le-self, suc-mul, mod-lt, div-add-mod', add-comm, add-assoc, zero-add, div-eq-of-lt}
+use native.Mathlib.Nat.{le-antisymm, le-of-eq, le-of-suc-le-suc, lt-of-lt-of-le, lt-of-le-of-lt, le-trans, eq-or-lt-of-le, mul-comm, mul-assoc}
+use native.Mathlib.Nat.{mul-right-comm, mul-one, mul-zero, one-mul, mul-pos, mul-le-mul-right, mul-lt-mul-of-pos-right, le-of-mul-le-mul-right}
+use native.Mathlib.Nat.{lt-of-mul-lt-mul-right, add-mul, add-mul-div-right, div-lt-iff-lt-mul, le-div-iff-mul-le, div-one, add-zero, le-add-right}
+use native.Mathlib.Nat.{le-of-lt, mod-eq-of-lt, div-mul-le-self, suc-mul, mod-lt, div-add-mod', add-comm, add-assoc, zero-add, div-eq-of-lt}
 use native.Mathlib.Omega.{arith}
 use lib.Dec.{T, eqb, lit<, lit≤}
 use lib.Bits.{bitAnd, and-mask}
@@ -13,14 +16,16 @@ use lib.Ieee.Fits.{down-pos}
 use lib.Ieee.Exact.{HasValue}
 use lib.Ieee.Nearest.{div-same}
 use Rattle.numbers.specs.Rounding.{sizeDown, roundDownOf}
-use Rattle.numbers.proofs.Patterns.{normal, normal-value, subnormal-value, special, apart-bits, exponentOf, fractionOf, fraction-lt, sign-clear, sign-set, fields-clear, fields-set}
+use Rattle.numbers.proofs.Patterns.{normal, normal-value, subnormal-value, special, apart-bits, exponentOf, fractionOf}
+use Rattle.numbers.proofs.Patterns.{fraction-lt, sign-clear, sign-set, fields-clear, fields-set}
 use Rattle.numbers.proofs.Significands.{in-range, odd-enough, round-units, round-pattern}
 
 -- ---- the size, by the value
 up-is : (n d c : ℕ) → 0 < d → n ≤ c * d → c * d < n + d → (n + (d - 1)) / d ≡ c
 up-is n d c z a b =
     le-antisymm
-    (le-of-suc-le-suc (div-lt-iff-lt-mul {k = d} {x = n + (d - 1)} {y = suc c} z .1 (subst (λ (x : ℕ). n + (d - 1) < x) (sym (suc-mul c d)) (high n d (c * d) z a))))
+    (le-of-suc-le-suc (div-lt-iff-lt-mul {k = d} {x = n + (d - 1)} {y = suc c} z .1
+    (subst (λ (x : ℕ). n + (d - 1) < x) (sym (suc-mul c d)) (high n d (c * d) z a))))
     (le-div-iff-mul-le {k = d} {x = c} {y = n + (d - 1)} z .1 (low n d (c * d) z b))
   where
     high : (n d cd : ℕ) → 0 < d → n ≤ cd → n + (d - 1) < cd + d
@@ -48,7 +53,8 @@ size-same true a b c d B D e =
     let u = up-says c d D in
     up-is a b w B
     (le-of-mul-le-mul-right {k = d} (le-trans (le-of-eq e) (le-trans (mul-le-mul-right b (u .0)) (le-of-eq (mul-right-comm w d b)))) D)
-    (lt-of-mul-lt-mul-right d (lt-of-le-of-lt (le-of-eq (mul-right-comm w b d)) (lt-of-lt-of-le (mul-lt-mul-of-pos-right (u .1) B) (le-of-eq (add-mul c d b ∙ ap (λ (x : ℕ). x + d * b) (sym e) ∙ ap (λ (x : ℕ). a * d + x) (mul-comm d b) ∙ sym (add-mul a b d))))))
+    (lt-of-mul-lt-mul-right d (lt-of-le-of-lt (le-of-eq (mul-right-comm w b d)) (lt-of-lt-of-le (mul-lt-mul-of-pos-right (u .1) B)
+    (le-of-eq (add-mul c d b ∙ ap (λ (x : ℕ). x + d * b) (sym e) ∙ ap (λ (x : ℕ). a * d + x) (mul-comm d b) ∙ sym (add-mul a b d))))))
 
 pub down-value : (x : Float) (s : Bool) (a c : ℕ) → 0 < c → HasValue x s a c → roundDownOf x ≡ round binary64 s (sizeDown s a c) 1
 unfolding roundDownOf
@@ -63,7 +69,8 @@ cut-sum : (h x low : ℕ) → low ≤ 52 → (h * 2 ^ 52 + x) / 2 ^ low * 2 ^ lo
 cut-sum h x low l =
     let b = 2 ^ low in
     let c = h * 2 ^ (52 - low) in
-    let e : h * 2 ^ 52 ≡ c * b = ap (λ (n : ℕ). h * 2 ^ n) (back low l) ∙ ap (λ (n : ℕ). h * n) (pow-add 2 (52 - low) low) ∙ sym (mul-assoc h (2 ^ (52 - low)) b) in
+    let e : h * 2 ^ 52 ≡ c * b = ap (λ (n : ℕ). h * 2 ^ n) (back low l) ∙ ap (λ (n : ℕ). h * n) (pow-add 2 (52 - low) low)
+    ∙ sym (mul-assoc h (2 ^ (52 - low)) b) in
     ap (λ (n : ℕ). n / b * b) (ap (λ (n : ℕ). n + x) e ∙ add-comm (c * b) x)
     ∙ ap (λ (n : ℕ). n * b) (add-mul-div-right x c (pow-pos low))
     ∙ add-mul (x / b) c b
@@ -99,7 +106,8 @@ kept s m low l a h = go s
         let w = (m + (2 ^ low - 1)) / 2 ^ low in
         let p = power 53 (wide low l) in (
           le-trans a (u .0),
-          le-trans (mul-le-mul-right (2 ^ low) (le-of-suc-le-suc (lt-of-mul-lt-mul-right (2 ^ low) (lt-of-lt-of-le (below (w * 2 ^ low) m (2 ^ low) (2 ^ (53 - low) * 2 ^ low) (u .1) (lt-of-lt-of-le h (le-of-eq p))) (le-of-eq (sym (suc-mul (2 ^ (53 - low)) (2 ^ low)))))))) (le-of-eq (sym p)),
+          le-trans (mul-le-mul-right (2 ^ low) (le-of-suc-le-suc (lt-of-mul-lt-mul-right (2 ^ low) (lt-of-lt-of-le (below (w * 2 ^ low) m (2 ^ low)
+              (2 ^ (53 - low) * 2 ^ low) (u .1) (lt-of-lt-of-le h (le-of-eq p))) (le-of-eq (sym (suc-mul (2 ^ (53 - low)) (2 ^ low)))))))) (le-of-eq (sym p)),
         )
 
 -- ---- a number from 1 on with digits behind the point: its exponent's field is suc k, and low digits are behind the point
@@ -114,7 +122,8 @@ down-middle s k low f j l h =
     let q = kept s m low l (le-add-right (2 ^ 52) f) (high f h) in
     let r = round-pattern s w (w * 2 ^ low) k (q .0) (q .1) (small low k j) (ap (λ (n : ℕ). w * n) p ∙ sym (mul-assoc w (2 ^ low) (2 ^ k))) in
     let v = down-value (ofFields binary64 s (suc k) f) s (m * 2 ^ k) (2 ^ 1074) (pow-pos 1074) (normal-value s k f (under low k j)) in
-    let e : sizeDown s (m * 2 ^ k) (2 ^ 1074) ≡ w = size-same s (m * 2 ^ k) (2 ^ 1074) m (2 ^ low) (pow-pos 1074) (pow-pos low) (mul-assoc m (2 ^ k) (2 ^ low) ∙ ap (λ (n : ℕ). m * n) (mul-comm (2 ^ k) (2 ^ low) ∙ sym p)) in
+    let e : sizeDown s (m * 2 ^ k) (2 ^ 1074) ≡ w = size-same s (m * 2 ^ k) (2 ^ 1074) m (2 ^ low) (pow-pos 1074) (pow-pos low) (mul-assoc m (2 ^ k) (2 ^ low)
+    ∙ ap (λ (n : ℕ). m * n) (mul-comm (2 ^ k) (2 ^ low) ∙ sym p)) in
     (sym (v ∙ ap (λ (n : ℕ). round binary64 s n 1) e ∙ r .0), r .1, q .1)
   where
     high : (f : ℕ) → f < 2 ^ 52 → 2 ^ 52 + f < 2 ^ 53
@@ -141,14 +150,16 @@ pub record Cut (r : ℕ) (x : Float) : Type 0 where
   pub no-nan : T (not (nanBits binary64 r))
   pub is : ofBits binary64 r ≡ roundDownOf x
 
-cut-made : (s : Bool) (k low f h x : ℕ) → low + k ≡ 1074 → low ≤ 52 → f < 2 ^ 52 → h * 2 ^ 52 ≡ cond s (2 ^ 63) 0 + k * 2 ^ 52 → x / 2 ^ low ≡ sizeDown s (2 ^ 52 + f) (2 ^ low) → (b : ℕ) → b ≡ h * 2 ^ 52 + x
+cut-made : (s : Bool) (k low f h x : ℕ) → low + k ≡ 1074 → low ≤ 52 → f < 2 ^ 52 → h * 2 ^ 52 ≡ cond s (2 ^ 63) 0 + k * 2 ^ 52
+    → x / 2 ^ low ≡ sizeDown s (2 ^ 52 + f) (2 ^ low) → (b : ℕ) → b ≡ h * 2 ^ 52 + x
     → Cut (cutOff b low) (ofFields binary64 s (suc k) f)
 cut-made s k low f h x j l F e g b q =
     let w = sizeDown s (2 ^ 52 + f) (2 ^ low) in
     let d = down-middle s k low f j l F in
     let p : b / 2 ^ low * 2 ^ low % 2 ^ 64 ≡ cond s (2 ^ 63) 0 + (k * 2 ^ 52 + w * 2 ^ low) =
     ap (λ (n : ℕ). n / 2 ^ low * 2 ^ low % 2 ^ 64) q
-    ∙ ap (λ (n : ℕ). n % 2 ^ 64) (cut-sum h x low l ∙ ap (λ (n : ℕ). n + x / 2 ^ low * 2 ^ low) e ∙ add-assoc (cond s (2 ^ 63) 0) (k * 2 ^ 52) (x / 2 ^ low * 2 ^ low) ∙ ap (λ (n : ℕ). cond s (2 ^ 63) 0 + (k * 2 ^ 52 + n * 2 ^ low)) g)
+    ∙ ap (λ (n : ℕ). n % 2 ^ 64) (cut-sum h x low l ∙ ap (λ (n : ℕ). n + x / 2 ^ low * 2 ^ low) e
+    ∙ add-assoc (cond s (2 ^ 63) 0) (k * 2 ^ 52) (x / 2 ^ low * 2 ^ low) ∙ ap (λ (n : ℕ). cond s (2 ^ 63) 0 + (k * 2 ^ 52 + n * 2 ^ low)) g)
     ∙ mod-eq-of-lt (fit s (w * 2 ^ low) (d .2)) in
     record { no-nan = subst (λ (n : ℕ). T (not (nanBits binary64 n))) (sym p) (d .1); is = ap (ofBits binary64) p ∙ d .0 }
   where
@@ -240,7 +251,8 @@ cut-any b low h j o l = go (b / 2 ^ 63) refl (bit b h)
         let n : b / 2 ^ 63 ≡ 0 → ⊥ = λ z. one 0 (sym e ∙ z) in
         of-cut b low (grown b low) (ofFields binary64 true (exponentOf b) (fractionOf b)) l
         (ap (λ (n : ℕ). b + behind low * n) e ∙ ap (λ (n : ℕ). b + n) (mul-one (behind low)))
-        (subst (λ (n : ℕ). n + behind low < 2 ^ 64) (sym (fields-set b h n)) (sum (exponentOf b) (fractionOf b) (behind low) j (fraction-lt b) (behind-is low l .1)))
+        (subst (λ (n : ℕ). n + behind low < 2 ^ 64) (sym (fields-set b h n))
+        (sum (exponentOf b) (fractionOf b) (behind low) j (fraction-lt b) (behind-is low l .1)))
         (apart-bits b true (sign-set b n))
         (cut-set (exponentOf b) low (fractionOf b) b j o l (fraction-lt b) (fields-set b h n))
       where
@@ -285,9 +297,11 @@ down-whole s (suc k) f l E h = go (eq-or-lt-of-le (le-of-suc-le-suc E))
         let m = 2 ^ 52 + f in
         let n = m * 2 ^ (k - 1074) in
         let K : k < 2 ^ 11 - 2 = le-of-suc-le-suc p in
-        let r : n * 2 ^ 1074 ≡ m * 2 ^ k = mul-assoc m (2 ^ (k - 1074)) (2 ^ 1074) ∙ ap (λ (x : ℕ). m * x) (sym (pow-add 2 (k - 1074) 1074) ∙ ap (λ (x : ℕ). 2 ^ x) (sym (back k l))) in
+        let r : n * 2 ^ 1074 ≡ m * 2 ^ k = mul-assoc m (2 ^ (k - 1074)) (2 ^ 1074)
+        ∙ ap (λ (x : ℕ). m * x) (sym (pow-add 2 (k - 1074) 1074) ∙ ap (λ (x : ℕ). 2 ^ x) (sym (back k l))) in
         let v = down-value (ofFields binary64 s (suc k) f) s (m * 2 ^ k) (2 ^ 1074) (pow-pos 1074) (normal-value s k f K) in
-        let e : sizeDown s (m * 2 ^ k) (2 ^ 1074) ≡ n = size-same s (m * 2 ^ k) (2 ^ 1074) n 1 (pow-pos 1074) (lit< tt) (mul-one (m * 2 ^ k) ∙ sym r) ∙ same s n in
+        let e : sizeDown s (m * 2 ^ k) (2 ^ 1074) ≡ n =
+        size-same s (m * 2 ^ k) (2 ^ 1074) n 1 (pow-pos 1074) (lit< tt) (mul-one (m * 2 ^ k) ∙ sym r) ∙ same s n in
         normal s k f K
         ∙ sym (in-range s m k (high f h) K ∙ odd-enough 53 s m k 1074 (lt-of-lt-of-le (lit< tt) (le-add-right (2 ^ 52) f)) (high f h))
         ∙ sym (v ∙ ap (λ (x : ℕ). round binary64 s x 1) e ∙ round-units s n m k (le-add-right (2 ^ 52) f) (high f h) r)
@@ -302,13 +316,15 @@ down-zero false = refl
 small-is : (x : Float) (s : Bool) (a : ℕ) → 0 < a → a < 2 ^ 1074 → HasValue x s a (2 ^ 1074) → round binary64 s (cond s 1 0) 1 ≡ roundDownOf x
 small-is x false a z h v = sym (down-value x false a (2 ^ 1074) (pow-pos 1074) v ∙ ap (λ (n : ℕ). round binary64 false n 1) (div-eq-of-lt h))
 small-is x true a z h v =
-    sym (down-value x true a (2 ^ 1074) (pow-pos 1074) v ∙ ap (λ (n : ℕ). round binary64 true n 1) (up-is a (2 ^ 1074) 1 (pow-pos 1074) (le-trans (le-of-lt h) (le-of-eq (sym (one-mul (2 ^ 1074))))) (lt-of-le-of-lt (le-of-eq (one-mul (2 ^ 1074))) (more a (2 ^ 1074) z))))
+    sym (down-value x true a (2 ^ 1074) (pow-pos 1074) v ∙ ap (λ (n : ℕ). round binary64 true n 1) (up-is a (2 ^ 1074) 1 (pow-pos 1074)
+    (le-trans (le-of-lt h) (le-of-eq (sym (one-mul (2 ^ 1074))))) (lt-of-le-of-lt (le-of-eq (one-mul (2 ^ 1074))) (more a (2 ^ 1074) z))))
   where
     more : (a p : ℕ) → 0 < a → p < a + p
     more a p z = omega arith
 
 pub down-small : (s : Bool) (e f : ℕ) → e < 1023 → f < 2 ^ 52 → (e ≡ 0 → f ≡ 0 → ⊥) → round binary64 s (cond s 1 0) 1 ≡ roundDownOf (ofFields binary64 s e f)
-down-small s zero f E h n = small-is (ofFields binary64 s 0 f) s f (some f (n refl)) (lt-of-lt-of-le h (pow-mono {i = 52} {j = 1074} (lit≤ tt))) (subnormal-value s f)
+down-small s zero f E h n =
+    small-is (ofFields binary64 s 0 f) s f (some f (n refl)) (lt-of-lt-of-le h (pow-mono {i = 52} {j = 1074} (lit≤ tt))) (subnormal-value s f)
   where
     some : (f : ℕ) → (f ≡ 0 → ⊥) → 0 < f
     some f h = omega arith

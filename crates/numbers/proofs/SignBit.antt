@@ -15,7 +15,8 @@ unfolding signOf odd
 sign-odd s zero k l = refl
 sign-odd s (suc q) k l = refl
 
-sign-pick : (b t s : Bool) (q k l : ℕ) → T (not (isNan (cond b (cond t (inf s) nan) (odd 53 s q k l)))) → signOf (cond b (cond t (inf s) nan) (odd 53 s q k l)) ≡ s
+sign-pick : (b t s : Bool) (q k l : ℕ) → T (not (isNan (cond b (cond t (inf s) nan) (odd 53 s q k l))))
+    → signOf (cond b (cond t (inf s) nan) (odd 53 s q k l)) ≡ s
 unfolding signOf isNan
 sign-pick true true s q k l n = refl
 sign-pick true false s q k l n = absurd n

@@ -1,10 +1,11 @@
--- The f64 that is q * 2 ^ k smallest ones, for a q of 53 digits: its bits are (k << 52) + q under the sign (`units-pattern`), and a whole number of that value rounds to it
--- (`round-pattern`).
+-- The f64 that is q * 2 ^ k smallest ones, for a q of 53 digits: its bits are (k << 52) + q under the sign (`units-pattern`), and a whole number of that value
+-- rounds to it (`round-pattern`).
 use mathlib.Core.Path.{_≡_, refl, sym, ap, _∙_, subst}
 use mathlib.Core.Logic.{_⊎_, inl, inr}
 use mathlib.Core.Bool.{Bool, false, not, cond}
 use Prim.Native.Nat.{ℕ, zero, suc, _+_, _-_, _*_, _/_, _%_, _^_, _≤_, _<_, compare, Ordering, Ordering·lt, compare·zero-suc}
-use native.Mathlib.Nat.{zero-add, add-sub-of-le, le-antisymm, le-of-eq, lt-of-not-le, lt-of-lt-of-le, le-trans, not-le-of-lt, lt-irrefl, eq-or-lt-of-le, mul-assoc, one-mul, mul-pos, mul-div-cancel, mul-mod-left, mul-le-mul-right, div-one, pow-succ'}
+use native.Mathlib.Nat.{zero-add, add-sub-of-le, le-antisymm, le-of-eq, lt-of-not-le, lt-of-lt-of-le, le-trans, not-le-of-lt, lt-irrefl}
+use native.Mathlib.Nat.{eq-or-lt-of-le, mul-assoc, one-mul, mul-pos, mul-div-cancel, mul-mod-left, mul-le-mul-right, div-one, pow-succ'}
 use native.Mathlib.Omega.{arith}
 use lib.Dec.{T, ltb, lt→ltb, lit<, lit≤}
 use lib.Pow.{pow-add, pow-pos, pow-mono, shl-lt}
@@ -34,7 +35,8 @@ enough (suc d) q z h = go (q % 2) refl (λ e. enough d (q / 2) (half q z e) (low
     low : (q p : ℕ) → q < 2 * p → q / 2 < p
     low q p h = omega arith
 
-    go : (r : ℕ) → q % 2 ≡ r → (q % 2 ≡ 0 → trailingZeros (suc d) (q / 2) ≡ trailingZeros d (q / 2)) → under r (trailingZeros (suc d) (q / 2)) ≡ under r (trailingZeros d (q / 2))
+    go : (r : ℕ) → q % 2 ≡ r → (q % 2 ≡ 0 → trailingZeros (suc d) (q / 2) ≡ trailingZeros d (q / 2))
+        → under r (trailingZeros (suc d) (q / 2)) ≡ under r (trailingZeros d (q / 2))
     go zero e f = ap suc (f e)
     go (suc r) e f = refl
 
@@ -46,7 +48,8 @@ odd-enough d s (suc q) k l z h = rw (enough d (suc q) z h)
 pub in-range : (s : Bool) (q k : ℕ) → q < 2 ^ 53 → k < 2 ^ 11 - 2 → units binary64 s q k ≡ odd 54 s q k 1074
 unfolding units
 in-range s q k h l =
-    ap (λ (t : Bool). cond t (odd 54 s q k 1074) (inf s)) (is-true (ltb (q * 2 ^ k) (2 ^ 2098)) (lt→ltb (q * 2 ^ k) (2 ^ 2098) (lt-of-lt-of-le (shl-lt 53 k h) (pow-mono (fit k l)))))
+    ap (λ (t : Bool). cond t (odd 54 s q k 1074) (inf s))
+    (is-true (ltb (q * 2 ^ k) (2 ^ 2098)) (lt→ltb (q * 2 ^ k) (2 ^ 2098) (lt-of-lt-of-le (shl-lt 53 k h) (pow-mono (fit k l)))))
   where
     fit : (k : ℕ) → k < 2 ^ 11 - 2 → 53 + k ≤ 2098
     fit k h = omega arith
@@ -61,7 +64,8 @@ rest-lt q a b = omega arith
 next-lt : (k c : ℕ) → k < c → suc k < suc c
 next-lt k c h = omega arith
 
-pub units-pattern : (s : Bool) (q k : ℕ) → 2 ^ 52 ≤ q → q < 2 ^ 53 → k < 2 ^ 11 - 2 → ofBits binary64 (cond s (2 ^ 63) 0 + (k * 2 ^ 52 + q)) ≡ units binary64 s q k
+pub units-pattern : (s : Bool) (q k : ℕ) → 2 ^ 52 ≤ q → q < 2 ^ 53 → k < 2 ^ 11 - 2
+    → ofBits binary64 (cond s (2 ^ 63) 0 + (k * 2 ^ 52 + q)) ≡ units binary64 s q k
 units-pattern s q k l h K =
     ap (λ (x : ℕ). ofBits binary64 (cond s (2 ^ 63) 0 + x)) (as-fields q k l)
     ∙ made s (suc k) (q - 2 ^ 52) (omega arith) (rest-lt q l h)
@@ -70,7 +74,8 @@ units-pattern s q k l h K =
     ∙ sym (in-range s q k h K ∙ odd-enough 53 s q k 1074 (lt-of-lt-of-le (lit< tt) l) h)
 
 pub pattern-no-nan : (s : Bool) (q k : ℕ) → 2 ^ 52 ≤ q → q < 2 ^ 53 → k < 2 ^ 11 - 2 → T (not (nanBits binary64 (cond s (2 ^ 63) 0 + (k * 2 ^ 52 + q))))
-pattern-no-nan s q k l h K = subst (λ (b : ℕ). T (not (nanBits binary64 (cond s (2 ^ 63) 0 + b)))) (sym (as-fields q k l)) (made-no-nan s (suc k) (q - 2 ^ 52) (next-lt k (2 ^ 11 - 2) K) (rest-lt q l h))
+pattern-no-nan s q k l h K = subst (λ (b : ℕ). T (not (nanBits binary64 (cond s (2 ^ 63) 0 + b)))) (sym (as-fields q k l))
+    (made-no-nan s (suc k) (q - 2 ^ 52) (next-lt k (2 ^ 11 - 2) K) (rest-lt q l h))
 
 -- a sign that is clear adds nothing
 pub plain-pattern : (q k : ℕ) → 2 ^ 52 ≤ q → q < 2 ^ 53 → k < 2 ^ 11 - 2 → ofBits binary64 (k * 2 ^ 52 + q) ≡ units binary64 false q k
@@ -96,7 +101,8 @@ pub round-units : (s : Bool) (w q k : ℕ) → 2 ^ 52 ≤ q → q < 2 ^ 53 → w
 round-units s w q k l h e =
     let lo : 2 ^ (52 + k) ≤ q * 2 ^ k = le-trans (le-of-eq (pow-add 2 52 k)) (mul-le-mul-right (2 ^ k) l) in
     let hi : q * 2 ^ k < 2 ^ suc (52 + k) = subst (λ (x : ℕ). q * 2 ^ k < 2 ^ x) (digits k) (shl-lt 53 k h) in
-    let z : size (w * 2 ^ 1074 / 1) - 53 ≡ k = ap (λ (x : ℕ). size x - 53) (div-one (w * 2 ^ 1074) ∙ e) ∙ ap (λ (x : ℕ). x - 53) (size-is (q * 2 ^ k) (52 + k) lo hi) ∙ less k in
+    let z : size (w * 2 ^ 1074 / 1) - 53 ≡ k = ap (λ (x : ℕ). size x - 53) (div-one (w * 2 ^ 1074) ∙ e)
+    ∙ ap (λ (x : ℕ). x - 53) (size-is (q * 2 ^ k) (52 + k) lo hi) ∙ less k in
     round-is binary64 s w 1
     ∙ ap (λ (x : ℕ). core binary64 s (w * 2 ^ 1074) 1 x) z
     ∙ ap (λ (x : ℕ). core binary64 s x 1 k) (e ∙ ap (λ (x : ℕ). q * x) (sym (one-mul (2 ^ k))))
@@ -122,11 +128,13 @@ round-pattern s w q k l h K e = go (eq-or-lt-of-le h)
     carried : (k : ℕ) → suc k * 2 ^ 52 + 2 ^ 52 ≡ k * 2 ^ 52 + 2 ^ 53
     carried k = omega arith
 
-    go : (q ≡ 2 ^ 53) ⊎ (q < 2 ^ 53) → (round binary64 s w 1 ≡ ofBits binary64 (cond s (2 ^ 63) 0 + (k * 2 ^ 52 + q))) × T (not (nanBits binary64 (cond s (2 ^ 63) 0 + (k * 2 ^ 52 + q))))
+    go : (q ≡ 2 ^ 53) ⊎ (q < 2 ^ 53) → (round binary64 s w 1 ≡ ofBits binary64 (cond s (2 ^ 63) 0 + (k * 2 ^ 52 + q)))
+        × T (not (nanBits binary64 (cond s (2 ^ 63) 0 + (k * 2 ^ 52 + q))))
     go (inr b) = (round-units s w q k l b e ∙ sym (units-pattern s q k l b (wider k K)), pattern-no-nan s q k l b (wider k K))
     go (inl b) =
         let f : suc k * 2 ^ 52 + 2 ^ 52 ≡ k * 2 ^ 52 + q = carried k ∙ ap (λ (x : ℕ). k * 2 ^ 52 + x) (sym b) in
-        let g : w * 2 ^ 1074 ≡ 2 ^ 52 * 2 ^ suc k = e ∙ ap (λ (x : ℕ). x * 2 ^ k) b ∙ mul-assoc (2 ^ 52) 2 (2 ^ k) ∙ ap (λ (x : ℕ). 2 ^ 52 * x) (sym (pow-succ' 2 k)) in (
+        let g : w * 2 ^ 1074 ≡ 2 ^ 52 * 2 ^ suc k = e ∙ ap (λ (x : ℕ). x * 2 ^ k) b ∙ mul-assoc (2 ^ 52) 2 (2 ^ k)
+        ∙ ap (λ (x : ℕ). 2 ^ 52 * x) (sym (pow-succ' 2 k)) in (
           round-units s w (2 ^ 52) (suc k) (lit≤ tt) (lit< tt) g
               ∙ sym (units-pattern s (2 ^ 52) (suc k) (lit≤ tt) (lit< tt) (next k K))
               ∙ ap (λ (x : ℕ). ofBits binary64 (cond s (2 ^ 63) 0 + x)) f,

@@ -15,13 +15,15 @@ use Rattle.rules.proofs.Branches.{by-test}
 
 -- ---- the tests that `le` comes down to
 or-le : (a b : ℕ) → T (ltb a b || (eqb a b && true)) → a ≤ b
-or-le a b t = by-test (ltb a b) (λ e. let h = ltb-true a b e in omega arith) (λ e. by-test (eqb a b) (λ f. let h = eqb-true a b f in omega arith) (λ f. absurd (rw (e, f) at t)))
+or-le a b t = by-test (ltb a b) (λ e. let h = ltb-true a b e in omega arith)
+    (λ e. by-test (eqb a b) (λ f. let h = eqb-true a b f in omega arith) (λ f. absurd (rw (e, f) at t)))
 
 le-or : (a b : ℕ) → a ≤ b → T (ltb a b || (eqb a b && true))
 le-or a b h = by-test (ltb a b) (λ e. rw e tt) (λ e. let k : a ≡ b = omega (arith, ltb-false a b e) in rw (e, eq-eqb a b k) tt)
 
 or-ge : (a b : ℕ) → T (ltb b a || (eqb a b && true)) → b ≤ a
-or-ge a b t = by-test (ltb b a) (λ e. let h = ltb-true b a e in omega arith) (λ e. by-test (eqb a b) (λ f. let h = eqb-true a b f in omega arith) (λ f. absurd (rw (e, f) at t)))
+or-ge a b t = by-test (ltb b a) (λ e. let h = ltb-true b a e in omega arith)
+    (λ e. by-test (eqb a b) (λ f. let h = eqb-true a b f in omega arith) (λ f. absurd (rw (e, f) at t)))
 
 ge-or : (a b : ℕ) → b ≤ a → T (ltb b a || (eqb a b && true))
 ge-or a b h = by-test (ltb b a) (λ e. rw e tt) (λ e. let k : a ≡ b = omega (arith, ltb-false b a e) in rw (e, eq-eqb a b k) tt)
@@ -58,7 +60,8 @@ zero-times a d e = ap (λ (n : ℕ). n * d) e ∙ zero-mul d
 pub le→under : (s : Bool) (m : ℕ) (e : ℤ) (t : Bool) (n : ℕ) (d : ℤ) → T (le (fin s m e) (fin t n d)) → Under s (m * up e) (down e) t (n * up d) (down d)
 unfolding le
 le→under false m e false n d h = or-le (m * up e * down d) (n * up d * down e) h
-le→under false m e true n d h = let z = both-zero (m * up e * down d) (n * up d * down e) h in (first-zero (m * up e) (down d) (down-pos d) (z .0), first-zero (n * up d) (down e) (down-pos e) (z .1))
+le→under false m e true n d h = let z = both-zero (m * up e * down d) (n * up d * down e) h in
+    (first-zero (m * up e) (down d) (down-pos d) (z .0), first-zero (n * up d) (down e) (down-pos e) (z .1))
 le→under true m e false n d h = omega arith
 le→under true m e true n d h = or-ge (m * up e * down d) (n * up d * down e) h
 
@@ -73,7 +76,8 @@ under→le true m e true n d h = ge-or (m * up e * down d) (n * up d * down e) h
 vanish : (x de a c : ℕ) → x * c ≡ a * de → 0 < c → a ≡ 0 → x ≡ 0
 vanish x de a c p C z = first-zero x c C (p ∙ zero-times a de z)
 
-pub le-of-signed : (x y : Float) (s : Bool) (a c : ℕ) (t : Bool) (b d : ℕ) → 0 < c → 0 < d → HasValue x s a c → HasValue y t b d → Under s a c t b d → T (le x y)
+pub le-of-signed : (x y : Float) (s : Bool) (a c : ℕ) (t : Bool) (b d : ℕ) → 0 < c → 0 < d → HasValue x s a c → HasValue y t b d
+    → Under s a c t b d → T (le x y)
 le-of-signed nan y s a c t b d C D h k o = absurd h
 le-of-signed (inf z) y s a c t b d C D h k o = absurd h
 le-of-signed (fin z m e) nan s a c t b d C D h k o = absurd k

@@ -28,11 +28,13 @@ not-below nan y p q e = absurd p
 not-below (inf s) y p q e = absurd p
 not-below (fin s m k) nan p q e = absurd q
 not-below (fin s m k) (inf t) p q e = absurd q
-not-below (fin false m k) (fin false n d) p q e = parts→le (fin false n d) (fin false m k) tt tt (omega (arith, ltb-false (m * up k * down d) (n * up d * down k) e, zero-mul (down k), zero-mul (down d)))
+not-below (fin false m k) (fin false n d) p q e =
+    parts→le (fin false n d) (fin false m k) tt tt (omega (arith, ltb-false (m * up k * down d) (n * up d * down k) e, zero-mul (down k), zero-mul (down d)))
 not-below (fin false m k) (fin true n d) p q e = parts→le (fin true n d) (fin false m k) tt tt (omega (arith, zero-mul (down k), zero-mul (down d)))
 not-below (fin true m k) (fin false n d) p q e =
     parts→le (fin false n d) (fin true m k) tt tt (omega (arith, ltb-false 0 (m * up k * down d + n * up d * down k) e, zero-mul (down k), zero-mul (down d)))
-not-below (fin true m k) (fin true n d) p q e = parts→le (fin true n d) (fin true m k) tt tt (omega (arith, ltb-false (n * up d * down k) (m * up k * down d) e, zero-mul (down k), zero-mul (down d)))
+not-below (fin true m k) (fin true n d) p q e =
+    parts→le (fin true n d) (fin true m k) tt tt (omega (arith, ltb-false (n * up d * down k) (m * up k * down d) e, zero-mul (down k), zero-mul (down d)))
 
 -- what is at most b is not above it
 pub not-above : (v b : Float) → T (le v b) → lt b v ≡ false

@@ -127,9 +127,11 @@ is-mul (fin s m e) (inf t) p q = absurd q
 is-mul (fin false m e) (fin false n d) p q =
     is-as _ _ _ _ _ _ (omega arith) (omega (arith, mul-zero (m * up e), zero-mul (n * up d))) (up-is (m * up e * (n * up d)) (down e * down d))
 is-mul (fin false m e) (fin true n d) p q =
-    is-as _ _ _ _ _ _ (omega (arith, mul-zero (m * up e), zero-mul (n * up d))) (omega arith) (down-is (m * up e * (n * up d)) (down e * down d) (mul-pos (down-pos e) (down-pos d)))
+    is-as _ _ _ _ _ _ (omega (arith, mul-zero (m * up e), zero-mul (n * up d))) (omega arith)
+    (down-is (m * up e * (n * up d)) (down e * down d) (mul-pos (down-pos e) (down-pos d)))
 is-mul (fin true m e) (fin false n d) p q =
-    is-as _ _ _ _ _ _ (omega (arith, mul-zero (m * up e), zero-mul (n * up d))) (omega arith) (down-is (m * up e * (n * up d)) (down e * down d) (mul-pos (down-pos e) (down-pos d)))
+    is-as _ _ _ _ _ _ (omega (arith, mul-zero (m * up e), zero-mul (n * up d))) (omega arith)
+    (down-is (m * up e * (n * up d)) (down e * down d) (mul-pos (down-pos e) (down-pos d)))
 is-mul (fin true m e) (fin true n d) p q =
     is-as _ _ _ _ _ _ (omega arith) (omega (arith, mul-zero (m * up e), zero-mul (n * up d))) (up-is (m * up e * (n * up d)) (down e * down d))
 
@@ -145,7 +147,8 @@ module _ (x y z : Float) (p : T (finite x)) (q : T (finite y)) (r : T (finite z)
       cross ux lx dx uy ly dy uz lz dz e h =
           let k = mul-le-mul-right (uz * dz) h in
           rw e
-          (simp (add-mul, mul-add, mul-assoc, mul-comm, mul-left-comm, zero-mul, mul-zero) (omega (arith, simp (add-mul, mul-add, mul-assoc, mul-comm, mul-left-comm) at k)))
+          (simp (add-mul, mul-add, mul-assoc, mul-comm, mul-left-comm, zero-mul, mul-zero)
+          (omega (arith, simp (add-mul, mul-add, mul-assoc, mul-comm, mul-left-comm) at k)))
 
   pub mul-down : upper z ≡ 0 → T (le (mul binary64 y z) (mul binary64 x z))
   mul-down e =
@@ -158,7 +161,8 @@ module _ (x y z : Float) (p : T (finite x)) (q : T (finite y)) (r : T (finite z)
       cross ux lx dx uy ly dy uz lz dz e h =
           let k = mul-le-mul-right (lz * dz) h in
           rw e
-          (simp (add-mul, mul-add, mul-assoc, mul-comm, mul-left-comm, zero-mul, mul-zero) (omega (arith, simp (add-mul, mul-add, mul-assoc, mul-comm, mul-left-comm) at k)))
+          (simp (add-mul, mul-add, mul-assoc, mul-comm, mul-left-comm, zero-mul, mul-zero)
+          (omega (arith, simp (add-mul, mul-add, mul-assoc, mul-comm, mul-left-comm) at k)))
 
 swapped : (b : Bool) (p q c d : ℕ) → round binary64 b (p * q) (c * d) ≡ round binary64 b (q * p) (d * c)
 swapped b p q c d = ap (λ (z : ℕ). round binary64 b z (c * d)) (mul-comm p q) ∙ ap (λ (z : ℕ). round binary64 b (q * p) z) (mul-comm c d)

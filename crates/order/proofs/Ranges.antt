@@ -85,15 +85,21 @@ le-trans-finite x y z p q r h k =
     parts→le x z p r
     (cross (upper x) (lower x) (den x) (upper y) (lower y) (den y) (upper z) (lower z) (den z) (den-pos y) (le→parts x y p q h) (le→parts y z q r k))
   where
-    cross : (ux lx dx uy ly dy uz lz dz : ℕ) → 0 < dy → ux * dy + ly * dx ≤ uy * dx + lx * dy → uy * dz + lz * dy ≤ uz * dy + ly * dz → ux * dz + lz * dx ≤ uz * dx + lx * dz
+    cross : (ux lx dx uy ly dy uz lz dz : ℕ) → 0 < dy → ux * dy + ly * dx ≤ uy * dx + lx * dy → uy * dz + lz * dy ≤ uz * dy + ly * dz
+        → ux * dz + lz * dx ≤ uz * dx + lx * dz
     cross ux lx dx uy ly dy uz lz dz pos₀ a b =
         le-of-mul-le-mul-right {m = ux * dz + lz * dx} {n = uz * dx + lx * dz} {k = dy}
         (simp (add-mul, mul-assoc, mul-comm, mul-left-comm)
-        (omega (arith, simp (add-mul, mul-assoc, mul-comm, mul-left-comm) at (mul-le-mul-right dz a), simp (add-mul, mul-assoc, mul-comm, mul-left-comm) at (mul-le-mul-right dx b))))
+        (omega (
+          arith,
+          simp (add-mul, mul-assoc, mul-comm, mul-left-comm) at (mul-le-mul-right dz a),
+          simp (add-mul, mul-assoc, mul-comm, mul-left-comm) at (mul-le-mul-right dx b),
+        )))
         pos₀
 
 -- more over less is more
-pub div-both : (f : Format) (x X s S : Float) → T (finite x) → T (finite X) → T (positive s) → T (positive S) → lower X ≡ 0 → T (le x X) → num S * den s ≤ num s * den S → T (le (div f x s) (div f X S))
+pub div-both : (f : Format) (x X s S : Float) → T (finite x) → T (finite X) → T (positive s) → T (positive S) → lower X ≡ 0 → T (le x X)
+    → num S * den s ≤ num s * den S → T (le (div f x s) (div f X S))
 div-both f x X s S p P q Q z h k =
     is-le f _ _ _ _ _ _ _ _ (mul-pos (num-pos s q) (den-pos x)) (mul-pos (num-pos S Q) (den-pos X))
     (cross (upper x) (lower x) (den x) (upper X) (lower X) (den X) (num s) (den s) (num S) (den S) z (le→parts x X p P h) k)
@@ -104,5 +110,8 @@ div-both f x X s S p P q Q z h k =
     cross ux lx dx uX lX dX ns ds nS dS e a b =
         rw e
         (simp (add-mul, mul-assoc, mul-comm, mul-left-comm, zero-mul, mul-zero)
-        (omega
-        (arith, simp (add-mul, mul-assoc, mul-comm, mul-left-comm, zero-mul, mul-zero) at (mul-le-mul-right (ds * nS) (rw e at a)), simp (add-mul, mul-assoc, mul-comm, mul-left-comm) at (mul-le-mul-right (uX * dx) b))))
+        (omega (
+          arith,
+          simp (add-mul, mul-assoc, mul-comm, mul-left-comm, zero-mul, mul-zero) at (mul-le-mul-right (ds * nS) (rw e at a)),
+          simp (add-mul, mul-assoc, mul-comm, mul-left-comm) at (mul-le-mul-right (uX * dx) b),
+        )))

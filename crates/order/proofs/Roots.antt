@@ -34,7 +34,8 @@ root-finite nan g p h = absurd p
 root-finite (inf s) g p h = absurd p
 root-finite (fin s zero e) g p h = (h, tt)
 root-finite (fin true (suc n) d) g p h = absurd (not-zero n (up d) (up-pos d) (no-lower (fin true (suc n) d) tt h))
-root-finite (fin false (suc n) d) g p h = let b = root-nearest (fin false (suc n) d) g (lt→ltb 0 (suc n) (omega arith)) in of-value (rootOf (fin false (suc n) d)) _ _ (b .root)
+root-finite (fin false (suc n) d) g p h = let b = root-nearest (fin false (suc n) d) g (lt→ltb 0 (suc n) (omega arith)) in
+    of-value (rootOf (fin false (suc n) d)) _ _ (b .root)
 
 none-below : (s : Bool) (e : _) (w : Float) → T (le O w) → T (le (fin s 0 e) w)
 none-below s e w h = le-trans (fin s 0 e) O w (at s) h
@@ -54,11 +55,19 @@ root-le (fin true (suc m) e) y f g p q h k = absurd (not-zero m (up e) (up-pos e
 root-le (fin false (suc m) e) nan f g p q h k = absurd q
 root-le (fin false (suc m) e) (inf s) f g p q h k = absurd q
 root-le (fin false (suc m) e) (fin true n d) f g p q h k =
-    absurd (too-large m (up e) (down d) (up-pos e) (down-pos d) (omega (arith, le→parts (fin false (suc m) e) (fin true n d) tt tt k, zero-mul (down d), zero-mul (down e))))
+    absurd (too-large m (up e) (down d) (up-pos e) (down-pos d)
+    (omega (arith, le→parts (fin false (suc m) e) (fin true n d) tt tt k, zero-mul (down d), zero-mul (down e))))
 root-le (fin false (suc m) e) (fin false zero d) f g p q h k =
     absurd
     (too-large m (up e) (down d) (up-pos e) (down-pos d)
-    (omega (arith, le→parts (fin false (suc m) e) (fin false 0 d) tt tt k, zero-mul (up d), zero-mul (down d), zero-mul (down e), ap (λ (z : ℕ). z * down e) (zero-mul (up d)))))
+    (omega (
+      arith,
+      le→parts (fin false (suc m) e) (fin false 0 d) tt tt k,
+      zero-mul (up d),
+      zero-mul (down d),
+      zero-mul (down e),
+      ap (λ (z : ℕ). z * down e) (zero-mul (up d)),
+    )))
 root-le (fin false (suc m) e) (fin false (suc n) d) f g p q h k =
     root-mono (fin false (suc m) e) (fin false (suc n) d) f g (lt→ltb 0 (suc m) (omega arith)) (lt→ltb 0 (suc n) (omega arith)) k
 

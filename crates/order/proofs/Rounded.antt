@@ -3,7 +3,8 @@ use mathlib.Core.Path.{_≡_, sym, ap, _∙_}
 use mathlib.Core.Bool.{Bool, true, false, not}
 use mathlib.Core.Logic.{_⊎_, inl, inr}
 use Prim.Native.Nat.{ℕ, suc, _+_, _-_, _*_, _/_, _%_, _^_, _≤_, _<_, compare}
-use native.Mathlib.Nat.{mul-assoc, mul-comm, one-mul, add-mul, mul-pos, mul-le-mul-right, le-trans, le-of-eq, div-mul-le-self, lt-div-mul-add, le-div-iff-mul-le}
+use native.Mathlib.Nat.{mul-assoc, mul-comm, one-mul, add-mul, mul-pos, mul-le-mul-right, le-trans}
+use native.Mathlib.Nat.{le-of-eq, div-mul-le-self, lt-div-mul-add, le-div-iff-mul-le}
 use native.Mathlib.Omega.{arith}
 use lib.Dec.{T, leb, leb→le, nleb→lt}
 use lib.Pow.{pow-add, pow-pos}
@@ -42,7 +43,8 @@ module _ (a c : ℕ) (C : 0 < c) where
       go : (b : Bool) → (T b → size (n / c) ≤ 53) → (T (not b) → 53 < size (n / c)) → (u ≡ c) ⊎ (2 ^ 52 * u ≤ n)
       go true f g = inl (ap (λ (z : ℕ). 2 ^ z * c) (none (size (n / c)) (f tt)) ∙ one-mul c)
       go false f g =
-          inr (le-trans (le-of-eq (sym (mul-assoc (2 ^ 52) (2 ^ k) c) ∙ ap (λ (z : ℕ). z * c) (sym (pow-add 2 52 k)))) (le-div-iff-mul-le C .0 (size-reaches (n / c) (52 + k) (some (size (n / c)) (g tt)))))
+          inr (le-trans (le-of-eq (sym (mul-assoc (2 ^ 52) (2 ^ k) c) ∙ ap (λ (z : ℕ). z * c) (sym (pow-add 2 52 k))))
+          (le-div-iff-mul-le C .0 (size-reaches (n / c) (52 + k) (some (size (n / c)) (g tt)))))
 
   whole : q * (c * 2 ^ k) ≡ q * 2 ^ k * c
   whole = ap (λ (z : ℕ). q * z) (mul-comm c (2 ^ k)) ∙ sym (mul-assoc q (2 ^ k) c)
@@ -64,7 +66,8 @@ module _ (a c : ℕ) (C : 0 < c) where
       let a : G * c ≤ suc q * 2 ^ k * c = mul-le-mul-right c (mul-le-mul-right (2 ^ k) (nearest-le q (compare (n % (c * 2 ^ k) * 2) (c * 2 ^ k)))) in
       let b : q * (c * 2 ^ k) ≤ n = div-mul-le-self n (c * 2 ^ k) in
       let f : suc q ≡ q + 1 = next q in
-      let e : suc q * 2 ^ k * c ≡ q * 2 ^ k * c + u = ap (λ (z : ℕ). z * 2 ^ k * c) f ∙ ap (λ (z : ℕ). z * c) (add-mul q 1 (2 ^ k) ∙ ap (λ (z : ℕ). q * 2 ^ k + z) (one-mul (2 ^ k))) ∙ add-mul (q * 2 ^ k) (2 ^ k) c in
+      let e : suc q * 2 ^ k * c ≡ q * 2 ^ k * c + u = ap (λ (z : ℕ). z * 2 ^ k * c) f
+      ∙ ap (λ (z : ℕ). z * c) (add-mul q 1 (2 ^ k) ∙ ap (λ (z : ℕ). q * 2 ^ k + z) (one-mul (2 ^ k))) ∙ add-mul (q * 2 ^ k) (2 ^ k) c in
       go n (q * (c * 2 ^ k)) (q * 2 ^ k * c) (G * c) (suc q * 2 ^ k * c) u a b whole e
     where
       next : (q : ℕ) → suc q ≡ q + 1

@@ -94,9 +94,11 @@ eq-not-lt (inf s) (fin t n d) p q = no p
 eq-not-lt (fin s m e) nan p q = no p
 eq-not-lt (fin s m e) (inf t) p q = no p
 eq-not-lt (fin false m e) (fin false n d) p q =
-    lt-irrefl (m * up e * down d) (rw (← eqb-true (m * up e * down d) (n * up d * down e) (both-true _ _ p .0)) at (ltb-true (n * up d * down e) (m * up e * down d) q))
+    lt-irrefl (m * up e * down d)
+    (rw (← eqb-true (m * up e * down d) (n * up d * down e) (both-true _ _ p .0)) at (ltb-true (n * up d * down e) (m * up e * down d) q))
 eq-not-lt (fin true m e) (fin true n d) p q =
-    lt-irrefl (m * up e * down d) (rw (← eqb-true (m * up e * down d) (n * up d * down e) (both-true _ _ p .0)) at (ltb-true (m * up e * down d) (n * up d * down e) q))
+    lt-irrefl (m * up e * down d)
+    (rw (← eqb-true (m * up e * down d) (n * up d * down e) (both-true _ _ p .0)) at (ltb-true (m * up e * down d) (n * up d * down e) q))
 eq-not-lt (fin true m e) (fin false n d) p q = no q
 eq-not-lt (fin false m e) (fin true n d) p q =
     let b = both-true (eqb (m * up e * down d) (n * up d * down e)) (eqb (m * up e * down d) 0) p in

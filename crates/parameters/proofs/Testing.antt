@@ -23,9 +23,17 @@ use Rattle.parameters.specs.Inside.{levelsIn}
 level-read : (t : List Float) (xs ys : List Level) (x : Level) → length xs * 5 + 5 ≤ length t → levelIn (written (map fiveOf (xs ++ x ∷ ys)) t) (length xs) ≡ x
 level-read t xs ys x h =
     let z : length xs * 5 ≡ length xs * 5 + 0 = omega arith in
-    rw (written-at fiveOf (λ _. refl) xs ys x t 4 nan h (omega arith), written-at fiveOf (λ _. refl) xs ys x t 3 nan h (omega arith), written-at fiveOf (λ _. refl) xs ys x t 2 nan h (omega arith), written-at fiveOf (λ _. refl) xs ys x t 1 nan h (omega arith), z, written-at fiveOf (λ _. refl) xs ys x t 0 nan h (omega arith))
+    rw (
+      written-at fiveOf (λ _. refl) xs ys x t 4 nan h (omega arith),
+      written-at fiveOf (λ _. refl) xs ys x t 3 nan h (omega arith),
+      written-at fiveOf (λ _. refl) xs ys x t 2 nan h (omega arith),
+      written-at fiveOf (λ _. refl) xs ys x t 1 nan h (omega arith),
+      z,
+      written-at fiveOf (λ _. refl) xs ys x t 0 nan h (omega arith),
+    )
 
-levels-from : (t : List Float) (xs ys : List Level) → (length xs + length ys) * 5 ≤ length t → levelsIn (written (map fiveOf (xs ++ ys)) t) (length xs) (length ys) ≡ ys
+levels-from : (t : List Float) (xs ys : List Level) → (length xs + length ys) * 5 ≤ length t
+    → levelsIn (written (map fiveOf (xs ++ ys)) t) (length xs) (length ys) ≡ ys
 unfolding levelsIn
 levels-from t xs [] h = refl
 levels-from t xs (y ∷ ys) h =
@@ -45,10 +53,12 @@ module _ (test : Level → Bool) (t : List Float) where
   any-next m n h = let e : n - m ≡ suc (n - (m + 1)) = omega arith in rw e
 
   -- what is left to test tells what the whole does
-  pub any-holds : (m n : ℕ) → m < n → test (levelIn t m) ≡ true → anyOf test (levelsIn t m (n - m)) ≡ anyOf test (levelsIn t 0 n) → true ≡ anyOf test (levelsIn t 0 n)
+  pub any-holds : (m n : ℕ) → m < n → test (levelIn t m) ≡ true → anyOf test (levelsIn t m (n - m)) ≡ anyOf test (levelsIn t 0 n)
+      → true ≡ anyOf test (levelsIn t 0 n)
   any-holds m n h e g = sym (any-next m n h ∙ (rw e)) ∙ g
 
-  pub any-goes : (m n : ℕ) → m < n → test (levelIn t m) ≡ false → anyOf test (levelsIn t m (n - m)) ≡ anyOf test (levelsIn t 0 n) → anyOf test (levelsIn t (m + 1) (n - (m + 1))) ≡ anyOf test (levelsIn t 0 n)
+  pub any-goes : (m n : ℕ) → m < n → test (levelIn t m) ≡ false → anyOf test (levelsIn t m (n - m)) ≡ anyOf test (levelsIn t 0 n)
+      → anyOf test (levelsIn t (m + 1) (n - (m + 1))) ≡ anyOf test (levelsIn t 0 n)
   any-goes m n h e g = sym (any-next m n h ∙ (rw e)) ∙ g
 
   pub any-starts : (n : ℕ) → anyOf test (levelsIn t 0 (n - 0)) ≡ anyOf test (levelsIn t 0 n)

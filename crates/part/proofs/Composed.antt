@@ -52,7 +52,8 @@ module _ (floor r : Float) (starts members : List ℕ) (boxes : List Float) (mar
     after x p = p ∙ ap (λ (o : build.Outcome). askedAfter o mesh marks stamp s) e
 
     pub mesh-refused : (a : Answer) → (b .refusal ≡ 0 → ⊥) → a ≡ refusedBy (b .refusal) stamp
-        → (asked a ss es xs marks ≡ meshHeightOf mesh floor r starts members boxes marks stamp s) × (a .refusal ≡ 0 → MeetsDemand3 mesh ss es xs marks stamp s a)
+        → (asked a ss es xs marks ≡ meshHeightOf mesh floor r starts members boxes marks stamp s)
+        × (a .refusal ≡ 0 → MeetsDemand3 mesh ss es xs marks stamp s a)
     unfolding askedAfter
     mesh-refused a h p = (
       after _ (passed-by _ _ _ _ (ne-eqb (b .refusal) 0 h) (ap (λ (x : Answer). asked x ss es xs marks) p)),
@@ -70,7 +71,8 @@ module _ (floor r : Float) (starts members : List ℕ) (boxes : List Float) (mar
 
   -- ---- a file
   module _ (bytes : List ℕ) (mesh : List Float) (o : reader.Outcome) (e : o ≡ readOf bytes mesh) where
-    part-is : (x : Asked) → left (o .mesh) x ≡ leftAfter o floor r starts members boxes marks stamp s → left (o .mesh) x ≡ partHeightOf bytes mesh floor r starts members boxes marks stamp s
+    part-is : (x : Asked) → left (o .mesh) x ≡ leftAfter o floor r starts members boxes marks stamp s
+        → left (o .mesh) x ≡ partHeightOf bytes mesh floor r starts members boxes marks stamp s
     unfolding partHeightOf
     part-is x p = p ∙ ap (λ (u : reader.Outcome). leftAfter u floor r starts members boxes marks stamp s) e
 
@@ -79,7 +81,8 @@ module _ (floor r : Float) (starts members : List ℕ) (boxes : List Float) (mar
         × (a .refusal ≡ 0 → MeetsDemand3 (meshOf bytes) ss es xs marks stamp s a)
     unfolding leftAfter
     part-refused ss es xs a h p = (
-      part-is _ (ap (λ (x : Asked). left (o .mesh) x) (passed-by _ _ _ _ (ne-eqb (o .answer .refusal) 0 h) (ap (λ (x : Answer). asked x starts members boxes marks) p))),
+      part-is _ (ap (λ (x : Asked). left (o .mesh) x)
+          (passed-by _ _ _ _ (ne-eqb (o .answer .refusal) 0 h) (ap (λ (x : Answer). asked x starts members boxes marks) p))),
       λ z. absurd (h (sym (ap (λ (x : Answer). x .refusal) p) ∙ z)),
     )
 

@@ -47,4 +47,5 @@ module _ (bytes : List ℕ) where
   none-unknown t zero g = refl
   none-unknown t (suc c) g =
       let k : value (kindByte t) bytes ≤ 1 = rw add-zero at (g 0 (omega arith)) in
-      rw (le-ltb 1 (value (kindByte t) bytes) k) (none-unknown (t + 1) c (λ i h. let s : t + suc i ≡ t + 1 + i = omega arith in rw s at (g (suc i) (omega arith))))
+      rw (le-ltb 1 (value (kindByte t) bytes) k)
+      (none-unknown (t + 1) c (λ i h. let s : t + suc i ≡ t + 1 + i = omega arith in rw s at (g (suc i) (omega arith))))

@@ -38,7 +38,8 @@ use Rattle.search.specs.declared.Counted.{Counted}
 use Rattle.search.specs.Inside.{Searched}
 use Rattle.plan.specs.declared.Planned.{Planned}
 use Rattle.plan.specs.declared.Surveyed.{Surveyed}
-use Rattle.plan.specs.Plan.{refusalOfInput, refusalOfTables, levelsUnder, foundOn, Outcome, outcome, refusedBy, acceptedWith, wiped, workedOf, planOf, NeverSeven}
+use Rattle.plan.specs.Plan.{refusalOfInput, refusalOfTables, levelsUnder, foundOn, Outcome, outcome}
+use Rattle.plan.specs.Plan.{refusedBy, acceptedWith, wiped, workedOf, planOf, NeverSeven}
 use Rattle.plan.specs.Inside.{Ready, Surveys, Settled, settled, givenUp, settledOf, finishedOf}
 use Rattle.plan.proofs.Counting.{levels-few}
 use Rattle.plan.proofs.Surveying.{Taken, survey-taken}
@@ -57,7 +58,13 @@ module _ (ix : Index) (marks : List ℕ) (p : Parameters) where
       let w = whole-head ix u in
       let e : length (ix .mesh) ≡ length marks * 9 = eqb-true _ _ (m .1) in
       record {
-        askable = record { nine = w .nine; five = omega (arith, w .nine, eqb-true (length (ix .boxes)) (length (ix .mesh) / 9 * 5) (x .0)); few = w .ranged .few; walkable = whole-walkable ix u };
+        askable = record {
+          nine = w .nine;
+          five = omega (arith, w .nine, eqb-true (length (ix .boxes)) (length (ix .mesh) / 9 * 5) (x .0));
+          few =
+              w .ranged .few;
+          walkable = whole-walkable ix u;
+        };
         size = omega (arith, w .nine);
       }
 
@@ -188,7 +195,8 @@ module _ (ix : Index) (marks : List ℕ) (levels runs : List Float) (p : Paramet
   answer = workedOf ix marks levels runs p axis
 
   -- a late refusal, over tables that are as long as they were
-  late : (k : ℕ) → k ≡ refusal → (k ≡ 0 → ⊥) → (s : Settled) (t u : List Float) (m : List ℕ) → length t ≡ length levels → length u ≡ length runs → s ≡ givenUp k t u → m ≡ wiped marks →
+  late : (k : ℕ) → k ≡ refusal → (k ≡ 0 → ⊥) → (s : Settled) (t u : List Float) (m : List ℕ) → length t ≡ length levels → length u ≡ length runs
+      → s ≡ givenUp k t u → m ≡ wiped marks →
       outcome (s .answer) (s .levels) (s .runs) m ≡ answer
   unfolding workedOf
   late k e n s t u m a b g w =
@@ -198,10 +206,13 @@ module _ (ix : Index) (marks : List ℕ) (levels runs : List Float) (p : Paramet
       ∙ (rw (a, b, w)))
 
   -- where the tables are zero and the levels are written
-  module _ (t₀ u₀ t : List Float) (m : List ℕ) (s : Surveyed) (size : length marks ≡ ix .header .n) (zt : t₀ ≡ zeroed levels) (zu : u₀ ≡ zeroed runs) (v₀ : Surveys (levelsOf (ix .mesh) (ix .boxes) (length marks) (p .tolerance) (p .«level_tolerance») (ix .header .floor)) p axis (ix .header .r) t₀ marks t m s) where
+  module _ (t₀ u₀ t : List Float) (m : List ℕ) (s : Surveyed) (size : length marks ≡ ix .header .n) (zt : t₀ ≡ zeroed levels) (zu : u₀ ≡ zeroed runs)
+      (v₀ : Surveys (levelsOf (ix .mesh) (ix .boxes) (length marks) (p .tolerance) (p .«level_tolerance») (ix .header .floor)) p axis
+      (ix .header .r) t₀ marks t m s) where
     v : Surveys ls p axis (ix .header .r) t₀ marks t m s
     unfolding levelsUnder
-    v = subst (λ (n : ℕ). Surveys (levelsOf (ix .mesh) (ix .boxes) n (p .tolerance) (p .«level_tolerance») (ix .header .floor)) p axis (ix .header .r) t₀ marks t m s) size v₀
+    v = subst (λ (n : ℕ). Surveys (levelsOf (ix .mesh) (ix .boxes) n (p .tolerance) (p .«level_tolerance») (ix .header .floor)) p axis
+        (ix .header .r) t₀ marks t m s) size v₀
 
     levels-room : length t₀ ≡ length levels
     levels-room = ap length zt ∙ zeroed-length levels
@@ -225,10 +236,12 @@ module _ (ix : Index) (marks : List ℕ) (levels runs : List Float) (p : Paramet
       taken-levels = survey-taken t₀ ls p axis (ix .header .r) (sym (v .refusal) ∙ z)
 
       read : levelsIn t 0 (s .count) ≡ ls
-      read = ap (λ (x : List Float). levelsIn x 0 (s .count)) (v .table) ∙ ap (levelsIn (written (map levelFive ls) t₀) 0) (v .count) ∙ levels-read t₀ ls (taken-levels .room)
+      read = ap (λ (x : List Float). levelsIn x 0 (s .count)) (v .table) ∙ ap (levelsIn (written (map levelFive ls) t₀) 0) (v .count)
+          ∙ levels-read t₀ ls (taken-levels .room)
 
       -- what the search asks for
-      pub search-asks : Askable ix → Askable ix × Marked (ix .header .n) 0 m × (s .count * 5 ≤ length t) × (s .count ≤ 65536) × (anyOf (tooFine p axis (ix .header .r)) (levelsIn t 0 (s .count)) ≡ false)
+      pub search-asks : Askable ix → Askable ix × Marked (ix .header .n) 0 m × (s .count * 5 ≤ length t) × (s .count ≤ 65536)
+          × (anyOf (tooFine p axis (ix .header .r)) (levelsIn t 0 (s .count)) ≡ false)
       unfolding levelsUnder
       search-asks q = (
         q,
@@ -239,12 +252,14 @@ module _ (ix : Index) (marks : List ℕ) (levels runs : List Float) (p : Paramet
       )
 
       -- 13, or accepted
-      pub found-settled : (a : Settled) (m′ : List ℕ) → a ≡ finishedOf t u₀ (s .count) (foundOn ix p axis (levelsIn t 0 (s .count))) → m′ ≡ replicate (ix .header .n) 0 → outcome (a .answer) (a .levels) (a .runs) m′ ≡ answer
+      pub found-settled : (a : Settled) (m′ : List ℕ) → a ≡ finishedOf t u₀ (s .count) (foundOn ix p axis (levelsIn t 0 (s .count)))
+          → m′ ≡ replicate (ix .header .n) 0 → outcome (a .answer) (a .levels) (a .runs) m′ ≡ answer
       unfolding finishedOf refusalOfTables workedOf
       found-settled a m′ e w =
           ⊎-elim
           (λ (b : ltb (roomOf runs) (length joined) ≡ true).
-          late 13 (taken _ _ _ _ (eq-eqb _ 0 (sym tested ∙ z)) (refuse-here _ 13 0 13 b refl)) (λ d. omega arith) a t u₀ m′ table-room runs-room (e ∙ (rw (read, runs-room, b))) clean)
+          late 13 (taken _ _ _ _ (eq-eqb _ 0 (sym tested ∙ z)) (refuse-here _ 13 0 13 b refl)) (λ d. omega arith) a t u₀ m′ table-room runs-room (e
+          ∙ (rw (read, runs-room, b))) clean)
           (λ (b : ltb (roomOf runs) (length joined) ≡ false).
           taken _ _ _ _ (eq-eqb _ 0 (sym (taken _ _ _ _ (eq-eqb _ 0 (sym tested ∙ z)) (refuse-next _ 13 0 0 b refl))))
           (ap (λ (x : Settled). outcome (x .answer) (x .levels) (x .runs) m′) e ∙ (rw (read, runs-room, b, v .table, zt, zu, v .count, clean))))

@@ -34,7 +34,8 @@ pub levels-few : (mesh boxes : List Float) (n : ℕ) (tolerance levelTolerance f
 unfolding levelsOf levelsFrom sortedFlats
 levels-few mesh boxes n tolerance levelTolerance floor =
     let fs = flatsOf mesh tolerance (floor ⊕ levelTolerance) n in
-    let a = grouped-few (λ l i. joinsLevel levelTolerance l (triangleOf mesh i)) (λ l i. widenedBy l (boxAt boxes i)) (λ i. openedBy (triangleOf mesh i) (boxAt boxes i)) (sortedFlats mesh n tolerance levelTolerance floor) in
+    let a = grouped-few (λ l i. joinsLevel levelTolerance l (triangleOf mesh i)) (λ l i. widenedBy l (boxAt boxes i))
+    (λ i. openedBy (triangleOf mesh i) (boxAt boxes i)) (sortedFlats mesh n tolerance levelTolerance floor) in
     let s = sorted-length (before mesh) fs in
     let b = flats-few mesh tolerance (floor ⊕ levelTolerance) n in
     omega arith

@@ -71,26 +71,36 @@ module _ (ix : Index) (e : usableWhole ix ≡ true) (boxed : isBoxed (ix .mesh) 
   abbrev passes : ℕ → Bool
   passes = memberUsable (ix .mesh) (ix .boxes) (ix .header .n) (replicate (ix .header .n) 0) 0
 
-  parts : (headUsable (ix .mesh) (ix .header) (ix .starts) ≡ true) × ((every (triangleUsable (ix .mesh) (ix .boxes)) 0 (ix .header .n) && every (cellUsable low (ix .starts) (ix .members)) 0 (ix .header .rows * ix .header .columns)) ≡ true)
+  parts : (headUsable (ix .mesh) (ix .header) (ix .starts) ≡ true) × ((every (triangleUsable (ix .mesh) (ix .boxes)) 0 (ix .header .n) && every
+      (cellUsable low (ix .starts) (ix .members)) 0 (ix .header .rows * ix .header .columns)) ≡ true)
   unfolding usableWhole
-  parts = both-true (headUsable (ix .mesh) (ix .header) (ix .starts)) (every (triangleUsable (ix .mesh) (ix .boxes)) 0 (ix .header .n) && every (cellUsable low (ix .starts) (ix .members)) 0 (ix .header .rows * ix .header .columns)) e
+  parts = both-true (headUsable (ix .mesh) (ix .header) (ix .starts)) (every (triangleUsable (ix .mesh) (ix .boxes)) 0 (ix .header .n) && every
+      (cellUsable low (ix .starts) (ix .members)) 0 (ix .header .rows * ix .header .columns)) e
 
-  tables : (every (triangleUsable (ix .mesh) (ix .boxes)) 0 (ix .header .n) ≡ true) × (every (cellUsable low (ix .starts) (ix .members)) 0 (ix .header .rows * ix .header .columns) ≡ true)
-  tables = both-true (every (triangleUsable (ix .mesh) (ix .boxes)) 0 (ix .header .n)) (every (cellUsable low (ix .starts) (ix .members)) 0 (ix .header .rows * ix .header .columns)) (parts .1)
+  tables : (every (triangleUsable (ix .mesh) (ix .boxes)) 0 (ix .header .n) ≡ true)
+      × (every (cellUsable low (ix .starts) (ix .members)) 0 (ix .header .rows * ix .header .columns) ≡ true)
+  tables = both-true (every (triangleUsable (ix .mesh) (ix .boxes)) 0 (ix .header .n))
+      (every (cellUsable low (ix .starts) (ix .members)) 0 (ix .header .rows * ix .header .columns)) (parts .1)
 
   head : Headed (ix .mesh) (ix .header) (ix .starts)
   head = headed-is (ix .mesh) (ix .header) (ix .starts) (parts .0)
 
   member-passes : (i : ℕ) → low i ≡ true → passes i ≡ true
   unfolding memberUsable
-  member-passes i l = rw (l, every-at (triangleUsable (ix .mesh) (ix .boxes)) 0 (ix .header .n) i (tables .0) (omega arith) (omega (arith, ltb-true i (ix .header .n) l)), zero-marks (ix .header .n) i)
+  member-passes i l = rw (
+    l,
+    every-at (triangleUsable (ix .mesh) (ix .boxes)) 0 (ix .header .n) i (tables .0) (omega arith)
+        (omega (arith, ltb-true i (ix .header .n) l)),
+    zero-marks (ix .header .n) i,
+  )
 
   cell-passes : (c : ℕ) → c < ix .header .rows * ix .header .columns → cellUsable passes (ix .starts) (ix .members) c ≡ true
   unfolding cellUsable
   cell-passes c l =
       let a = leb (getD (ix .starts) c 0) (getD (ix .starts) (c + 1) 0) in
       let b = leb (getD (ix .starts) (c + 1) 0) (length (ix .members)) in
-      let u = both-true a (b && each low (cell (ix .starts) (ix .members) c)) (every-at (cellUsable low (ix .starts) (ix .members)) 0 (ix .header .rows * ix .header .columns) c (tables .1) (omega arith) (omega arith)) in
+      let u = both-true a (b && each low (cell (ix .starts) (ix .members) c))
+      (every-at (cellUsable low (ix .starts) (ix .members)) 0 (ix .header .rows * ix .header .columns) c (tables .1) (omega arith) (omega arith)) in
       let v = both-true b (each low (cell (ix .starts) (ix .members) c)) (u .1) in
       rw (u .0, v .0) (each-more-tests low passes member-passes (cell (ix .starts) (ix .members) c) (v .1))
 
@@ -115,11 +125,16 @@ module _ (ix : Index) (e : usableWhole ix ≡ true) (boxed : isBoxed (ix .mesh) 
       (skip (isCoordinate (ix .header .floor)) _
       (skip (isCoordinate (ix .header .«origin_y»)) _
       (skip (isCoordinate (ix .header .«origin_x»)) _
-      (skip (isFrom 1 65536 (ix .header .n)) _ (both-true (inRanges (ix .header)) (eqb (length (ix .mesh)) (ix .header .n * 9) && leb (ix .header .rows * ix .header .columns + 1) (length (ix .starts))) (parts .0) .0)))))))))
+      (skip (isFrom 1 65536 (ix .header .n)) _ (both-true (inRanges (ix .header))
+      (eqb (length (ix .mesh)) (ix .header .n * 9) && leb (ix .header .rows * ix .header .columns + 1) (length (ix .starts))) (parts .0) .0)))))))))
 
   pub marked : isMarked (ix .mesh) (replicate (ix .header .n) 0) ≡ true
   unfolding isMarked
-  marked = rw (length-replicate {A = ℕ} (ix .header .n) 0, le-leb (ix .header .n) 65536 (head .ranged .few), eq-eqb (length (ix .mesh)) (ix .header .n * 9) (head .nine))
+  marked = rw (
+    length-replicate {A = ℕ} (ix .header .n) 0,
+    le-leb (ix .header .n) 65536 (head .ranged .few),
+    eq-eqb (length (ix .mesh)) (ix .header .n * 9) (head .nine),
+  )
 
   -- ---- a run asked again
 
@@ -165,7 +180,8 @@ module _ (ix : Index) (e : usableWhole ix ≡ true) (boxed : isBoxed (ix .mesh) 
     each-clear : (ss : List Run) → EachKept Clear (halvesOfAll under p (ix .header .r) ss)
     unfolding halvesOfAll
     each-clear [] = unfold EachKept in tt
-    each-clear (s ∷ ss) = each-append Clear (halvesOf under p (ix .header .r) s) (halvesOfAll under p (ix .header .r) ss) (stretch-whole s .kept) (each-clear ss)
+    each-clear (s ∷ ss) = each-append Clear (halvesOf under p (ix .header .r) s) (halvesOfAll under p (ix .header .r) ss)
+        (stretch-whole s .kept) (each-clear ss)
 
     clear-safe : (q : Run) → Clear q × Pointed q → Safe ix (p .tolerance) q
     unfolding clearAt

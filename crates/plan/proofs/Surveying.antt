@@ -37,7 +37,8 @@ module _ (t : List Float) (ls : List Level) (p : Parameters) (axis : Axis) (r : 
       (on-or-off (ltb (roomOf t) (length ls))))
 
   -- the levels found, the marks wiped, and the tests made
-  pub surveyed : (t′ : List Float) (m₀ m m′ : List ℕ) (count k : ℕ) → t′ ≡ table → count ≡ length ls → length m ≡ length m₀ → m′ ≡ replicate (length m) 0 → k ≡ refusalOfCount t′ count p axis r → Surveys ls p axis r t m₀ t′ m′ (record { count = count; refusal = k })
+  pub surveyed : (t′ : List Float) (m₀ m m′ : List ℕ) (count k : ℕ) → t′ ≡ table → count ≡ length ls → length m ≡ length m₀ → m′ ≡ replicate (length m) 0
+      → k ≡ refusalOfCount t′ count p axis r → Surveys ls p axis r t m₀ t′ m′ (record { count = count; refusal = k })
   surveyed t′ m₀ m m′ count k a b l w e =
       record {
         table = a;

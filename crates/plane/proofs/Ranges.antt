@@ -51,8 +51,16 @@ coordinate-parts x c =
 
 wide : (ux lx dx uy ly dy : ℕ) → ux ≤ 1000000 * dx + lx → ly ≤ 1000000 * dy + uy → ux * dy + ly * dx ≤ 2000000 * (dx * dy) + (uy * dx + lx * dy)
 wide ux lx dx uy ly dy a b =
-    omega
-    (arith, mul-le-mul-right dy a, add-mul (1000000 * dx) lx dy, mul-assoc 1000000 dx dy, mul-le-mul-right dx b, add-mul (1000000 * dy) uy dx, mul-assoc 1000000 dy dx, mul-comm dy dx)
+    omega (
+      arith,
+      mul-le-mul-right dy a,
+      add-mul (1000000 * dx) lx dy,
+      mul-assoc 1000000 dx dy,
+      mul-le-mul-right dx b,
+      add-mul (1000000 * dy) uy dx,
+      mul-assoc 1000000 dy dx,
+      mul-comm dy dx,
+    )
 
 -- the difference of two coordinates
 module _ (x y : Float) (cx : Coordinate x) (cy : Coordinate y) where
@@ -62,13 +70,21 @@ module _ (x y : Float) (cx : Coordinate x) (cy : Coordinate y) where
   pub extent-high : T (le (x ⊖ y) two)
   extent-high =
       is-le binary64 _ _ _ _ _ _ _ _ (mul-pos (den-pos x) (den-pos y)) (omega arith)
-      (omega (arith, wide (upper x) (lower x) (den x) (upper y) (lower y) (den y) (coordinate-parts x cx .0) (coordinate-parts y cy .1), zero-mul (den x * den y)))
+      (omega (
+        arith,
+        wide (upper x) (lower x) (den x) (upper y) (lower y) (den y) (coordinate-parts x cx .0) (coordinate-parts y cy .1),
+        zero-mul (den x * den y),
+      ))
       difference two-is
 
   pub extent-low : T (le minus-two (x ⊖ y))
   extent-low =
       is-le binary64 _ _ _ _ _ _ _ _ (omega arith) (mul-pos (den-pos x) (den-pos y))
-      (omega (arith, wide (lower x) (upper x) (den x) (lower y) (upper y) (den y) (coordinate-parts x cx .1) (coordinate-parts y cy .0), zero-mul (den x * den y)))
+      (omega (
+        arith,
+        wide (lower x) (upper x) (den x) (lower y) (upper y) (den y) (coordinate-parts x cx .1) (coordinate-parts y cy .0),
+        zero-mul (den x * den y),
+      ))
       minus-two-is difference
 
   pub extent-finite : T (finite (x ⊖ y))
@@ -81,7 +97,8 @@ module _ (x y : Float) (cx : Coordinate x) (cy : Coordinate y) where
       zero-is difference
 
 -- ---- a coordinate by its test
-absolute : (x : Float) → T (finite (absOf x)) → T (le (absOf x) (fin false 15625 (pos 6))) → T (le (fin true 15625 (pos 6)) x) × T (le x (fin false 15625 (pos 6)))
+absolute : (x : Float) → T (finite (absOf x)) → T (le (absOf x) (fin false 15625 (pos 6)))
+    → T (le (fin true 15625 (pos 6)) x) × T (le x (fin false 15625 (pos 6)))
 unfolding absOf
 absolute nan p h = absurd p
 absolute (inf s) p h = absurd p
@@ -89,10 +106,17 @@ absolute (fin s m e) p h =
     let a = le→parts (fin false m e) (fin false 15625 (pos 6)) tt tt h in
     by-sign s a
   where
-    by-sign : (s : Bool) → upper (fin false m e) * den (fin false 15625 (pos 6)) + lower (fin false 15625 (pos 6)) * den (fin false m e) ≤ upper (fin false 15625 (pos 6)) * den (fin false m e) + lower (fin false m e) * den (fin false 15625 (pos 6))
+    by-sign : (s : Bool) → upper (fin false m e) * den (fin false 15625 (pos 6)) + lower (fin false 15625 (pos 6)) * den (fin false m e) ≤ upper
+        (fin false 15625 (pos 6)) * den (fin false m e) + lower (fin false m e) * den (fin false 15625 (pos 6))
         → T (le (fin true 15625 (pos 6)) (fin s m e)) × T (le (fin s m e) (fin false 15625 (pos 6)))
-    by-sign false a = (parts→le (fin true 15625 (pos 6)) (fin false m e) tt tt (omega (arith, zero-mul (down e))), parts→le (fin false m e) (fin false 15625 (pos 6)) tt tt a)
-    by-sign true a = (parts→le (fin true 15625 (pos 6)) (fin true m e) tt tt (omega (arith, a, zero-mul (down e))), parts→le (fin true m e) (fin false 15625 (pos 6)) tt tt (omega (arith, zero-mul (down e))))
+    by-sign false a = (
+      parts→le (fin true 15625 (pos 6)) (fin false m e) tt tt (omega (arith, zero-mul (down e))),
+      parts→le (fin false m e) (fin false 15625 (pos 6)) tt tt a,
+    )
+    by-sign true a = (
+      parts→le (fin true 15625 (pos 6)) (fin true m e) tt tt (omega (arith, a, zero-mul (down e))),
+      parts→le (fin true m e) (fin false 15625 (pos 6)) tt tt (omega (arith, zero-mul (down e))),
+    )
 
 pub absolute-finite : (x : Float) → T (le (absOf x) (fin false 15625 (pos 6))) → T (finite (absOf x))
 unfolding absOf le

@@ -38,9 +38,11 @@ unfolding absOf
 sides nan = unfold le in refl
 sides (inf true) = unfold le in refl
 sides (inf false) = unfold le in refl
-sides (fin false m k) = on-left (le (fin true 15625 (pos 6)) (fin false m k)) (le (fin false m k) (fin false 15625 (pos 6))) (is-true _ (le-apart (fin true 15625 (pos 6)) (fin false m k) tt tt))
+sides (fin false m k) = on-left (le (fin true 15625 (pos 6)) (fin false m k)) (le (fin false m k) (fin false 15625 (pos 6)))
+    (is-true _ (le-apart (fin true 15625 (pos 6)) (fin false m k) tt tt))
 sides (fin true m k) =
-    sym (off-right (le (fin true 15625 (pos 6)) (fin true m k)) (le (fin true m k) (fin false 15625 (pos 6))) (is-true _ (le-apart (fin true m k) (fin false 15625 (pos 6)) tt tt))) ∙ mirrored m k
+    sym (off-right (le (fin true 15625 (pos 6)) (fin true m k)) (le (fin true m k) (fin false 15625 (pos 6)))
+    (is-true _ (le-apart (fin true m k) (fin false 15625 (pos 6)) tt tt))) ∙ mirrored m k
 
 pub coordinate-sides : (x : Float) → (le minusMillion x && le x million) ≡ isCoordinate x
 unfolding isCoordinate

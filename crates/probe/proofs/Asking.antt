@@ -67,17 +67,23 @@ looked-same s m t k [] a = refl
 looked-same s m t k (i ∷ ms) a =
     by (eqb (getD m i 0) s) (eqb (getD k i 0) t) (a .same i) (looked-same s m t k ms a) (looked-same s (set m i s) t (set k i t) ms (alike-set s m t k i a))
   where
-    by : (b d : Bool) → b ≡ d → looked s m ms ≡ looked t k ms → looked s (set m i s) ms ≡ looked t (set k i t) ms → cond b (looked s m ms) (i ∷ looked s (set m i s) ms) ≡ cond d (looked t k ms) (i ∷ looked t (set k i t) ms)
+    by : (b d : Bool) → b ≡ d → looked s m ms ≡ looked t k ms → looked s (set m i s) ms ≡ looked t (set k i t) ms
+        → cond b (looked s m ms) (i ∷ looked s (set m i s) ms) ≡ cond d (looked t k ms) (i ∷ looked t (set k i t) ms)
     by b d e p q = rw (e, p, q)
 
 -- marks that are not above the stamp, made ready for the next walk, and wiped ones
-pub ready-alike : (n stamp : ℕ) (marks : List ℕ) → Marked n stamp marks → Alike (nextStamp stamp) (readyMarks marks stamp) (nextStamp 0) (readyMarks (replicate n 0) 0)
+pub ready-alike : (n stamp : ℕ) (marks : List ℕ) → Marked n stamp marks
+    → Alike (nextStamp stamp) (readyMarks marks stamp) (nextStamp 0) (readyMarks (replicate n 0) 0)
 unfolding nextStamp readyMarks
 ready-alike n stamp marks m =
     by (eqb stamp 4294967295) refl
   where
     by : (b : Bool) → eqb stamp 4294967295 ≡ b → Alike (cond b 1 (stamp + 1)) (cond b (replicate (length marks) 0) marks) (0 + 1) (replicate n 0)
-    by true e = record { size = rw (length-replicate {A = ℕ} (length marks) 0, length-replicate {A = ℕ} n 0) (m .size); same = λ i. rw (zeros (length marks) i, zeros n i) }
+    by true e = record {
+      size = rw (length-replicate {A = ℕ} (length marks) 0, length-replicate {A = ℕ} n 0) (m .size);
+      same =
+          λ i. rw (zeros (length marks) i, zeros n i);
+    }
     by false e =
         record {
           size = rw (length-replicate {A = ℕ} n 0) (m .size);
@@ -102,11 +108,13 @@ marked-below s n (i ∷ is) m l b =
     (λ (e : eqb j i ≡ false). rw (getD-set-other m i j s 0 (eqb-false j i e)) (b j))
     (on-or-off (eqb j i)))
 
-pub ready-below : (n stamp : ℕ) (marks : List ℕ) → Marked n stamp marks → (length (readyMarks marks stamp) ≡ n) × ((i : ℕ) → getD (readyMarks marks stamp) i 0 ≤ nextStamp stamp)
+pub ready-below : (n stamp : ℕ) (marks : List ℕ) → Marked n stamp marks
+    → (length (readyMarks marks stamp) ≡ n) × ((i : ℕ) → getD (readyMarks marks stamp) i 0 ≤ nextStamp stamp)
 unfolding nextStamp readyMarks
 ready-below n stamp marks m = by (eqb stamp 4294967295)
   where
-    by : (b : Bool) → (length (cond b (replicate (length marks) 0) marks) ≡ n) × ((i : ℕ) → getD (cond b (replicate (length marks) 0) marks) i 0 ≤ cond b 1 (stamp + 1))
+    by : (b : Bool) → (length (cond b (replicate (length marks) 0) marks) ≡ n)
+        × ((i : ℕ) → getD (cond b (replicate (length marks) 0) marks) i 0 ≤ cond b 1 (stamp + 1))
     by true = (length-replicate {A = ℕ} (length marks) 0 ∙ m .size, (λ i. rw (zeros (length marks) i) (omega arith)))
     by false = (m .size, (λ i. omega (arith, m .below i)))
 
@@ -129,14 +137,17 @@ module _ (ix : Index) (stamp : ℕ) (marks : List ℕ) (m : Marked (ix .header .
   pub swept-value : sweepWalk ix marks stamp under .value .height ≡ heightUnder ix r
   unfolding heightUnder sweepWalk capsuleWalk walked
   swept-value =
-      ap (λ (is : List ℕ). fold (diskStep (ix .mesh) (ix .boxes) (capsuleFor (ix .header) under)) (record { height = ix .header .floor; triangle = 0; kind = 0; which = 0 }) is .height) (looked-same _ _ _ _ _ (ready-alike (ix .header .n) stamp marks m))
+      ap (λ (is : List ℕ). fold (diskStep (ix .mesh) (ix .boxes) (capsuleFor (ix .header) under))
+      (record { height = ix .header .floor; triangle = 0; kind = 0; which = 0 }) is .height)
+      (looked-same _ _ _ _ _ (ready-alike (ix .header .n) stamp marks m))
 
   pub swept-marks : Marked (ix .header .n) (nextStamp stamp) (sweepWalk ix marks stamp under .marks)
   unfolding sweepWalk capsuleWalk walked
   swept-marks = let b = ready-below (ix .header .n) stamp marks m in marked-below (nextStamp stamp) (ix .header .n) _ (readyMarks marks stamp) (b .0) (b .1)
 
   -- one that may be left above a limit
-  module _ (limit : Float) (w : Walk Best) (h : Halted (capsuleRun ix marks stamp (capsuleFor (ix .header) under)) (within ix (patchFor (ix .header) under)) limit w) where
+  module _ (limit : Float) (w : Walk Best)
+      (h : Halted (capsuleRun ix marks stamp (capsuleFor (ix .header) under)) (within ix (patchFor (ix .header) under)) limit w) where
     abbrev step : Best → ℕ → Best
     step = diskStep (ix .mesh) (ix .boxes) (capsuleFor (ix .header) under)
 
@@ -146,7 +157,8 @@ module _ (ix : Index) (stamp : ℕ) (marks : List ℕ) (m : Marked (ix .header .
     front-value : w .value ≡ over (h .front)
     unfolding walked
     front-value =
-        ap (λ (u : Walk Best). u .value) (h .walk) ∙ ap (fold step (atFloor (ix .header .floor))) (looked-same _ _ _ _ (h .front) (ready-alike (ix .header .n) stamp marks m))
+        ap (λ (u : Walk Best). u .value) (h .walk)
+        ∙ ap (fold step (atFloor (ix .header .floor))) (looked-same _ _ _ _ (h .front) (ready-alike (ix .header .n) stamp marks m))
 
     whole-value : heightUnder ix r ≡ over (h .front ++ h .rest) .height
     unfolding heightUnder sweepWalk capsuleWalk walked
@@ -157,13 +169,16 @@ module _ (ix : Index) (stamp : ℕ) (marks : List ℕ) (m : Marked (ix .header .
         let seen : List ℕ = looked (nextStamp 0) (readyMarks (replicate (ix .header .n) 0) 0) (h .front) in
         let more : List ℕ = looked (nextStamp 0) (marked (nextStamp 0) (readyMarks (replicate (ix .header .n) 0) 0) seen) (h .rest) in
         let e : over (h .front ++ h .rest) ≡ fold step (over (h .front)) more =
-        ap (fold step (atFloor (ix .header .floor))) (looked-append (nextStamp 0) (h .front) (readyMarks (replicate (ix .header .n) 0) 0) (h .rest)) ∙ fold-append step seen more (atFloor (ix .header .floor)) in
-        ap (λ (v : Best). lt limit (v .height)) e ∙ stays-above (ix .mesh) (ix .boxes) (capsuleFor (ix .header) under) more (over (h .front)) limit (ap (λ (v : Best). lt limit (v .height)) (sym front-value) ∙ l)
+        ap (fold step (atFloor (ix .header .floor))) (looked-append (nextStamp 0) (h .front) (readyMarks (replicate (ix .header .n) 0) 0) (h .rest))
+        ∙ fold-append step seen more (atFloor (ix .header .floor)) in
+        ap (λ (v : Best). lt limit (v .height)) e ∙ stays-above (ix .mesh) (ix .boxes) (capsuleFor (ix .header) under) more (over (h .front)) limit
+        (ap (λ (v : Best). lt limit (v .height)) (sym front-value) ∙ l)
 
     pub halted-decides : Decides limit (heightUnder ix r) (w .value .height)
     halted-decides =
         ⊎-elim
-        (λ e. inl (ap (λ (v : Best). v .height) front-value ∙ sym (whole-value ∙ ap (λ (ms : List ℕ). over ms .height) (ap (λ (ms : List ℕ). h .front ++ ms) e ∙ append-nil (h .front)))))
+        (λ e. inl (ap (λ (v : Best). v .height) front-value
+        ∙ sym (whole-value ∙ ap (λ (ms : List ℕ). over ms .height) (ap (λ (ms : List ℕ). h .front ++ ms) e ∙ append-nil (h .front)))))
         (λ l. inr (l, ap (lt limit) whole-value ∙ above l))
         (h .why)
 
@@ -171,7 +186,8 @@ module _ (ix : Index) (stamp : ℕ) (marks : List ℕ) (m : Marked (ix .header .
     unfolding walked
     halted-marks =
         let b = ready-below (ix .header .n) stamp marks m in
-        subst (λ (u : Walk Best). Marked (ix .header .n) (nextStamp stamp) (u .marks)) (sym (h .walk)) (marked-below (nextStamp stamp) (ix .header .n) _ (readyMarks marks stamp) (b .0) (b .1))
+        subst (λ (u : Walk Best). Marked (ix .header .n) (nextStamp stamp) (u .marks)) (sym (h .walk))
+        (marked-below (nextStamp stamp) (ix .header .n) _ (readyMarks marks stamp) (b .0) (b .1))
 
 pub marked-is : (n s t : ℕ) (m k : List ℕ) → s ≡ t → m ≡ k → Marked n t k → Marked n s m
 marked-is n s t m k p q g = rw (p, q) g

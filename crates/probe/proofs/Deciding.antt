@@ -29,7 +29,8 @@ use Rattle.probe.specs.Inside.{Decides, BeyondLevel}
 not-under : (x y : Float) → lt y x ≡ true → le x y ≡ false
 not-under x y l = by-test (le x y) (λ e. absurd (le-not-lt x y e l)) (λ e. e)
 
-pub decided-run : (under : Run → Float) (a : Aim) (r : Run) (h : Float) → Decides (r .z ⊕ a .tolerance) (under r) h → le h (r .z ⊕ a .tolerance) ≡ clear under a r
+pub decided-run : (under : Run → Float) (a : Aim) (r : Run) (h : Float) → Decides (r .z ⊕ a .tolerance) (under r) h
+    → le h (r .z ⊕ a .tolerance) ≡ clear under a r
 unfolding clear
 decided-run under a r h d =
     let limit = r .z ⊕ a .tolerance in
@@ -37,7 +38,8 @@ decided-run under a r h d =
 
 -- ---- a sample
 pub decided-sample : (under : Run → Float) (a : Aim) (l : Lane) (k : ℕ) (limit h z : Float) (r : Run) → r ≡ between l k k
-    → BeyondLevel (a .level) (a .«level_tolerance») limit → Decides limit (under r) h → z ≡ absOf (h ⊖ a .level) → le z (a .«level_tolerance») ≡ onLevel under a l k
+    → BeyondLevel (a .level) (a .«level_tolerance») limit → Decides limit (under r) h → z ≡ absOf (h ⊖ a .level)
+    → le z (a .«level_tolerance») ≡ onLevel under a l k
 unfolding onLevel
 decided-sample under a l k limit h z r e b d q =
     let test : Float → Bool = λ x. le (absOf (x ⊖ a .level)) (a .«level_tolerance») in
@@ -85,11 +87,13 @@ far-off t d nan f p h = unfold lt le eq in refl
 far-off t d (inf s) f p h = infinite-not t d f p
 far-off t d (fin s m e) f p h =
     by-test (le (fin false m e) t)
-    (λ g. absurd (le-not-lt d t (is-true _ (le-trans d (fin false m e) t (le-trans d (fin s m e) (fin false m e) h (at-most-size s m e)) (subst T (sym g) tt))) p))
+    (λ g. absurd (le-not-lt d t
+    (is-true _ (le-trans d (fin false m e) t (le-trans d (fin s m e) (fin false m e) h (at-most-size s m e)) (subst T (sym g) tt))) p))
     (λ g. g)
 
 -- what is above l is farther from the level than l is
-beyond-at : (level t l v : Float) → T (finite level) → T (finite l) → T (finite (l ⊖ level)) → lt t (l ⊖ level) ≡ true → lt l v ≡ true → le (absOf (v ⊖ level)) t ≡ false
+beyond-at : (level t l v : Float) → T (finite level) → T (finite l) → T (finite (l ⊖ level)) → lt t (l ⊖ level) ≡ true → lt l v ≡ true
+    → le (absOf (v ⊖ level)) t ≡ false
 beyond-at nan t l v f g i p h = absurd f
 beyond-at (inf s) t l v f g i p h = absurd f
 beyond-at (fin s m e) t l nan f g i p h = unfold sub add neg absOf lt le eq in refl

@@ -60,7 +60,8 @@ module _ (stamp i : ℕ) where
   looked-none (x ∷ xs) marks e =
       by-test (eqb (getD marks x 0) stamp) (looked-none xs marks (omega arith)) (looked-none xs (set marks x stamp) (omega arith))
     where
-      by-test : (b : Bool) → times i (looked stamp marks xs) ≡ 0 → times i (looked stamp (set marks x stamp) xs) ≡ 0 → times i (cond b (looked stamp marks xs) (x ∷ looked stamp (set marks x stamp) xs)) ≡ 0
+      by-test : (b : Bool) → times i (looked stamp marks xs) ≡ 0 → times i (looked stamp (set marks x stamp) xs) ≡ 0
+          → times i (cond b (looked stamp marks xs) (x ∷ looked stamp (set marks x stamp) xs)) ≡ 0
       by-test true p q = p
       by-test false p q = omega arith
 
@@ -118,8 +119,8 @@ ready-fresh marks stamp i l h =
     (λ e. rw e (λ z. omega (arith, z, getD-replicate {A = ℕ} (length marks) i 0 0 l)))
     (λ e. rw e (λ z. omega (arith, z, h)))
 
--- ---- demand 3, first half, over any cover: a cell's stretch holds the triangles that cover it, and each member of the question's cells has a mark that is not above
--- the handed stamp
+-- ---- demand 3, first half, over any cover: a cell's stretch holds the triangles that cover it, and each member of the question's cells has a mark that is not
+-- above the handed stamp
 module _ (on : Cover) (n columns rows : ℕ) (starts members marks : List ℕ) (stamp : ℕ) (p : Patch)
     (is : (c : ℕ) → c < rows * columns → cell starts members c ≡ membersOf on n c)
     (passes : (x y k : ℕ) → p .x0 ≤ x → x < p .x1 → p .y0 ≤ y → y < p .y1 → k < length (cell starts members (y * columns + x))
@@ -169,7 +170,8 @@ module _ (on : Cover) (n columns rows : ℕ) (starts members marks : List ℕ) (
     not-marked : (i : ℕ) → 0 < times i numbers → (i < length marks) × (getD (readyMarks marks stamp) i 0 ≡ nextStamp stamp → ⊥)
     not-marked i t =
         let s = shares i t in
-        let k = place-of i (cell starts members (s .y * columns + s .x)) (omega (arith, rw (s .covers) at (in-cell i (s .x) (s .y) (s .column .1) (s .row .1) (s .triangle)))) in
+        let k = place-of i (cell starts members (s .y * columns + s .x))
+        (omega (arith, rw (s .covers) at (in-cell i (s .x) (s .y) (s .column .1) (s .row .1) (s .triangle)))) in
         let m = passes (s .x) (s .y) (k .at) (s .column .0) (s .column .1) (s .row .0) (s .row .1) (k .inside) .1 in
         let l : i < length marks = omega (arith, s .triangle, marked) in
         (l, ready-fresh marks stamp i l (rw (k .is) at m))
@@ -194,9 +196,11 @@ module _ (on : Cover) (n columns rows : ℕ) (starts members marks : List ℕ) (
         (λ e. shares i (positive (times i numbers) (eqb-false _ _ e)))
 
 -- ---- the same of an index
-module _ (ix : Index) (marks : List ℕ) (stamp : ℕ) (p : Patch) (d : SoundIndex ix) (u : usable ix marks stamp p ≡ true) (nine : length (ix .mesh) ≡ length marks * 9) (right : p .x1 ≤ ix .header .columns) (top : p .y1 ≤ ix .header .rows) where
+module _ (ix : Index) (marks : List ℕ) (stamp : ℕ) (p : Patch) (d : SoundIndex ix) (u : usable ix marks stamp p ≡ true)
+    (nine : length (ix .mesh) ≡ length marks * 9) (right : p .x1 ≤ ix .header .columns) (top : p .y1 ≤ ix .header .rows) where
   member : (x y k : ℕ) → p .x0 ≤ x → x < p .x1 → p .y0 ≤ y → y < p .y1 → k < length (cell (ix .starts) (ix .members) (y * ix .header .columns + x))
-      → (getD (cell (ix .starts) (ix .members) (y * ix .header .columns + x)) k 0 < ix .header .n) × (getD marks (getD (cell (ix .starts) (ix .members) (y * ix .header .columns + x)) k 0) 0 ≤ stamp)
+      → (getD (cell (ix .starts) (ix .members) (y * ix .header .columns + x)) k 0 < ix .header .n)
+      × (getD marks (getD (cell (ix .starts) (ix .members) (y * ix .header .columns + x)) k 0) 0 ≤ stamp)
   member x y k a b c e l = let m = usable-member ix marks stamp p u x y k a b c e l in (m .below, m .mark)
 
   as-many : ix .header .n ≤ length marks
@@ -204,14 +208,17 @@ module _ (ix : Index) (marks : List ℕ) (stamp : ℕ) (p : Patch) (d : SoundInd
 
   pub looks-once : LooksOnce ix p (lookedIn ix marks stamp p)
   unfolding lookedIn
-  looks-once = each-once (coversOf ix) (ix .header .n) (ix .header .columns) (ix .header .rows) (ix .starts) (ix .members) marks stamp p (d .cell) member as-many right top
+  looks-once = each-once (coversOf ix) (ix .header .n) (ix .header .columns) (ix .header .rows) (ix .starts) (ix .members) marks stamp p
+      (d .cell) member as-many right top
 
   pub looks-shared : (i : ℕ) → 0 < times i (lookedIn ix marks stamp p) → Shares ix p i
   unfolding lookedIn
-  looks-shared = once-shared (coversOf ix) (ix .header .n) (ix .header .columns) (ix .header .rows) (ix .starts) (ix .members) marks stamp p (d .cell) member as-many right top
+  looks-shared = once-shared (coversOf ix) (ix .header .n) (ix .header .columns) (ix .header .rows) (ix .starts) (ix .members) marks stamp p
+      (d .cell) member as-many right top
 
 -- what the test of a question found, and what it promises
-pub usable-told : (ix : Index) (marks : List ℕ) (stamp : ℕ) (p : Patch) (r : Bool) → r ≡ usable ix marks stamp p → length (ix .mesh) ≡ length marks * 9 → p .x1 ≤ ix .header .columns → p .y1 ≤ ix .header .rows → (r ≡ usable ix marks stamp p) × UsablePromise ix marks stamp p r
+pub usable-told : (ix : Index) (marks : List ℕ) (stamp : ℕ) (p : Patch) (r : Bool) → r ≡ usable ix marks stamp p → length (ix .mesh) ≡ length marks * 9
+    → p .x1 ≤ ix .header .columns → p .y1 ≤ ix .header .rows → (r ≡ usable ix marks stamp p) × UsablePromise ix marks stamp p r
 usable-told ix marks stamp p r e nine right top = (
   e,
   record {

@@ -1,4 +1,5 @@
--- Numbers whose squares have a sum of at most 9e11 are coordinates: what is farther out than 1e6 has a square of 1e12 or more, and a sum is not below its parts.
+-- Numbers whose squares have a sum of at most 9e11 are coordinates:
+-- what is farther out than 1e6 has a square of 1e12 or more, and a sum is not below its parts.
 use mathlib.Core.Bool.{Bool, true, false, not}
 use mathlib.Core.List.{List}
 use mathlib.Core.Path.{_≡_, refl, sym, subst}
@@ -104,8 +105,10 @@ sum-parts (fin false m e) (fin true n d) p q s t h = absurd q
 sum-parts (fin false m e) (fin false n d) p q s t h =
     let r = round binary64 false (m * up e * down d + n * up d * down e) (down e * down d) in
     let P = mul-pos (down-pos e) (down-pos d) in
-    let a : T (le (fin false m e) r) = subst (λ (z : Float). T (le z r)) (round-self false m e s) (round-mono binary64 (m * up e) (down e) _ _ (down-pos e) P (part-left (m * up e) (n * up d) (down e) (down d))) in
-    let b : T (le (fin false n d) r) = subst (λ (z : Float). T (le z r)) (round-self false n d t) (round-mono binary64 (n * up d) (down d) _ _ (down-pos d) P (part-right (m * up e) (n * up d) (down e) (down d))) in
+    let a : T (le (fin false m e) r) = subst (λ (z : Float). T (le z r)) (round-self false m e s)
+    (round-mono binary64 (m * up e) (down e) _ _ (down-pos e) P (part-left (m * up e) (n * up d) (down e) (down d))) in
+    let b : T (le (fin false n d) r) = subst (λ (z : Float). T (le z r)) (round-self false n d t)
+    (round-mono binary64 (n * up d) (down d) _ _ (down-pos d) P (part-right (m * up e) (n * up d) (down e) (down d))) in
     (under (fin false m e) r tt a h, under (fin false n d) r tt b h)
 
 -- ---- a small square is that of a coordinate
@@ -124,12 +127,14 @@ unfolding mul isCoordinate absOf
 square-coordinate nan h = absurd (unfold le in h)
 square-coordinate (inf true) h = absurd (unfold le in h)
 square-coordinate (inf false) h = absurd (unfold le in h)
-square-coordinate (fin s m e) h = rw million-is (by-lt (1000000 * down e) (m * up e) (λ k. absurd (over s k h)) (λ k. is-true _ (le-of-values (fin false m e) (fin false 15625 (pos 6)) (m * up e) (down e) 1000000 1 (down-pos e) (omega arith) (refl, refl) (refl, refl) (omega (arith, k)))))
+square-coordinate (fin s m e) h = rw million-is (by-lt (1000000 * down e) (m * up e) (λ k. absurd (over s k h)) (λ k. is-true _ (le-of-values (fin false m e)
+    (fin false 15625 (pos 6)) (m * up e) (down e) 1000000 1 (down-pos e) (omega arith) (refl, refl) (refl, refl) (omega (arith, k)))))
   where
     farther : 1000000 * down e < m * up e → T (le (round binary64 false (m * up e * (m * up e)) (down e * down e)) most) → ⊥
     farther k g =
         let r = round binary64 false (m * up e * (m * up e)) (down e * down e) in
-        let l : T (le far r) = subst (λ (z : Float). T (le z r)) far-is (round-mono binary64 1000000000000 1 _ _ (omega arith) (mul-pos (down-pos e) (down-pos e)) (beyond (m * up e) (down e) k)) in
+        let l : T (le far r) = subst (λ (z : Float). T (le z r)) far-is
+        (round-mono binary64 1000000000000 1 _ _ (omega arith) (mul-pos (down-pos e) (down-pos e)) (beyond (m * up e) (down e) k)) in
         not-under (under far r tt l g)
 
     over : (s : Bool) → 1000000 * down e < m * up e → T (le (fin s m e ⊗ fin s m e) most) → ⊥
@@ -188,7 +193,8 @@ module _ (a b c d e f g : Float) where
       record { first = r .0 .0; second = r .0 .1; third = r .1 .0; fourth = r .1 .1; fifth = s .0; sixth = s .1; last = square-coordinate g (p .1) }
 
 -- nine in a row
-every-nine : (test : ℕ → Bool) (k : ℕ) → test k ≡ true → test (k + 1) ≡ true → test (k + 2) ≡ true → test (k + 3) ≡ true → test (k + 4) ≡ true → test (k + 5) ≡ true → test (k + 6) ≡ true → test (k + 7) ≡ true → test (k + 8) ≡ true → true ≡ every test k 9
+every-nine : (test : ℕ → Bool) (k : ℕ) → test k ≡ true → test (k + 1) ≡ true → test (k + 2) ≡ true → test (k + 3) ≡ true → test (k + 4) ≡ true
+    → test (k + 5) ≡ true → test (k + 6) ≡ true → test (k + 7) ≡ true → test (k + 8) ≡ true → true ≡ every test k 9
 unfolding every
 every-nine test k t0 t1 t2 t3 t4 t5 t6 t7 t8 =
     let e2 : k + 1 + 1 ≡ k + 2 = omega arith in
@@ -202,16 +208,21 @@ every-nine test k t0 t1 t2 t3 t4 t5 t6 t7 t8 =
 
 -- a triangle and its box: both sums are parts of one that is small
 pub near-usable : (mesh boxes : List Float) (i : ℕ) (e o : Float)
-    → e ≡ sevenSquares (num mesh (9 * i)) (num mesh (9 * i + 2)) (num mesh (9 * i + 4)) (num mesh (9 * i + 6)) (num boxes (5 * i)) (num boxes (5 * i + 2)) (num mesh (9 * i + 8))
-    → o ≡ sevenSquares (num mesh (9 * i + 1)) (num mesh (9 * i + 3)) (num mesh (9 * i + 5)) (num mesh (9 * i + 7)) (num boxes (5 * i + 1)) (num boxes (5 * i + 3)) (num boxes (5 * i + 4))
+    → e ≡ sevenSquares (num mesh (9 * i)) (num mesh (9 * i + 2)) (num mesh (9 * i + 4)) (num mesh (9 * i + 6)) (num boxes (5 * i))
+    (num boxes (5 * i + 2)) (num mesh (9 * i + 8))
+    → o ≡ sevenSquares (num mesh (9 * i + 1)) (num mesh (9 * i + 3)) (num mesh (9 * i + 5)) (num mesh (9 * i + 7)) (num boxes (5 * i + 1))
+    (num boxes (5 * i + 3)) (num boxes (5 * i + 4))
     → le (e ⊕ o) near ≡ true → true ≡ triangleUsable mesh boxes i
 unfolding triangleUsable cornersUsable boxUsable areCoordinates boxAt
 near-usable mesh boxes i e o p q t =
     let k = 9 * i in
     let j = 5 * i in
     let h : T (le (sevenSquares _ _ _ _ _ _ _ ⊕ sevenSquares _ _ _ _ _ _ _) most) = rw near-is at (subst T (sym (rw (p, q) at t)) tt) in
-    let s = sum-parts (sevenSquares _ _ _ _ _ _ _) (sevenSquares _ _ _ _ _ _ _) (seven-up _ _ _ _ _ _ _) (seven-up _ _ _ _ _ _ _) (seven-fits _ _ _ _ _ _ _) (seven-fits _ _ _ _ _ _ _) h in
+    let s = sum-parts (sevenSquares _ _ _ _ _ _ _) (sevenSquares _ _ _ _ _ _ _) (seven-up _ _ _ _ _ _ _) (seven-up _ _ _ _ _ _ _) (seven-fits _ _ _ _ _ _ _)
+    (seven-fits _ _ _ _ _ _ _) h in
     let u = seven (num mesh k) (num mesh (k + 2)) (num mesh (k + 4)) (num mesh (k + 6)) (num boxes j) (num boxes (j + 2)) (num mesh (k + 8)) (s .0) in
-    let v = seven (num mesh (k + 1)) (num mesh (k + 3)) (num mesh (k + 5)) (num mesh (k + 7)) (num boxes (j + 1)) (num boxes (j + 3)) (num boxes (j + 4)) (s .1) in
-    let c = every-nine (λ m. isCoordinate (num mesh m)) k (u .first) (v .first) (u .second) (v .second) (u .third) (v .third) (u .fourth) (v .fourth) (u .last) in
+    let v = seven (num mesh (k + 1)) (num mesh (k + 3)) (num mesh (k + 5)) (num mesh (k + 7)) (num boxes (j + 1)) (num boxes (j + 3))
+    (num boxes (j + 4)) (s .1) in
+    let c = every-nine (λ m. isCoordinate (num mesh m)) k (u .first) (v .first) (u .second) (v .second) (u .third) (v .third)
+    (u .fourth) (v .fourth) (u .last) in
     rw (← c, u .fifth, v .fifth, u .sixth, v .sixth, v .last) refl

@@ -61,7 +61,8 @@ module _ (ix : Index) (d : SoundIndex ix) where
       rw (every-all (λ k. isCoordinate (num (ix .mesh) k)) (9 * i) 9 (λ k a b. d .numbers k (omega (arith, d .nine))), d .boxed i l, box-good i l)
 
   -- every cell of the grid, for a test that each triangle passes
-  pub sound-cell : (test : ℕ → Bool) → ((i : ℕ) → i < ix .header .n → test i ≡ true) → (c : ℕ) → c < ix .header .rows * ix .header .columns → cellUsable test (ix .starts) (ix .members) c ≡ true
+  pub sound-cell : (test : ℕ → Bool) → ((i : ℕ) → i < ix .header .n → test i ≡ true) → (c : ℕ) → c < ix .header .rows * ix .header .columns
+      → cellUsable test (ix .starts) (ix .members) c ≡ true
   sound-cell test f c h = cell-stands test (ix .starts) (ix .members) c (d .rise c h) (d .within c h) (λ k l. f _ (d .below c k h l))
 
   -- a question whose marks are not above the stamp
@@ -78,4 +79,7 @@ module _ (ix : Index) (d : SoundIndex ix) where
 
     pub sound-marked : isMarked (ix .mesh) marks ≡ true
     unfolding isMarked
-    sound-marked = rw (le-leb (length marks) 65536 (omega (arith, in-ranges-is (ix .header) (d .ranges) .few)), eq-eqb (length (ix .mesh)) (length marks * 9) (omega (arith, d .nine)))
+    sound-marked = rw (
+      le-leb (length marks) 65536 (omega (arith, in-ranges-is (ix .header) (d .ranges) .few)),
+      eq-eqb (length (ix .mesh)) (length marks * 9) (omega (arith, d .nine)),
+    )

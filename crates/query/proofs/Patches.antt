@@ -19,10 +19,12 @@ module _ (count first : ℕ) (lo hi : Float) (f : first ≡ truncated lo) (right
   unfolding heldTo
   held-none h = left _ _ _ _ right (taken _ _ _ _ (rw f at (le-leb count first h)) refl)
 
-  pub held-some : (last past : ℕ) → last ≡ truncated hi → past ≡ min (last + 1) count → first < count → record { first = first; past = past } ≡ heldTo count lo hi
+  pub held-some : (last past : ℕ) → last ≡ truncated hi → past ≡ min (last + 1) count → first < count
+      → record { first = first; past = past } ≡ heldTo count lo hi
   unfolding heldTo
   held-some last past l p h =
-      left _ _ _ _ right (left _ _ _ _ (rw f at (lt-leb count first h)) (ap (λ (n : ℕ). record { first = n; past = past }) f ∙ ap (λ (n : ℕ). record { first = truncated lo; past = n }) (p ∙ ap (λ (n : ℕ). min (n + 1) count) l)))
+      left _ _ _ _ right (left _ _ _ _ (rw f at (lt-leb count first h)) (ap (λ (n : ℕ). record { first = n; past = past }) f
+      ∙ ap (λ (n : ℕ). record { first = truncated lo; past = n }) (p ∙ ap (λ (n : ℕ). min (n + 1) count) l)))
 
 -- the cells are in the grid
 held-inside : (count : ℕ) (lo hi : Float) → heldTo count lo hi .past ≤ count

@@ -36,7 +36,8 @@ cell-stands test starts members c a b f = rw (le-leb _ _ a, le-leb _ _ b, each-a
 
 -- ---- all of a question's cells
 module _ (test : ℕ → Bool) (starts members : List ℕ) (columns : ℕ) (p : Patch) where
-  pub cells-pass : (rows : ℕ) → ((c : ℕ) → c < rows * columns → cellUsable test starts members c ≡ true) → p .x1 ≤ columns → p .y1 ≤ rows → cellsUsable test starts members columns p ≡ true
+  pub cells-pass : (rows : ℕ) → ((c : ℕ) → c < rows * columns → cellUsable test starts members c ≡ true) → p .x1 ≤ columns → p .y1 ≤ rows
+      → cellsUsable test starts members columns p ≡ true
   unfolding cellsUsable rowUsable
   cells-pass rows f right top =
       every-all (rowUsable test starts members columns (p .x0) (p .x1)) (p .y0) (p .y1 - p .y0)
@@ -53,7 +54,8 @@ module _ (test : ℕ → Bool) (starts members : List ℕ) (columns : ℕ) (p : 
         (every-at (rowUsable test starts members columns (p .x0) (p .x1)) (p .y0) (p .y1 - p .y0) y e c (omega arith)) a (omega arith))
 
     -- each member of each of them
-    pub usable-each : (x y k : ℕ) → p .x0 ≤ x → x < p .x1 → p .y0 ≤ y → y < p .y1 → k < length (cell starts members (y * columns + x)) → test (getD (cell starts members (y * columns + x)) k 0) ≡ true
+    pub usable-each : (x y k : ℕ) → p .x0 ≤ x → x < p .x1 → p .y0 ≤ y → y < p .y1 → k < length (cell starts members (y * columns + x))
+        → test (getD (cell starts members (y * columns + x)) k 0) ≡ true
     usable-each x y k a b c d l = usable-cell x y a b c d .each-one k l
 
     pub walkable-cells : (n rows : ℕ) → ((i : ℕ) → test i ≡ true → i < n) → rows * columns + 1 ≤ length starts → p .x1 ≤ columns → p .y1 ≤ rows

@@ -34,13 +34,19 @@ pub record Member (mesh boxes : List Float) (n : ℕ) (marks : List ℕ) (stamp 
   pub numbers : (k : ℕ) → 9 * i ≤ k → k < 9 * i + 9 → isCoordinate (num mesh k) ≡ true
   pub mark : getD marks i 0 ≤ stamp
 
-member-is : (mesh boxes : List Float) (n : ℕ) (marks : List ℕ) (stamp i : ℕ) → memberUsable mesh boxes n marks stamp i ≡ true → Member mesh boxes n marks stamp i
+member-is : (mesh boxes : List Float) (n : ℕ) (marks : List ℕ) (stamp i : ℕ) → memberUsable mesh boxes n marks stamp i ≡ true
+    → Member mesh boxes n marks stamp i
 unfolding memberUsable triangleUsable cornersUsable
 member-is mesh boxes n marks stamp i e =
     let a = both-true (ltb i n) (triangleUsable mesh boxes i && leb (getD marks i 0) stamp) e in
     let b = both-true (triangleUsable mesh boxes i) (leb (getD marks i 0) stamp) (a .1) in
     let c = both-true (cornersUsable mesh i) (boxUsable (boxAt boxes i)) (b .0) in
-    record { below = ltb-true i n (a .0); numbers = λ k. every-at (λ m. isCoordinate (num mesh m)) (9 * i) 9 k (c .0); mark = leb-true (getD marks i 0) stamp (b .1) }
+    record {
+      below = ltb-true i n (a .0);
+      numbers = λ k. every-at (λ m. isCoordinate (num mesh m)) (9 * i) 9 k (c .0);
+      mark =
+          leb-true (getD marks i 0) stamp (b .1);
+    }
 
 module _ (ix : Index) (marks : List ℕ) (stamp : ℕ) (p : Patch) (e : usable ix marks stamp p ≡ true) where
   abbrev test : ℕ → Bool
@@ -54,11 +60,14 @@ module _ (ix : Index) (marks : List ℕ) (stamp : ℕ) (p : Patch) (e : usable i
   usable-head = headed-is (ix .mesh) (ix .header) (ix .starts) (parts .0)
 
   -- each member of each of the question's cells
-  pub usable-member : (x y k : ℕ) → p .x0 ≤ x → x < p .x1 → p .y0 ≤ y → y < p .y1 → k < length (cell (ix .starts) (ix .members) (y * ix .header .columns + x)) → Member (ix .mesh) (ix .boxes) (ix .header .n) marks stamp (getD (cell (ix .starts) (ix .members) (y * ix .header .columns + x)) k 0)
+  pub usable-member : (x y k : ℕ) → p .x0 ≤ x → x < p .x1 → p .y0 ≤ y → y < p .y1 → k < length (cell (ix .starts) (ix .members) (y * ix .header .columns + x))
+      → Member (ix .mesh) (ix .boxes) (ix .header .n) marks stamp (getD (cell (ix .starts) (ix .members) (y * ix .header .columns + x)) k 0)
   usable-member x y k a b c d l =
-      member-is (ix .mesh) (ix .boxes) (ix .header .n) marks stamp _ (usable-each test (ix .starts) (ix .members) (ix .header .columns) p (parts .1) x y k a b c d l)
+      member-is (ix .mesh) (ix .boxes) (ix .header .n) marks stamp _
+      (usable-each test (ix .starts) (ix .members) (ix .header .columns) p (parts .1) x y k a b c d l)
 
-  pub walkable : p .x1 ≤ ix .header .columns → p .y1 ≤ ix .header .rows → Walkable (ix .starts) (ix .members) (ix .header .n) (ix .header .columns) (p .x0) (p .x1) (p .y0) (p .y1)
+  pub walkable : p .x1 ≤ ix .header .columns → p .y1 ≤ ix .header .rows
+      → Walkable (ix .starts) (ix .members) (ix .header .n) (ix .header .columns) (p .x0) (p .x1) (p .y0) (p .y1)
   walkable =
       walkable-cells test (ix .starts) (ix .members) (ix .header .columns) p (parts .1) (ix .header .n) (ix .header .rows)
       (λ i t. member-is (ix .mesh) (ix .boxes) (ix .header .n) marks stamp i t .below) (usable-head .room)

@@ -25,7 +25,8 @@ use Rattle.grid.specs.Grid.{trianglesIn, gridOf, cellsIn, cellsOf, coverOf}
 use Rattle.grid.specs.Header.{headerOf}
 use Rattle.grid.specs.Boxes.{isBoxed, boxesOf}
 use Rattle.grid.proofs.Boxing.{boxes-at}
-use Rattle.grid.specs.Build.{isNowhere, toldWith, refusalOfNumbers, refusalOfMesh, refusalOfGrid, refusalOfMembers, Outcome, outcome, refusedBy, acceptedWith, unless, filledOf, gridded, buildOf}
+use Rattle.grid.specs.Build.{isNowhere, toldWith, refusalOfNumbers, refusalOfMesh, refusalOfGrid, refusalOfMembers}
+use Rattle.grid.specs.Build.{Outcome, outcome, refusedBy, acceptedWith, unless, filledOf, gridded, buildOf}
 use Rattle.grid.specs.Index.{indexOf, BuiltFrom}
 use Rattle.raise.specs.Raise.{lifted, topped, toppedOf, raisedHeader, refusalOfIndex, refusalOf, Raised, left, raiseOf, RaisePromise}
 use Rattle.raise.proofs.Lifting.{lifted-length, lifted-flat}
@@ -75,7 +76,14 @@ module _ (a : Float) (mesh : List Float) where
   unfolding boxOf boundsOf triangleOf topOf
   box-flat i =
       let f = lifted-flat a mesh in
-      rw (f (9 * i) (λ e. omega arith), f (9 * i + 1) (λ e. omega arith), f (9 * i + 3) (λ e. omega arith), f (9 * i + 4) (λ e. omega arith), f (9 * i + 6) (λ e. omega arith), f (9 * i + 7) (λ e. omega arith)) refl
+      rw (
+        f (9 * i) (λ e. omega arith),
+        f (9 * i + 1) (λ e. omega arith),
+        f (9 * i + 3) (λ e. omega arith),
+        f (9 * i + 4) (λ e. omega arith),
+        f (9 * i + 6) (λ e. omega arith),
+        f (9 * i + 7) (λ e. omega arith),
+      ) refl
 
   extent-flat : (n : ℕ) → extentOf up n ≡ extentOf mesh n
   unfolding extentOf widened
@@ -160,10 +168,12 @@ module _ (a : Float) (mesh : List Float) (floor r : Float) (s m : List ℕ) (x :
   abbrev filledWith : Cover → Outcome
   filledWith on =
       unless (refusalOfMembers (startOf on n (cellsIn g)) (length m)) 0 s m x
-      (outcome (acceptedWith (headerOf (lifted a mesh) n g floor r)) (startsOf on n (cellsIn g) s) (membersTable on n (cellsIn g) m) (boxesOf (lifted a mesh) n))
+      (outcome (acceptedWith (headerOf (lifted a mesh) n g floor r)) (startsOf on n (cellsIn g) s) (membersTable on n (cellsIn g) m)
+      (boxesOf (lifted a mesh) n))
 
   filled-is : filledOf (lifted a mesh) n g floor r s m x
-      ≡ outcome (acceptedWith (headerOf (lifted a mesh) n g floor r)) (startsOf cover n (cellsIn g) s) (membersTable cover n (cellsIn g) m) (boxesOf (lifted a mesh) n)
+      ≡ outcome (acceptedWith (headerOf (lifted a mesh) n g floor r)) (startsOf cover n (cellsIn g) s) (membersTable cover n (cellsIn g) m)
+      (boxesOf (lifted a mesh) n)
   unfolding filledOf
   filled-is = ap filledWith (cover-flat a mesh g) ∙ goes _ 0 s m x _ (third .0)
 
@@ -174,13 +184,15 @@ module _ (a : Float) (mesh : List Float) (floor r : Float) (s m : List ℕ) (x :
   same : trianglesIn (lifted a mesh) ≡ n
   same = ap (λ (k : ℕ). k / 9) (lifted-length a mesh)
 
-  pub built-afresh : buildOf (lifted a mesh) floor r s m x ≡ outcome (acceptedWith (raisedHeader (lifted a mesh) h)) starts members (toppedOf (lifted a mesh) boxes (h .n))
+  pub built-afresh : buildOf (lifted a mesh) floor r s m x ≡ outcome (acceptedWith (raisedHeader (lifted a mesh) h)) starts members
+      (toppedOf (lifted a mesh) boxes (h .n))
   unfolding buildOf
   built-afresh =
       goes _ _ s m x _ mesh-passes
       ∙ ap₂ (λ (k : ℕ) (q : Grid). gridded (lifted a mesh) k q floor r s m x) same (ap (λ (k : ℕ). gridOf (lifted a mesh) k r) same ∙ grid-flat a mesh n r)
       ∙ gridded-is ∙ filled-is
-      ∙ ap₂ (λ (q : Header) (t : List Float). outcome (acceptedWith q) (startsOf cover n (cellsIn g) s) (membersTable cover n (cellsIn g) m) t) header-is boxes-are
+      ∙ ap₂ (λ (q : Header) (t : List Float). outcome (acceptedWith q) (startsOf cover n (cellsIn g) s)
+      (membersTable cover n (cellsIn g) m) t) header-is boxes-are
       ∙ ap₂ (λ (t u : List ℕ). outcome (acceptedWith (raisedHeader (lifted a mesh) h)) t u (toppedOf (lifted a mesh) boxes (h .n)))
       (ap (λ (o : Outcome). o .starts) (third .1)) (ap (λ (o : Outcome). o .members) (third .1))
 
@@ -189,7 +201,8 @@ module _ (mesh boxes : List Float) (h : Header) (a : Float) where
   abbrev refusal : ℕ
   refusal = refusalOf mesh boxes h a
 
-  pub raise-refused : (k p : ℕ) (b : Built) → k ≡ refusal → p ≡ toldWith k (lifted a mesh) → b ≡ refusedBy k p → (k ≡ 0 → ⊥) → left b mesh boxes ≡ raiseOf mesh boxes h a
+  pub raise-refused : (k p : ℕ) (b : Built) → k ≡ refusal → p ≡ toldWith k (lifted a mesh) → b ≡ refusedBy k p → (k ≡ 0 → ⊥)
+      → left b mesh boxes ≡ raiseOf mesh boxes h a
   unfolding raiseOf
   raise-refused k p b e t q z =
       passed-by _ _ _ _ (ne-eqb refusal 0 (λ y. z (e ∙ y)))
@@ -220,12 +233,21 @@ module _ (mesh boxes : List Float) (h : Header) (a : Float) where
         let up = ap (λ (u : Raised). u .mesh) (i .1) in
         let hd = ap (λ (u : Raised). u .answer .header) (i .1) in
         let bx = ap (λ (u : Raised). u .boxes) (i .1) in
-        rw (up, hd, bx) (built-afresh a mesh (x .floor) (x .r) (x .oldStarts) (x .oldMembers) (x .oldBoxes) h starts members boxes (x .built) (p .good) (p .high))
+        rw (up, hd, bx) (built-afresh a mesh (x .floor) (x .r) (x .oldStarts) (x .oldMembers) (x .oldBoxes) h starts members boxes
+        (x .built) (p .good) (p .high))
 
     pub raise-promise : RaisePromise mesh boxes h mesh′ boxes′ b
     raise-promise =
         record {
           afresh = afresh;
           still = λ starts members x z.
-              record { floor = x .floor; r = x .r; oldStarts = x .oldStarts; oldMembers = x .oldMembers; oldBoxes = x .oldBoxes; built = afresh starts members x z };
+              record {
+                floor = x .floor;
+                r = x .r;
+                oldStarts = x .oldStarts;
+                oldMembers = x .oldMembers;
+                oldBoxes = x .oldBoxes;
+                built =
+                    afresh starts members x z;
+              };
         }

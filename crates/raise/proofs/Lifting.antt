@@ -48,7 +48,8 @@ module _ (a : Float) (mesh : List Float) where
     unfolding badFrom liftedFrom
     high-finds l e = (rw (drop-cons mesh k nan l, e) refl) ∙ h
 
-    pub high-goes : k < length mesh → isCoordinate (liftedAt a k (num mesh k)) ≡ true → badFrom (k + 1) (liftedFrom a (k + 1) (drop (k + 1) mesh)) ≡ firstBad (lifted a mesh)
+    pub high-goes : k < length mesh → isCoordinate (liftedAt a k (num mesh k)) ≡ true
+        → badFrom (k + 1) (liftedFrom a (k + 1) (drop (k + 1) mesh)) ≡ firstBad (lifted a mesh)
     unfolding badFrom liftedFrom
     high-goes l e = (rw (drop-cons mesh k nan l, e, add-one k) refl) ∙ h
 
@@ -73,14 +74,16 @@ lifting-reads a old k new l h =
     ap (λ (t : List Float). num t k) (l .table ∙ ap (λ (t : List Float). l .front ++ t) (drop-cons old k nan h))
     ∙ ap (num (l .front ++ (num old k ∷ drop (suc k) old))) z ∙ getD-append-add (l .front) (num old k ∷ drop (suc k) old) 0 nan
 
-pub lifting-goes : (a : Float) (old : List Float) (k : ℕ) (new : List Float) (v : Float) → Lifting a old k new → k < length old → v ≡ liftedAt a k (num old k) → Lifting a old (k + 1) (set new k v)
+pub lifting-goes : (a : Float) (old : List Float) (k : ℕ) (new : List Float) (v : Float) → Lifting a old k new → k < length old → v ≡ liftedAt a k (num old k)
+    → Lifting a old (k + 1) (set new k v)
 unfolding liftedFrom
 lifting-goes a old k new v l h e =
     let c = drop-cons old k nan h in
     record {
       front = l .front ++ v ∷ [];
       size = omega (arith, length-append (l .front) (v ∷ []), l .size);
-      table = ap (λ (t : List Float). set t k v) (l .table ∙ ap (λ (t : List Float). l .front ++ t) c) ∙ set-at (l .front) _ _ v k (l .size) ∙ sym (append-assoc (l .front) (v ∷ []) (drop (suc k) old)) ∙ (rw (add-one k));
+      table = ap (λ (t : List Float). set t k v) (l .table ∙ ap (λ (t : List Float). l .front ++ t) c) ∙ set-at (l .front) _ _ v k (l .size)
+          ∙ sym (append-assoc (l .front) (v ∷ []) (drop (suc k) old)) ∙ (rw (add-one k));
       whole = append-assoc (l .front) (v ∷ []) _ ∙ (rw (add-one k, e)) ∙ ap (λ (t : List Float). l .front ++ liftedFrom a k t) (sym c) ∙ l .whole;
     }
 

@@ -64,7 +64,8 @@ module _ (mesh : List Float) (n : ℕ) (g : Grid) where
   unfolding roomsIn
   grid-none k q p h e = rooms-none _ _ k q p h e
 
-  module _ (p : refusalOfGrid (g .columns) (g .rows) 1048577 ≡ 0) (z : Gridded mesh n g) (t k : ℕ) (a : t ≡ totalOf mesh g n) (b : k ≡ refusalOfMembers t 16777216) where
+  module _ (p : refusalOfGrid (g .columns) (g .rows) 1048577 ≡ 0) (z : Gridded mesh n g) (t k : ℕ) (a : t ≡ totalOf mesh g n)
+      (b : k ≡ refusalOfMembers t 16777216) where
     many : t ≡ startOf (coverOf mesh g) n (cellsIn g)
     many = a ∙ counted mesh g n z
 
@@ -85,7 +86,8 @@ module _ (mesh : List Float) (floor r : Float) where
   unfolding roomsOf
   refused-rooms k q p h e = rooms-none _ _ k q p h e
 
-  pub found-rooms : (g : Grid) (q : Rooms) → refusalOf mesh floor r ≡ 0 → g ≡ gridOf mesh (trianglesIn mesh) r → q ≡ roomsIn mesh (trianglesIn mesh) g → q ≡ roomsOf mesh floor r
+  pub found-rooms : (g : Grid) (q : Rooms) → refusalOf mesh floor r ≡ 0 → g ≡ gridOf mesh (trianglesIn mesh) r → q ≡ roomsIn mesh (trianglesIn mesh) g
+      → q ≡ roomsOf mesh floor r
   unfolding roomsOf
   found-rooms g q z p e = rooms-next _ _ q z (e ∙ ap (roomsIn mesh (trianglesIn mesh)) p)
 
@@ -108,12 +110,14 @@ module _ (columns rows lent : ℕ) where
   grid-passes : Passed columns rows 1048577 → rows * columns + 1 ≤ lent → refusalOfGrid columns rows lent ≡ 0
   unfolding refusalOfGrid
   grid-passes a h =
-      sym (refuse-next _ _ _ 0 (le-ltb _ _ (a .wide)) (refuse-next _ _ _ 0 (le-ltb _ _ (a .tall)) (refuse-next _ _ _ 0 (le-ltb _ _ (a .few)) (refuse-next _ _ _ 0 (le-ltb _ _ h) refl))))
+      sym (refuse-next _ _ _ 0 (le-ltb _ _ (a .wide))
+      (refuse-next _ _ _ 0 (le-ltb _ _ (a .tall)) (refuse-next _ _ _ 0 (le-ltb _ _ (a .few)) (refuse-next _ _ _ 0 (le-ltb _ _ h) refl))))
 
   grid-short : Passed columns rows 1048577 → lent < rows * columns + 1 → refusalOfGrid columns rows lent ≡ 5
   unfolding refusalOfGrid
   grid-short a h =
-      sym (refuse-next _ _ _ 5 (le-ltb _ _ (a .wide)) (refuse-next _ _ _ 5 (le-ltb _ _ (a .tall)) (refuse-next _ _ _ 5 (le-ltb _ _ (a .few)) (refuse-here _ _ _ 5 (lt-ltb _ _ h) refl))))
+      sym (refuse-next _ _ _ 5 (le-ltb _ _ (a .wide))
+      (refuse-next _ _ _ 5 (le-ltb _ _ (a .tall)) (refuse-next _ _ _ 5 (le-ltb _ _ (a .few)) (refuse-here _ _ _ 5 (lt-ltb _ _ h) refl))))
 
 module _ (k lent : ℕ) where
   members-pass : k ≤ 16777216 → k ≤ lent → refusalOfMembers k lent ≡ 0
@@ -188,7 +192,8 @@ module _ (mesh : List Float) (floor r : Float) where
         let c = told-zero _ _ s m x _ (b .1) in
         let p = passed _ _ _ (b .0) in
         let f : refusalOf mesh floor r ≡ 0 = sym (with-boxes mesh floor r x (eq-eqb _ _ (accepted _ _ _ _ (a .0) .five))) ∙ a .0 in
-        let g : refusalOfGrid (grid .columns) (grid .rows) 1048577 ≡ 0 = grid-passes _ _ 1048577 (record { wide = p .wide; tall = p .tall; few = p .few; room = omega (arith, p .few) }) (omega (arith, p .few)) in
+        let g : refusalOfGrid (grid .columns) (grid .rows) 1048577 ≡ 0 =
+        grid-passes _ _ 1048577 (record { wide = p .wide; tall = p .tall; few = p .few; room = omega (arith, p .few) }) (omega (arith, p .few)) in
         let h : refusalOfMembers count 16777216 ≡ 0 = members-pass count 16777216 (members-fit _ _ (c .0) .0) (members-fit _ _ (c .0) .0) in
         sym (ap (λ (q : Rooms). q .refusal) (rooms-next _ _ _ f (rooms-next _ _ _ g (rooms-next _ _ _ h refl))))
 
@@ -199,7 +204,8 @@ module _ (mesh : List Float) (floor r : Float) where
             let a = shown z in
             past-mesh s m x (a .plain) b ∙ past-grid s m x (grid-passes _ _ (length s) (a .cells) (omega (arith, a .starts)))
             ∙ past-members s m x (members-pass count (length m) (a .few) (omega (arith, a .members)));
-        fewerStarts = λ z s m x b h. let a = shown z in past-mesh s m x (a .plain) b ∙ at-grid s m x (grid-short _ _ (length s) (a .cells) (omega (arith, a .starts)));
+        fewerStarts = λ z s m x b h. let a = shown z in past-mesh s m x (a .plain) b
+            ∙ at-grid s m x (grid-short _ _ (length s) (a .cells) (omega (arith, a .starts)));
         fewerMembers = λ z s m x b h l.
             let a = shown z in
             past-mesh s m x (a .plain) b ∙ past-grid s m x (grid-passes _ _ (length s) (a .cells) (omega (arith, a .starts)))

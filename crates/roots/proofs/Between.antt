@@ -2,7 +2,8 @@
 use mathlib.Core.Path.{_≡_, refl, sym, ap, _∙_, subst}
 use mathlib.Core.Bool.{Bool, true, false, cond, false≢true}
 use Prim.Native.Nat.{ℕ, zero, suc, _+_, _-_, _*_, _/_, _%_, _^_, _≤_, _<_}
-use native.Mathlib.Nat.{lt-of-lt-of-le, le-add-right, mul-assoc, mul-right-comm, mul-div-cancel, le-of-suc-le-suc, eq-or-lt-of-le, zero-lt-suc, eq-of-mul-eq-mul-right}
+use native.Mathlib.Nat.{lt-of-lt-of-le, le-add-right, mul-assoc, mul-right-comm, mul-div-cancel}
+use native.Mathlib.Nat.{le-of-suc-le-suc, eq-or-lt-of-le, zero-lt-suc, eq-of-mul-eq-mul-right}
 use native.Mathlib.Omega.{arith}
 use mathlib.Core.Logic.{_⊎_, inl, inr}
 use lib.Dec.{T, leb, eqb, lit<}
@@ -30,7 +31,11 @@ pub record Normal (x : Float) : Type 0 where
 rescaled : (x : Float) (a b c d : ℕ) → 0 < c → 0 < d → a * d ≡ b * c → HasValue x false a c → HasValue x false b d
 rescaled nan a b c d C D e h = h
 rescaled (inf s) a b c d C D e h = h
-rescaled (fin s m z) a b c d C D e h = (h .0, eq-of-mul-eq-mul-right c C (m * up z * d) (b * down z) (mul-right-comm (m * up z) d c ∙ ap (λ (n : ℕ). n * d) (h .1) ∙ mul-right-comm a (down z) d ∙ ap (λ (n : ℕ). n * down z) e ∙ mul-right-comm b c (down z)))
+rescaled (fin s m z) a b c d C D e h = (
+  h .0,
+  eq-of-mul-eq-mul-right c C (m * up z * d) (b * down z) (mul-right-comm (m * up z) d c
+      ∙ ap (λ (n : ℕ). n * d) (h .1) ∙ mul-right-comm a (down z) d ∙ ap (λ (n : ℕ). n * down z) e ∙ mul-right-comm b c (down z)),
+)
 
 not-minus : (x : Float) (a c : ℕ) → T (positive x) → HasValue x true a c → ⊥
 not-minus nan a c p h = p
@@ -60,7 +65,8 @@ low-is (suc g) h p =
       high = subst (λ (n : ℕ). n < 2 ^ 53) w (s .high);
       small = half z;
       value = rescaled (ofFields binary64 false 0 f) f (f * 2 ^ (z - 11) * 2 ^ (52 + e)) (2 ^ 1074) (2 ^ 2148) (pow-pos 1074) (pow-pos 2148)
-          (sym (ap (λ (n : ℕ). n * 2 ^ 1074) (mul-assoc f (2 ^ (z - 11)) (2 ^ (52 + e)) ∙ ap (λ (n : ℕ). f * n) (sym (pow-add 2 (z - 11) (52 + e)) ∙ ap (λ (n : ℕ). 2 ^ n) (sum z (s .few)))) ∙ mul-assoc f (2 ^ 1074) (2 ^ 1074)))
+          (sym (ap (λ (n : ℕ). n * 2 ^ 1074) (mul-assoc f (2 ^ (z - 11)) (2 ^ (52 + e))
+          ∙ ap (λ (n : ℕ). f * n) (sym (pow-add 2 (z - 11) (52 + e)) ∙ ap (λ (n : ℕ). 2 ^ n) (sum z (s .few)))) ∙ mul-assoc f (2 ^ 1074) (2 ^ 1074)))
           (subnormal-value false f);
     }
   where
@@ -80,7 +86,8 @@ normal-is k f K h =
       high = high-lt f h;
       small = half k K;
       value = rescaled (ofFields binary64 false (suc k) f) (m * 2 ^ k) (m * 2 ^ (52 + (k + 1022))) (2 ^ 1074) (2 ^ 2148) (pow-pos 1074) (pow-pos 2148)
-          (mul-assoc m (2 ^ k) (2 ^ 2148) ∙ ap (λ (n : ℕ). m * n) (sym (pow-add 2 k 2148) ∙ ap (λ (n : ℕ). 2 ^ n) (sum k) ∙ pow-add 2 (52 + (k + 1022)) 1074) ∙ sym (mul-assoc m (2 ^ (52 + (k + 1022))) (2 ^ 1074)))
+          (mul-assoc m (2 ^ k) (2 ^ 2148) ∙ ap (λ (n : ℕ). m * n) (sym (pow-add 2 k 2148) ∙ ap (λ (n : ℕ). 2 ^ n) (sum k) ∙ pow-add 2 (52 + (k + 1022)) 1074)
+          ∙ sym (mul-assoc m (2 ^ (52 + (k + 1022))) (2 ^ 1074)))
           (normal-value false k f K);
     }
   where
@@ -129,8 +136,10 @@ middle n (suc r) z a =
     let v : t + 1 ≡ 2 * q = omega arith in
     let w : (t + 1) * (t + 1) ≡ 2 * q * (2 * q) = ap (λ (m : ℕ). m * m) v in
     let b = a .below in
-    let c = a .above in
-    (subst (λ (m : ℕ). m * m < 4 * n) (sym e) (lower n r (q * q) (t * t) ((t + 1) * (t + 1)) (2 * q * (2 * q)) u w x c), upper n q (q * q) (2 * q * (2 * q)) ((2 * q + 1) * (2 * q + 1)) b x y)
+    let c = a .above in (
+      subst (λ (m : ℕ). m * m < 4 * n) (sym e) (lower n r (q * q) (t * t) ((t + 1) * (t + 1)) (2 * q * (2 * q)) u w x c),
+      upper n q (q * q) (2 * q * (2 * q)) ((2 * q + 1) * (2 * q + 1)) b x y,
+    )
   where
     lower : (n r qq tt uu ww : ℕ) → uu ≡ tt + 2 * ((2 * r + 1) * 1) + 1 * 1 → uu ≡ ww → ww ≡ 4 * qq → qq < n + suc r → tt < 4 * n
     lower n r qq tt uu ww a b c d = omega arith

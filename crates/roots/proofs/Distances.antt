@@ -1,10 +1,11 @@
--- hypot as a distance: it is nearest by squares (`hypot-between`), grows with each magnitude (`hypot-mono`), is the magnitude itself beside a zero (`hypot-zero`), is not below either
--- magnitude (`hypot-least`), and not above w where the exact squares say so (`hypot-under`).
+-- hypot as a distance: it is nearest by squares (`hypot-between`), grows with each magnitude (`hypot-mono`), is the magnitude itself beside a zero
+-- (`hypot-zero`), is not below either magnitude (`hypot-least`), and not above w where the exact squares say so (`hypot-under`).
 use mathlib.Core.Path.{_≡_, refl, sym, ap, _∙_, subst}
 use mathlib.Core.Bool.{Bool, true, false, not, cond, false≢true}
 use mathlib.Core.Logic.{_⊎_, inl, inr}
 use Prim.Native.Nat.{ℕ, zero, suc, _+_, _-_, _*_, _/_, _^_, _≤_, _<_}
-use native.Mathlib.Nat.{add-zero, mul-assoc, mul-right-comm, add-mul, mul-lt-mul-of-pos-right, mul-le-mul, mul-le-mul-right, mul-le-mul-left, mul-div-cancel, le-trans, le-of-eq, eq-or-lt-of-le, lt-irrefl, lt-of-lt-of-le, lt-of-le-of-lt, pow-succ', pow-le-pow-right}
+use native.Mathlib.Nat.{add-zero, mul-assoc, mul-right-comm, add-mul, mul-lt-mul-of-pos-right, mul-le-mul, mul-le-mul-right, mul-le-mul-left}
+use native.Mathlib.Nat.{mul-div-cancel, le-trans, le-of-eq, eq-or-lt-of-le, lt-irrefl, lt-of-lt-of-le, lt-of-le-of-lt, pow-succ', pow-le-pow-right}
 use native.Mathlib.Omega.{arith}
 use borrow.Author.Tests.{le-ltb}
 use lib.IntN.{ℤ}
@@ -46,7 +47,8 @@ three-ways k j = go (ltb k j) (ltb→lt k j) (nltb→le k j)
 own : (n : ℕ) → Hits n ((size n - 105) / 2) (evenRoot n ((size n - 105) / 2))
 own n =
     let k = (size n - 105) / 2 in
-    let h : n < 2 ^ 106 * 4 ^ k = lt-of-lt-of-le (size-lt n) (le-trans (pow-mono (most (size n))) (le-of-eq (pow-add 2 106 (2 * k) ∙ ap (λ (z : ℕ). 2 ^ 106 * z) (sym (four k))))) in
+    let h : n < 2 ^ 106 * 4 ^ k =
+    lt-of-lt-of-le (size-lt n) (le-trans (pow-mono (most (size n))) (le-of-eq (pow-add 2 106 (2 * k) ∙ ap (λ (z : ℕ). 2 ^ 106 * z) (sym (four k))))) in
     record { high = h; low = first k refl; nearest = even-root n k (four-pos k) h }
   where
     most : (s : ℕ) → s ≤ 106 + 2 * ((s - 105) / 2)
@@ -54,7 +56,8 @@ own n =
 
     first : (k : ℕ) → (size n - 105) / 2 ≡ k → (k ≡ 0) ⊎ (2 ^ 104 * 4 ^ k ≤ n)
     first zero e = inl refl
-    first (suc k) e = inr (le-trans (le-of-eq (ap (λ (z : ℕ). 2 ^ 104 * z) (four (suc k)) ∙ sym (pow-add 2 104 (2 * suc k)))) (size-reaches n (104 + 2 * suc k) (some (size n) k e)))
+    first (suc k) e = inr (le-trans (le-of-eq (ap (λ (z : ℕ). 2 ^ 104 * z) (four (suc k)) ∙ sym (pow-add 2 104 (2 * suc k))))
+        (size-reaches n (104 + 2 * suc k) (some (size n) k e)))
       where
         some : (s k : ℕ) → (s - 105) / 2 ≡ suc k → 104 + 2 * suc k < s
         some s k e = omega arith
@@ -71,7 +74,8 @@ lower n k q n′ k′ q′ a b h = go (three-ways k k′)
     large (inl e) g = omega arith
     large (inr e) g =
         lt-irrefl n (lt-of-lt-of-le (lt-of-le-of-lt h (b .high))
-        (le-trans (le-of-eq (mul-assoc (2 ^ 104) 4 (4 ^ k′) ∙ ap (λ (z : ℕ). 2 ^ 104 * z) (sym (pow-succ' 4 k′)))) (le-trans (mul-le-mul-left (2 ^ 104) (pow-le-pow-right (lit< tt) g)) e)))
+        (le-trans (le-of-eq (mul-assoc (2 ^ 104) 4 (4 ^ k′) ∙ ap (λ (z : ℕ). 2 ^ 104 * z) (sym (pow-succ' 4 k′))))
+        (le-trans (mul-le-mul-left (2 ^ 104) (pow-le-pow-right (lit< tt) g)) e)))
 
     go : (k < k′) ⊎ ((k ≡ k′) ⊎ (k′ < k)) → q * 2 ^ k ≤ q′ * 2 ^ k′
     go (inl g) =
@@ -80,7 +84,8 @@ lower n k q n′ k′ q′ a b h = go (three-ways k k′)
         (mul-le-mul (digits (all-digits n′ k′ q′ (b .low) (b .nearest)) g) (pow-mono g)))
     go (inr (inl e)) =
         subst (λ (z : ℕ). q * 2 ^ k ≤ q′ * 2 ^ z) e
-        (mul-le-mul-right (2 ^ k) (even-mono (4 * n) (4 * n′) (4 ^ k) q′ q (four-pos k) (mul-le-mul-left 4 h) (a .nearest) (subst (λ (z : ℕ). NearestEven (4 * n′) (4 ^ z) q′) (sym e) (b .nearest))))
+        (mul-le-mul-right (2 ^ k) (even-mono (4 * n) (4 * n′) (4 ^ k) q′ q (four-pos k) (mul-le-mul-left 4 h) (a .nearest)
+        (subst (λ (z : ℕ). NearestEven (4 * n′) (4 ^ z) q′) (sym e) (b .nearest))))
     go (inr (inr g)) = absurd (large (a .low) g)
 
 -- an f64 is finite up to 2 ^ 2098, and infinite from there
@@ -88,7 +93,8 @@ infinite-units : (q k : ℕ) → 2 ^ 2098 ≤ q * 2 ^ k → units binary64 false
 infinite-units q k h = unfold units in ap (λ (b : Bool). cond b (odd 54 false q k 1074) (inf false)) (le-ltb (q * 2 ^ k) (2 ^ 2098) h)
 
 abbrev Ranged : ℕ → ℕ → Type 0
-Ranged q k = ((q * 2 ^ k < 2 ^ 2098) × HasValue (units binary64 false q k) false (q * 2 ^ k) (2 ^ 1074)) ⊎ ((2 ^ 2098 ≤ q * 2 ^ k) × (units binary64 false q k ≡ inf false))
+Ranged q k = ((q * 2 ^ k < 2 ^ 2098) × HasValue (units binary64 false q k) false (q * 2 ^ k) (2 ^ 1074))
+    ⊎ ((2 ^ 2098 ≤ q * 2 ^ k) × (units binary64 false q k ≡ inf false))
 
 ranged : (q k : ℕ) → Ranged q k
 ranged q k = go (leb (2 ^ 2098) (q * 2 ^ k)) (leb→le (2 ^ 2098) (q * 2 ^ k)) (nleb→lt (2 ^ 2098) (q * 2 ^ k))
@@ -111,17 +117,20 @@ pub counts-mono : (n n′ : ℕ) → n ≤ n′ → T (le (hypotOfCount n) (hypo
 counts-mono n n′ h =
     let a = own n in
     let b = own n′ in
-    subst (λ (z : Float). T (le z (hypotOfCount n′))) (sym (hit a)) (subst (λ (z : Float). T (le (units binary64 false (evenRoot n ((size n - 105) / 2)) ((size n - 105) / 2)) z)) (sym (hit b)) (go _ _ _ _ (lower n _ _ n′ _ _ a b h)))
+    subst (λ (z : Float). T (le z (hypotOfCount n′))) (sym (hit a)) (subst (λ (z : Float). T
+    (le (units binary64 false (evenRoot n ((size n - 105) / 2)) ((size n - 105) / 2)) z)) (sym (hit b)) (go _ _ _ _ (lower n _ _ n′ _ _ a b h)))
   where
     go : (q k q′ k′ : ℕ) → q * 2 ^ k ≤ q′ * 2 ^ k′ → T (le (units binary64 false q k) (units binary64 false q′ k′))
     go q k q′ k′ l = pick (ranged q k) (ranged q′ k′)
       where
         pick : Ranged q k
             → Ranged q′ k′ → T (le (units binary64 false q k) (units binary64 false q′ k′))
-        pick (inl (i, v)) (inl (j, w)) = le-of-values _ _ (q * 2 ^ k) (2 ^ 1074) (q′ * 2 ^ k′) (2 ^ 1074) (pow-pos 1074) (pow-pos 1074) v w (mul-le-mul-right (2 ^ 1074) l)
+        pick (inl (i, v)) (inl (j, w)) =
+            le-of-values _ _ (q * 2 ^ k) (2 ^ 1074) (q′ * 2 ^ k′) (2 ^ 1074) (pow-pos 1074) (pow-pos 1074) v w (mul-le-mul-right (2 ^ 1074) l)
         pick (inl (i, v)) (inr (j, e)) = subst (λ (z : Float). T (le (units binary64 false q k) z)) (sym e) (value-le-inf _ _ _ v)
         pick (inr (i, e)) (inl (j, w)) = absurd (lt-irrefl (2 ^ 2098) (lt-of-le-of-lt (le-trans i l) j))
-        pick (inr (i, e)) (inr (j, f)) = subst (λ (z : Float). T (le z (units binary64 false q′ k′))) (sym e) (subst (λ (z : Float). T (le (inf false) z)) (sym f) inf-le-inf)
+        pick (inr (i, e)) (inr (j, f)) =
+            subst (λ (z : Float). T (le z (units binary64 false q′ k′))) (sym e) (subst (λ (z : Float). T (le (inf false) z)) (sym f) inf-le-inf)
 
 -- ---- the count of an f64
 pub count-is : (s : Bool) (m : ℕ) (e : ℤ) → T (fits binary64 (fin s m e)) → Count m e (countOf (fin s m e))
@@ -132,7 +141,8 @@ pub count-le : (s : Bool) (m : ℕ) (e : ℤ) (t : Bool) (n : ℕ) (d : ℤ) →
 unfolding countOf
 count-le s m e t n d h =
     div-mono (m * up e * 2 ^ 1074) (down e) (n * up d * 2 ^ 1074) (down d) (down-pos e) (down-pos d)
-    (le-trans (le-of-eq (mul-right-comm (m * up e) (2 ^ 1074) (down d))) (le-trans (mul-le-mul-right (2 ^ 1074) h) (le-of-eq (mul-right-comm (n * up d) (down e) (2 ^ 1074)))))
+    (le-trans (le-of-eq (mul-right-comm (m * up e) (2 ^ 1074) (down d)))
+    (le-trans (mul-le-mul-right (2 ^ 1074) h) (le-of-eq (mul-right-comm (n * up d) (down e) (2 ^ 1074)))))
 
 pub count-up : (x u : Float) → T (finite u) → T (le (absOf x) (absOf u)) → T (finite x) × (countOf x ≤ countOf u)
 unfolding absOf le lt eq
@@ -155,10 +165,12 @@ hypot-finite (fin s m e) (fin t n d) p q = refl
 sums-up : (a b c d : ℕ) → a ≤ c → b ≤ d → a * a + b * b ≤ c * c + d * d
 sums-up a b c d h k = let x = mul-le-mul h h in let y = mul-le-mul k k in omega arith
 
-pub hypot-counts : (x y u v : Float) → T (finite x) → T (finite y) → T (finite u) → T (finite v) → countOf x ≤ countOf u → countOf y ≤ countOf v → T (le (hypotOf x y) (hypotOf u v))
+pub hypot-counts : (x y u v : Float) → T (finite x) → T (finite y) → T (finite u) → T (finite v) → countOf x ≤ countOf u → countOf y ≤ countOf v
+    → T (le (hypotOf x y) (hypotOf u v))
 hypot-counts x y u v a b p q h k =
     subst (λ (z : Float). T (le z (hypotOf u v))) (sym (hypot-finite x y a b))
-    (subst (λ (z : Float). T (le (hypotOfCount (countOf x * countOf x + countOf y * countOf y)) z)) (sym (hypot-finite u v p q)) (counts-mono _ _ (sums-up (countOf x) (countOf y) (countOf u) (countOf v) h k)))
+    (subst (λ (z : Float). T (le (hypotOfCount (countOf x * countOf x + countOf y * countOf y)) z)) (sym (hypot-finite u v p q))
+    (counts-mono _ _ (sums-up (countOf x) (countOf y) (countOf u) (countOf v) h k)))
 
 -- of finite u and v; x and y are then finite too
 pub hypot-mono : (x y u v : Float) → T (finite u) → T (finite v) → T (le (absOf x) (absOf u)) → T (le (absOf y) (absOf v)) → T (le (hypotOf x y) (hypotOf u v))
@@ -169,7 +181,8 @@ count-lt : (x : Float) → T (fits binary64 x) → T (finite x) → countOf x < 
 unfolding countOf
 count-lt nan f p = absurd p
 count-lt (inf s) f p = absurd p
-count-lt (fin s m e) f p = let c = counted s m e f in subst (λ (z : ℕ). z < 2 ^ 2098) (sym (ap (λ (z : ℕ). z / down e) (c .1) ∙ mul-div-cancel (m * 2 ^ c .0) (down-pos e))) (c .2)
+count-lt (fin s m e) f p = let c = counted s m e f in
+    subst (λ (z : ℕ). z < 2 ^ 2098) (sym (ap (λ (z : ℕ). z / down e) (c .1) ∙ mul-div-cancel (m * 2 ^ c .0) (down-pos e))) (c .2)
 
 -- ---- the root of a square
 pub exactly : (d p : ℕ) → d < 2 ^ 53 → (p ≡ 0) ⊎ (2 ^ 52 ≤ d) → Hits (d * 2 ^ p * (d * 2 ^ p)) p d
@@ -204,7 +217,8 @@ one-value (inf s) y a f g h k = absurd h
 one-value (fin s m e) nan a f g h k = absurd k
 one-value (fin s m e) (inf t) a f g h k = absurd k
 one-value (fin s m e) (fin t n d) a f g h k =
-    ap (λ (b : Bool). fin b m e) (h .0) ∙ same false m e n d a (h .1) (k .1) (fits-signed s false m e f) (fits-signed t false n d g) ∙ ap (λ (b : Bool). fin b n d) (sym (k .0))
+    ap (λ (b : Bool). fin b m e) (h .0) ∙ same false m e n d a (h .1) (k .1) (fits-signed s false m e f) (fits-signed t false n d g)
+    ∙ ap (λ (b : Bool). fin b n d) (sym (k .0))
 
 magnitude-value : (x : Float) → T (fits binary64 x) → T (finite x) → HasValue (absOf x) false (countOf x) (2 ^ 1074)
 magnitude-value nan f p = absurd p
@@ -242,7 +256,8 @@ root-of-square x f p = go (magnitude x f (number x p))
         let h = exactly d k (A .few) (A .enough) in
         ap (λ (z : ℕ). hypotOfCount (z * z)) (w .count)
         ∙ hit h
-        ∙ one-value _ _ (countOf x) (subst (λ (z : Float). T (fits binary64 z)) t (ofBits-fits binary64 (k * 2 ^ 52 + d))) (abs-fits x f) (value (ranged d k) (w .count)) (magnitude-value x f p)
+        ∙ one-value _ _ (countOf x) (subst (λ (z : Float). T (fits binary64 z)) t (ofBits-fits binary64 (k * 2 ^ 52 + d))) (abs-fits x f)
+        (value (ranged d k) (w .count)) (magnitude-value x f p)
       where
         weak : (q : ℕ) → q < 2 ^ 53 → q ≤ 2 ^ 53
         weak q h = omega arith
@@ -267,11 +282,14 @@ hypot-zero (fin s m e) f =
     ∙ ap hypotOfCount (add-zero (countOf x * countOf x))
     ∙ root-of-square x f tt
 
-pub hypot-least : (x y : Float) → T (fits binary64 x) → T (fits binary64 y) → T (finite x) → T (finite y) → T (le (absOf x) (hypotOf x y)) × T (le (absOf y) (hypotOf x y))
+pub hypot-least : (x y : Float) → T (fits binary64 x) → T (fits binary64 y) → T (finite x) → T (finite y)
+    → T (le (absOf x) (hypotOf x y)) × T (le (absOf y) (hypotOf x y))
 hypot-least x y f g p q =
     let e = hypot-finite x y p q in (
-      subst (λ (z : Float). T (le (absOf x) z)) (sym e) (subst (λ (z : Float). T (le z (hypotOfCount (countOf x * countOf x + countOf y * countOf y)))) (root-of-square x f p) (counts-mono _ _ (front _ _))),
-      subst (λ (z : Float). T (le (absOf y) z)) (sym e) (subst (λ (z : Float). T (le z (hypotOfCount (countOf x * countOf x + countOf y * countOf y)))) (root-of-square y g q) (counts-mono _ _ (back _ _))),
+      subst (λ (z : Float). T (le (absOf x) z)) (sym e) (subst (λ (z : Float). T (le z (hypotOfCount (countOf x * countOf x + countOf y * countOf y))))
+          (root-of-square x f p) (counts-mono _ _ (front _ _))),
+      subst (λ (z : Float). T (le (absOf y) z)) (sym e) (subst (λ (z : Float). T (le z (hypotOfCount (countOf x * countOf x + countOf y * countOf y))))
+          (root-of-square y g q) (counts-mono _ _ (back _ _))),
     )
   where
     front : (a b : ℕ) → a ≤ a + b
@@ -281,9 +299,11 @@ hypot-least x y f g p q =
     back a b = omega arith
 
 -- where the exact squares say so
-pub hypot-under : (x y w : Float) → T (fits binary64 w) → T (finite x) → T (finite y) → T (finite w) → countOf x * countOf x + countOf y * countOf y ≤ countOf w * countOf w → T (le (hypotOf x y) (absOf w))
+pub hypot-under : (x y w : Float) → T (fits binary64 w) → T (finite x) → T (finite y) → T (finite w)
+    → countOf x * countOf x + countOf y * countOf y ≤ countOf w * countOf w → T (le (hypotOf x y) (absOf w))
 hypot-under x y w f p q r h =
-    subst (λ (z : Float). T (le z (absOf w))) (sym (hypot-finite x y p q)) (subst (λ (z : Float). T (le (hypotOfCount (countOf x * countOf x + countOf y * countOf y)) z)) (root-of-square w f r) (counts-mono _ _ h))
+    subst (λ (z : Float). T (le z (absOf w))) (sym (hypot-finite x y p q))
+    (subst (λ (z : Float). T (le (hypotOfCount (countOf x * countOf x + countOf y * countOf y)) z)) (root-of-square w f r) (counts-mono _ _ h))
 
 -- ---- the theorem
 pub hypot-between : (x y : Float) → T (fits binary64 x) → T (fits binary64 y) → T (finite x) → T (finite y) → HypotBetween x y (hypotOf x y)

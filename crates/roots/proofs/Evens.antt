@@ -2,7 +2,9 @@
 use mathlib.Core.Path.{_≡_, refl, sym, ap, _∙_, subst}
 use mathlib.Core.Bool.{Bool, true, false, cond}
 use Prim.Native.Nat.{ℕ, zero, suc, _+_, _-_, _*_, _/_, _%_, _^_, _≤_, _<_}
-use native.Mathlib.Nat.{mul-assoc, add-mul, mul-le-mul, mul-le-mul-right, mul-lt-mul-of-pos-right, le-antisymm, le-trans, le-of-eq, lt-irrefl, lt-of-not-le, le-of-suc-le-suc, lt-of-lt-of-le, lt-of-le-of-lt, le-of-mul-le-mul-right, eq-of-mul-eq-mul-right, div-mul-le-self, lt-div-mul-add, div-lt-iff-lt-mul}
+use native.Mathlib.Nat.{mul-assoc, add-mul, mul-le-mul, mul-le-mul-right, mul-lt-mul-of-pos-right, le-antisymm, le-trans}
+use native.Mathlib.Nat.{le-of-eq, lt-irrefl, lt-of-not-le, le-of-suc-le-suc, lt-of-lt-of-le, lt-of-le-of-lt}
+use native.Mathlib.Nat.{le-of-mul-le-mul-right, eq-of-mul-eq-mul-right, div-mul-le-self, lt-div-mul-add, div-lt-iff-lt-mul}
 use native.Mathlib.Omega.{arith}
 use borrow.Author.Tests.{ltb-true, ltb-false}
 use lib.Dec.{ltb, lit<, lit≤}

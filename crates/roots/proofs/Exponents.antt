@@ -58,7 +58,8 @@ half-lifted (pos a) h = ap pos (sum a)
     sum : (a : ℕ) → a / 2 + 1048 ≡ (a + 2096) / 2
     sum a = omega arith
 half-lifted (negsuc a) h =
-    ap (λ (t : Bool). cond t (negsuc (suc (a / 2) - suc 1048)) (pos (1048 - suc (a / 2)))) (is-false (ltb 1048 (suc (a / 2))) (not-T (ltb 1048 (suc (a / 2))) (λ t. low a h (ltb→lt 1048 (suc (a / 2)) t))))
+    ap (λ (t : Bool). cond t (negsuc (suc (a / 2) - suc 1048)) (pos (1048 - suc (a / 2))))
+    (is-false (ltb 1048 (suc (a / 2))) (not-T (ltb 1048 (suc (a / 2))) (λ t. low a h (ltb→lt 1048 (suc (a / 2)) t))))
     ∙ ap pos (sum a h)
   where
     low : (a : ℕ) → a < 1126 → 1048 < suc (a / 2) → ⊥

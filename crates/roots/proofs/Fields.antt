@@ -2,7 +2,8 @@
 use mathlib.Core.Path.{_≡_, refl, sym, ap, _∙_, subst}
 use mathlib.Core.Bool.{Bool, true, false, not, cond, false≢true}
 use Prim.Native.Nat.{ℕ, zero, suc, _+_, _-_, _*_, _%_, _^_, _≤_, _<_}
-use native.Mathlib.Nat.{lt-irrefl, lt-of-not-le, le-of-suc-le-suc, lt-of-lt-of-le, le-add-right, mul-one, mul-assoc, mul-pos, zero-mul, pow-suc, mul-le-mul-right, le-trans, le-of-eq, mod-eq-of-lt}
+use native.Mathlib.Nat.{lt-irrefl, lt-of-not-le, le-of-suc-le-suc, lt-of-lt-of-le, le-add-right, mul-one, mul-assoc}
+use native.Mathlib.Nat.{mul-pos, zero-mul, pow-suc, mul-le-mul-right, le-trans, le-of-eq, mod-eq-of-lt}
 use native.Mathlib.Omega.{arith}
 use lib.IntN.{pos, negsuc}
 use lib.Dec.{T, leb, eqb, leb→le, nleb→lt, eqb→eq, T-not, lit<}
@@ -24,7 +25,8 @@ unfolding rootOf
 root-negative nan a c p h = refl
 root-negative (inf s) a c p h = absurd h
 root-negative (fin false m e) a c p h = absurd (false≢true (h .0))
-root-negative (fin true zero e) a c p h = absurd (lt-irrefl 0 (subst (λ (n : ℕ). 0 < n) (sym (h .1) ∙ ap (λ (n : ℕ). n * c) (zero-mul (up e)) ∙ zero-mul c) (mul-pos p (down-pos e))))
+root-negative (fin true zero e) a c p h =
+    absurd (lt-irrefl 0 (subst (λ (n : ℕ). 0 < n) (sym (h .1) ∙ ap (λ (n : ℕ). n * c) (zero-mul (up e)) ∙ zero-mul c) (mul-pos p (down-pos e))))
 root-negative (fin true (suc m) e) a c p h = refl
 
 pub not-a-number : div binary64 (ofBits binary64 0) (ofBits binary64 0) ≡ nan
@@ -61,7 +63,8 @@ root-minus (suc e) f n h = go (eqb (suc e) 2047) (eqb→eq (suc e) 2047) (λ k. 
   where
     go : (b : Bool) → (T b → suc e ≡ 2047) → (T (not b) → suc e < 2047) → rootOf (ofFields binary64 true (suc e) f) ≡ nan
     go true p q = ap (λ (n : ℕ). rootOf (ofFields binary64 true n f)) (p tt) ∙ ap rootOf (special true f) ∙ minus-special (eqb f 0)
-    go false p q = root-negative (ofFields binary64 true (suc e) f) ((2 ^ 52 + f) * 2 ^ e) (2 ^ 1074) (mul-pos (lt-of-lt-of-le (lit< tt) (le-add-right (2 ^ 52) f)) (pow-pos e)) (normal-value true e f (le-of-suc-le-suc (q tt)))
+    go false p q = root-negative (ofFields binary64 true (suc e) f) ((2 ^ 52 + f) * 2 ^ e) (2 ^ 1074)
+        (mul-pos (lt-of-lt-of-le (lit< tt) (le-add-right (2 ^ 52) f)) (pow-pos e)) (normal-value true e f (le-of-suc-le-suc (q tt)))
 
 pub root-minus-any : (e f : ℕ) → e < 2 ^ 11 → (e ≡ 0 → f ≡ 0 → ⊥) → rootOf (ofFields binary64 true e f) ≡ nan
 root-minus-any zero f h n = root-minus-low f (some f (n refl))
@@ -79,7 +82,8 @@ root-low f p =
     root-same (fin false f (negsuc 1073)) (ofFields binary64 false 0 f) f (2 ^ 1074) f (2 ^ 1074) p p (pow-pos 1074) (pow-pos 1074)
     (refl, ap (λ (n : ℕ). n * 2 ^ 1074) (mul-one f)) (subnormal-value false f) refl
 
-pub root-normal : (e f : ℕ) → (e ≡ 0 → ⊥) → (e ≡ 2 ^ 11 - 1 → ⊥) → e < 2 ^ 11 → rootOf (fin false (2 ^ 52 + f) (minus e 1075)) ≡ rootOf (ofFields binary64 false e f)
+pub root-normal : (e f : ℕ) → (e ≡ 0 → ⊥) → (e ≡ 2 ^ 11 - 1 → ⊥) → e < 2 ^ 11
+    → rootOf (fin false (2 ^ 52 + f) (minus e 1075)) ≡ rootOf (ofFields binary64 false e f)
 root-normal zero f n k h = absurd (n refl)
 root-normal (suc e) f n k h =
     let m = 2 ^ 52 + f in
@@ -128,7 +132,8 @@ shifted-up f p h =
     go : (z j : ℕ) → z + suc j ≡ 64 → 2 ^ j ≤ f → f < 2 ^ suc j → Shifted f z
     go z j e l u =
         let k = least z j e l in
-        let a : 2 ^ 52 ≤ f * 2 ^ (z - 11) = le-trans (le-of-eq (ap (λ (n : ℕ). 2 ^ n) (sum z j e k) ∙ pow-add 2 j (z - 11))) (mul-le-mul-right (2 ^ (z - 11)) l) in
+        let a : 2 ^ 52 ≤ f * 2 ^ (z - 11) =
+        le-trans (le-of-eq (ap (λ (n : ℕ). 2 ^ n) (sum z j e k) ∙ pow-add 2 j (z - 11))) (mul-le-mul-right (2 ^ (z - 11)) l) in
         let b : f * 2 ^ (z - 11) < 2 ^ 53 = subst (λ (n : ℕ). f * 2 ^ (z - 11) < 2 ^ n) (sum′ z j e k) (shl-lt (suc j) (z - 11) u) in
         let w : f * 2 ^ (z - 11) % 2 ^ 64 ≡ f * 2 ^ (z - 11) = mod-eq-of-lt (lt-of-lt-of-le b (pow-mono {i = 53} {j = 64} (omega arith))) in
         record {
@@ -157,7 +162,8 @@ root-shifted f z p =
     root-same (fin false (f * 2 ^ z) (minus 0 (1074 + z))) (fin false f (negsuc 1073)) (f * 2 ^ z * 2 ^ 0) (2 ^ (1074 + z)) f (2 ^ 1074)
     (mul-pos (mul-pos p (pow-pos z)) (pow-pos 0)) p (pow-pos (1074 + z)) (pow-pos 1074)
     (refl, minus-val (f * 2 ^ z) 0 (1074 + z)) (refl, ap (λ (n : ℕ). n * 2 ^ 1074) (mul-one f))
-    (ap (λ (n : ℕ). n * 2 ^ 1074) (mul-one (f * 2 ^ z)) ∙ mul-assoc f (2 ^ z) (2 ^ 1074) ∙ ap (λ (n : ℕ). f * n) (sym (pow-add 2 z 1074) ∙ ap (λ (n : ℕ). 2 ^ n) (swap z)))
+    (ap (λ (n : ℕ). n * 2 ^ 1074) (mul-one (f * 2 ^ z)) ∙ mul-assoc f (2 ^ z) (2 ^ 1074)
+    ∙ ap (λ (n : ℕ). f * n) (sym (pow-add 2 z 1074) ∙ ap (λ (n : ℕ). 2 ^ n) (swap z)))
   where
     swap : (z : ℕ) → z + 1074 ≡ 1074 + z
     swap z = omega arith

@@ -64,7 +64,8 @@ checked m s b n d r e l h p P q Q u U =
     shifted : (n : ℕ) → n < 2 ^ 30 → n * 2 ^ 25 % 2 ^ 64 ≡ n * 2 ^ 25
     shifted n h = omega arith
 
-    last : (d r s bb : ℕ) → s < 2 ^ 53 → d < 2 ^ 30 → bb < s → (r + (2 ^ 53 + 1)) % 2 ^ 64 ≡ d * 2 ^ 27 % 2 ^ 64 + s - bb → r < 2 * s → r + (2 ^ 53 + 1) + bb ≡ d * 2 ^ 27 + s
+    last : (d r s bb : ℕ) → s < 2 ^ 53 → d < 2 ^ 30 → bb < s → (r + (2 ^ 53 + 1)) % 2 ^ 64 ≡ d * 2 ^ 27 % 2 ^ 64 + s - bb → r < 2 * s
+        → r + (2 ^ 53 + 1) + bb ≡ d * 2 ^ 27 + s
     last d r s bb h Q c u U =
         let e : r + (2 ^ 53 + 1) ≡ d * 2 ^ 27 % 2 ^ 64 + s - bb = exact (r + (2 ^ 53 + 1)) _ (room r s h U) u in
         let f : d * 2 ^ 27 % 2 ^ 64 ≡ d * 2 ^ 27 = double d Q in
@@ -79,8 +80,10 @@ checked m s b n d r e l h p P q Q u U =
         back : (x k s bb : ℕ) → bb < s → x ≡ k + s - bb → x + bb ≡ k + s
         back x k s bb c e = omega arith
 
-    above-is : (m s n d r aa ab bb ss : ℕ) → n + aa ≡ m → d + ab ≡ n * 2 ^ 25 + 2 ^ 26 → r + (2 ^ 53 + 1) + bb ≡ d * 2 ^ 27 + s → ss ≡ 2 ^ 52 * aa + 2 ^ 27 * ab + bb → ss < m * 2 ^ 52 + s
+    above-is : (m s n d r aa ab bb ss : ℕ) → n + aa ≡ m → d + ab ≡ n * 2 ^ 25 + 2 ^ 26 → r + (2 ^ 53 + 1) + bb ≡ d * 2 ^ 27 + s
+        → ss ≡ 2 ^ 52 * aa + 2 ^ 27 * ab + bb → ss < m * 2 ^ 52 + s
     above-is m s n d r aa ab bb ss x y z e = omega arith
 
-    below-is : (m s n d r aa ab bb ss : ℕ) → n + aa ≡ m → d + ab ≡ n * 2 ^ 25 + 2 ^ 26 → r + (2 ^ 53 + 1) + bb ≡ d * 2 ^ 27 + s → ss ≡ 2 ^ 52 * aa + 2 ^ 27 * ab + bb → r < 2 * s → m * 2 ^ 52 ≤ ss + s
+    below-is : (m s n d r aa ab bb ss : ℕ) → n + aa ≡ m → d + ab ≡ n * 2 ^ 25 + 2 ^ 26 → r + (2 ^ 53 + 1) + bb ≡ d * 2 ^ 27 + s
+        → ss ≡ 2 ^ 52 * aa + 2 ^ 27 * ab + bb → r < 2 * s → m * 2 ^ 52 ≤ ss + s
     below-is m s n d r aa ab bb ss x y z e u = omega arith

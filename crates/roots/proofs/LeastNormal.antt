@@ -3,7 +3,8 @@ use mathlib.Core.Path.{_≡_, refl, sym, ap, _∙_, subst}
 use mathlib.Core.Bool.{Bool, true, false, not, cond}
 use mathlib.Core.Logic.{_⊎_, inl, inr}
 use Prim.Native.Nat.{ℕ, zero, suc, _+_, _-_, _*_, _/_, _^_, _<_}
-use native.Mathlib.Nat.{le-of-suc-le-suc, eq-or-lt-of-le, le-trans, le-add-right, le-mul-of-pos-right, le-of-mul-le-mul-right, lt-irrefl, lt-of-lt-of-le, mul-le-mul-right, mod-eq-of-lt}
+use native.Mathlib.Nat.{le-of-suc-le-suc, eq-or-lt-of-le, le-trans, le-add-right, le-mul-of-pos-right}
+use native.Mathlib.Nat.{le-of-mul-le-mul-right, lt-irrefl, lt-of-lt-of-le, mul-le-mul-right, mod-eq-of-lt}
 use native.Mathlib.Omega.{arith}
 use borrow.Author.Tests.{leb-false}
 use lib.Dec.{T, leb, eqb}
@@ -37,7 +38,8 @@ not-minus x a v l = some (under-of-le leastNormal x false (2 ^ 52) (2 ^ 1074) tr
 
 not-low : (f : ℕ) → f < 2 ^ 52 → T (le leastNormal (ofFields binary64 false 0 f)) → ⊥
 not-low f h l =
-    lt-irrefl f (lt-of-lt-of-le h (le-of-mul-le-mul-right (under-of-le leastNormal (ofFields binary64 false 0 f) false (2 ^ 52) (2 ^ 1074) false f (2 ^ 1074) (pow-pos 1074) (pow-pos 1074) least-is (subnormal-value false f) l) (pow-pos 1074)))
+    lt-irrefl f (lt-of-lt-of-le h (le-of-mul-le-mul-right (under-of-le leastNormal (ofFields binary64 false 0 f) false (2 ^ 52) (2 ^ 1074) false f (2 ^ 1074)
+    (pow-pos 1074) (pow-pos 1074) least-is (subnormal-value false f) l) (pow-pos 1074)))
 
 normal-says : (s : Bool) (e f : ℕ) → e < 2 ^ 11 → f < 2 ^ 52 → T (le leastNormal (ofFields binary64 s e f)) → (s ≡ false) × (e ≡ 0 → ⊥)
 normal-says true zero f E h l = absurd (not-minus (ofFields binary64 true 0 f) f (subnormal-value true f) l)
@@ -61,7 +63,8 @@ pub normal-bits : (x : Float) → T (fits binary64 x) → le leastNormal x ≡ t
 normal-bits x h l =
     let b = toBits binary64 x in
     let s = leb (2 ^ 63) b in
-    let r = normal-says s (exponentOf b) (fractionOf b) (exponent-lt b) (fraction-lt b) (subst (λ (y : Float). T (le leastNormal y)) (apart x s h refl) (holds _ l)) in
+    let r = normal-says s (exponentOf b) (fractionOf b) (exponent-lt b) (fraction-lt b)
+    (subst (λ (y : Float). T (le leastNormal y)) (apart x s h refl) (holds _ l)) in
     record { plus = r .0; some = r .1; whole = whole b (leb-false (2 ^ 63) b (r .0)) }
   where
     high : (b : ℕ) → b < 2 ^ 63 → b / 2 ^ 52 < 2 ^ 11
@@ -88,10 +91,12 @@ low-says (suc k) f E n l = absurd (refused _ (go (eq-or-lt-of-le (le-of-suc-le-s
         let e = ap (λ (n : ℕ). ofFields binary64 false n f) q ∙ special false f in
         subst (λ (x : Float). T (le leastNormal x)) (sym e) (low-special (eqb f 0) (subst (λ (x : Float). T (not (isNan x))) e n))
     go (inr q) =
-        le-of-signed leastNormal (ofFields binary64 false (suc k) f) false (2 ^ 52) (2 ^ 1074) false ((2 ^ 52 + f) * 2 ^ k) (2 ^ 1074) (pow-pos 1074) (pow-pos 1074) least-is (normal-value false k f (le-of-suc-le-suc q))
+        le-of-signed leastNormal (ofFields binary64 false (suc k) f) false (2 ^ 52) (2 ^ 1074) false ((2 ^ 52 + f) * 2 ^ k) (2 ^ 1074) (pow-pos 1074)
+        (pow-pos 1074) least-is (normal-value false k f (le-of-suc-le-suc q))
         (mul-le-mul-right (2 ^ 1074) (le-trans (le-add-right (2 ^ 52) f) (le-mul-of-pos-right (2 ^ 52 + f) (pow-pos k))))
 
-pub low-bits : (x : Float) → T (fits binary64 x) → T (not (isNan x)) → le leastNormal x ≡ false → leb (2 ^ 63) (toBits binary64 x) ≡ false → exponentOf (toBits binary64 x) ≡ 0
+pub low-bits : (x : Float) → T (fits binary64 x) → T (not (isNan x)) → le leastNormal x ≡ false → leb (2 ^ 63) (toBits binary64 x) ≡ false
+    → exponentOf (toBits binary64 x) ≡ 0
 low-bits x h n l p =
     let b = toBits binary64 x in
     let e = apart x false h p in

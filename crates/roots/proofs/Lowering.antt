@@ -2,7 +2,9 @@
 use mathlib.Core.Path.{_≡_, sym, ap, _∙_, subst}
 use mathlib.Core.Logic.{inl, inr}
 use Prim.Native.Nat.{ℕ, zero, suc, _+_, _-_, _*_, _/_, _%_, _^_, _≤_, _<_}
-use native.Mathlib.Nat.{mul-assoc, mul-right-comm, mul-comm, mul-one, one-mul, add-mul, mul-le-mul-right, mul-lt-mul-of-pos-right, mul-mul-mul-comm, le-trans, le-of-eq, lt-of-le-of-lt, lt-of-lt-of-le, eq-of-mul-eq-mul-right, div-add-mod', mod-lt, pow-suc, div-lt-iff-lt-mul, mul-div-cancel, mul-mod-left, add-zero, lt-of-mul-lt-mul-right}
+use native.Mathlib.Nat.{mul-assoc, mul-right-comm, mul-comm, mul-one, one-mul, add-mul, mul-le-mul-right, mul-lt-mul-of-pos-right}
+use native.Mathlib.Nat.{mul-mul-mul-comm, le-trans, le-of-eq, lt-of-le-of-lt, lt-of-lt-of-le, eq-of-mul-eq-mul-right, div-add-mod', mod-lt}
+use native.Mathlib.Nat.{pow-suc, div-lt-iff-lt-mul, mul-div-cancel, mul-mod-left, add-zero, lt-of-mul-lt-mul-right}
 use native.Mathlib.Omega.{arith}
 use lib.Arith.{mod-mul}
 use lib.Dec.{lit<}
@@ -145,7 +147,8 @@ module _ (hi lo c : ℕ) (H : hi < 2 ^ 55) (L : lo < 2 ^ 55) (C : c ≤ 52) wher
         where
           mod-scaled : (n p q : ℕ) → 0 < p → 0 < q → n * q % (p * q) ≡ n % p * q
           mod-scaled n p q A B =
-              mod-mul (n * q) A B ∙ ap (λ (z : ℕ). z % p * q + n * q % q) (mul-div-cancel n B) ∙ ap (λ (z : ℕ). n % p * q + z) (mul-mod-left n q) ∙ add-zero (n % p * q)
+              mod-mul (n * q) A B ∙ ap (λ (z : ℕ). z % p * q + n * q % q) (mul-div-cancel n B)
+              ∙ ap (λ (z : ℕ). n % p * q + z) (mul-mod-left n q) ∙ add-zero (n % p * q)
 
   abbrev low : ℕ
   low = lo / P + hi % P * Q
@@ -171,7 +174,8 @@ module _ (hi lo c : ℕ) (H : hi < 2 ^ 55) (L : lo < 2 ^ 55) (C : c ≤ 52) wher
       let f : hi % P * Q * P ≡ hi % P * 2 ^ 55 = mul-assoc (hi % P) Q P ∙ ap (λ (z : ℕ). hi % P * z) (mul-comm Q P ∙ whole) in
       let g : (hi / P * 2 ^ 55 + low) * P ≡ hi / P * 2 ^ 55 * P + low * P = add-mul (hi / P * 2 ^ 55) low P in
       let h : low * P ≡ lo / P * P + hi % P * Q * P = add-mul (lo / P) (hi % P * Q) P in
-      go (hi * 2 ^ 55) lo (hi / P * P * 2 ^ 55) (hi % P * 2 ^ 55) (hi / P * 2 ^ 55 * P) (hi % P * Q * P) (low * P) ((hi / P * 2 ^ 55 + low) * P) (lo / P * P) (lo % P) b d e f g h
+      go (hi * 2 ^ 55) lo (hi / P * P * 2 ^ 55) (hi % P * 2 ^ 55) (hi / P * 2 ^ 55 * P) (hi % P * Q * P) (low * P) ((hi / P * 2 ^ 55 + low) * P)
+      (lo / P * P) (lo % P) b d e f g h
     where
       go : (A lo B D E F G I J t : ℕ) → J + t ≡ lo → A ≡ B + D → B ≡ E → F ≡ D → I ≡ E + G → G ≡ J + F → A + lo ≡ I + t
       go A lo B D E F G I J t a b c d e f = omega arith
@@ -223,7 +227,8 @@ module _ (hi lo c : ℕ) (H : hi < 2 ^ 55) (L : lo < 2 ^ 55) (C : c ≤ 52) wher
       let m : lo % P < P = mod-lt lo (pow-pos c) in
       let z : 0 < lo % P = some (lo % P) (λ e. n (lost ∙ e)) in
       let w = hi / P * 2 ^ 55 + low in
-      subst (λ (z : ℕ). Lowered (hi * 2 ^ 55 + lo) (hi / P * 2 ^ 55 + bitOr z 1) c) raw-is (go (hi * 2 ^ 55 + lo) (lo % P) w (hi / P * 2 ^ 55 + odd-low) s z m (parts (hi / P) low odd-low odd-is))
+      subst (λ (z : ℕ). Lowered (hi * 2 ^ 55 + lo) (hi / P * 2 ^ 55 + bitOr z 1) c) raw-is
+      (go (hi * 2 ^ 55 + lo) (lo % P) w (hi / P * 2 ^ 55 + odd-low) s z m (parts (hi / P) low odd-low odd-is))
     where
       some : (t : ℕ) → (t ≡ 0 → ⊥) → 0 < t
       some t n = omega arith
@@ -244,7 +249,8 @@ pub record Eight (x b : ℕ) : Type 0 where
   pub cross : x / 2 ^ 26 * b < 2 ^ 53
   pub low : b * b < 2 ^ 52
   pub square : x * x < 2 ^ 106
-  pub same : (x / 2 ^ 26 * (x / 2 ^ 26) + x / 2 ^ 26 * b / 2 ^ 25) * 2 ^ 55 + (bitAnd (x / 2 ^ 26 * b) (2 ^ 25 - 1) * 2 ^ 30 % 2 ^ 64 + 8 * (b * b)) ≡ 8 * (x * x)
+  pub same : (x / 2 ^ 26 * (x / 2 ^ 26) + x / 2 ^ 26 * b / 2 ^ 25) * 2 ^ 55
+      + (bitAnd (x / 2 ^ 26 * b) (2 ^ 25 - 1) * 2 ^ 30 % 2 ^ 64 + 8 * (b * b)) ≡ 8 * (x * x)
 
 pub eight : (x b : ℕ) → b ≡ x % 2 ^ 26 → x < 2 ^ 53 → Eight x b
 eight x b e h =
@@ -261,5 +267,6 @@ eight x b e h =
       same = sums (a * a) (a * b) (b * b) (x * x) (bitAnd (a * b) (2 ^ 25 - 1)) (and-mask (a * b) 25) s;
     }
   where
-    sums : (aa ab bb xx m : ℕ) → m ≡ ab % 2 ^ 25 → xx ≡ aa * (2 ^ 26 * 2 ^ 26) + 2 * (ab * 2 ^ 26) + bb → (aa + ab / 2 ^ 25) * 2 ^ 55 + (m * 2 ^ 30 % 2 ^ 64 + 8 * bb) ≡ 8 * xx
+    sums : (aa ab bb xx m : ℕ) → m ≡ ab % 2 ^ 25 → xx ≡ aa * (2 ^ 26 * 2 ^ 26) + 2 * (ab * 2 ^ 26) + bb
+        → (aa + ab / 2 ^ 25) * 2 ^ 55 + (m * 2 ^ 30 % 2 ^ 64 + 8 * bb) ≡ 8 * xx
     sums aa ab bb xx m e f = omega arith

@@ -3,7 +3,9 @@ use mathlib.Core.Path.{_≡_, sym, ap, _∙_, subst}
 use mathlib.Core.Logic.{_⊎_, inl, inr}
 use mathlib.Core.Bool.{Bool, true, false, not}
 use Prim.Native.Nat.{ℕ, suc, _+_, _-_, _*_, _^_, _≤_, _<_}
-use native.Mathlib.Nat.{le-trans, le-of-eq, le-of-lt, le-of-suc-le-suc, lt-of-not-le, lt-of-lt-of-le, lt-of-le-of-lt, lt-irrefl, eq-or-lt-of-le, mul-assoc, mul-le-mul-right, mul-lt-mul-of-pos-right, mul-le-mul-left, le-of-mul-le-mul-right, pow-succ', pow-le-pow-right, mul-le-mul, zero-lt-suc}
+use native.Mathlib.Nat.{le-trans, le-of-eq, le-of-lt, le-of-suc-le-suc, lt-of-not-le, lt-of-lt-of-le, lt-of-le-of-lt}
+use native.Mathlib.Nat.{lt-irrefl, eq-or-lt-of-le, mul-assoc, mul-le-mul-right, mul-lt-mul-of-pos-right, mul-le-mul-left}
+use native.Mathlib.Nat.{le-of-mul-le-mul-right, pow-succ', pow-le-pow-right, mul-le-mul, zero-lt-suc}
 use native.Mathlib.Omega.{arith}
 use lib.Dec.{T, ltb, ltb→lt, nltb→le, lit<}
 use lib.Pow.{pow-pos, pow-mono}
@@ -65,16 +67,20 @@ pub root-mono : (x y : Float) → T (fits binary64 x) → T (fits binary64 y) �
 root-mono x y f g p q h =
     let a = root-nearest x f p in
     let b = root-nearest y g q in
-    let c : a .n * 4 ^ (a .k) ≤ b .n * 4 ^ (b .k) = le-of-mul-le-mul-right (values-of-le x y _ (2 ^ 2148) _ (2 ^ 2148) p q (a .square) (b .square) h) (pow-pos 2148) in
+    let c : a .n * 4 ^ (a .k) ≤ b .n * 4 ^ (b .k) =
+    le-of-mul-le-mul-right (values-of-le x y _ (2 ^ 2148) _ (2 ^ 2148) p q (a .square) (b .square) h) (pow-pos 2148) in
     le-of-values (rootOf x) (rootOf y) (a .q * 2 ^ (a .k)) (2 ^ 1074) (b .q * 2 ^ (b .k)) (2 ^ 1074) (pow-pos 1074) (pow-pos 1074) (a .root) (b .root)
-    (mul-le-mul-right (2 ^ 1074) (go (a .q) (a .k) (a .n) (b .q) (b .k) (b .n) (a .digits .0) (a .digits .1) (b .digits .0) (b .digits .1) (a .above) (b .below) (a .least) c))
+    (mul-le-mul-right (2 ^ 1074)
+    (go (a .q) (a .k) (a .n) (b .q) (b .k) (b .n) (a .digits .0) (a .digits .1) (b .digits .0) (b .digits .1) (a .above) (b .below) (a .least) c))
   where
-    go : (q k n p j m : ℕ) → 2 ^ 52 ≤ q → q < 2 ^ 53 → 2 ^ 52 ≤ p → p < 2 ^ 53 → (2 * q - 1) * (2 * q - 1) < 4 * n → 4 * m < (2 * p + 1) * (2 * p + 1) → 2 ^ 104 ≤ n → n * 4 ^ k ≤ m * 4 ^ j → q * 2 ^ k ≤ p * 2 ^ j
+    go : (q k n p j m : ℕ) → 2 ^ 52 ≤ q → q < 2 ^ 53 → 2 ^ 52 ≤ p → p < 2 ^ 53 → (2 * q - 1) * (2 * q - 1) < 4 * n → 4 * m < (2 * p + 1) * (2 * p + 1)
+        → 2 ^ 104 ≤ n → n * 4 ^ k ≤ m * 4 ^ j → q * 2 ^ k ≤ p * 2 ^ j
     go q k n p j m a b c d u v l h = pick (three-ways k j)
       where
         pick : (k < j) ⊎ ((k ≡ j) ⊎ (j < k)) → q * 2 ^ k ≤ p * 2 ^ j
         pick (inl g) = root-lower p q j k b c g
         pick (inr (inl e)) =
             subst (λ (i : ℕ). q * 2 ^ k ≤ p * 2 ^ i) e
-            (mul-le-mul-right (2 ^ k) (same-exponent n m p q (lt-of-lt-of-le (lit< tt) a) (le-of-mul-le-mul-right (le-trans h (le-of-eq (ap (λ (i : ℕ). m * 4 ^ i) (sym e)))) (four-pos k)) u v))
+            (mul-le-mul-right (2 ^ k) (same-exponent n m p q (lt-of-lt-of-le (lit< tt) a)
+            (le-of-mul-le-mul-right (le-trans h (le-of-eq (ap (λ (i : ℕ). m * 4 ^ i) (sym e)))) (four-pos k)) u v))
         pick (inr (inr g)) = absurd (lt-irrefl (n * 4 ^ k) (lt-of-le-of-lt h (square-lower n m k j l (n-lt p m d v) g)))

@@ -1,5 +1,5 @@
--- Bits and counts: the bits p * 2 ^ 52 + q, q of 53 digits or p 0, are those of q * 2 ^ p smallest f64s (`packed`), from plus infinity's on it leaves the range (`beyond`), and of the
--- magnitude of a finite x they tell the count (`count-bits`).
+-- Bits and counts: the bits p * 2 ^ 52 + q, q of 53 digits or p 0, are those of q * 2 ^ p smallest f64s (`packed`), from plus infinity's on it leaves the range
+-- (`beyond`), and of the magnitude of a finite x they tell the count (`count-bits`).
 use mathlib.Core.Path.{_≡_, refl, sym, ap, _∙_, subst}
 use mathlib.Core.Bool.{Bool, true, false, not, cond}
 use mathlib.Core.Logic.{_⊎_, inl, inr}
@@ -33,13 +33,15 @@ low-units (suc q) h = sym (in-range false (suc q) 0 (wider (suc q) h) (lit< tt) 
 carried : (k : ℕ) → units binary64 false (2 ^ 52) (suc k) ≡ units binary64 false (2 ^ 53) k
 unfolding units odd trailingZeros
 carried k =
-    ap (λ (z : ℕ). cond (ltb z (2 ^ 2098)) (odd 54 false (2 ^ 52) (suc k) 1074) (inf false)) (ap (λ (z : ℕ). 2 ^ 52 * z) (pow-succ' 2 k) ∙ sym (mul-assoc (2 ^ 52) 2 (2 ^ k)))
+    ap (λ (z : ℕ). cond (ltb z (2 ^ 2098)) (odd 54 false (2 ^ 52) (suc k) 1074) (inf false)) (ap (λ (z : ℕ). 2 ^ 52 * z) (pow-succ' 2 k)
+    ∙ sym (mul-assoc (2 ^ 52) 2 (2 ^ k)))
     ∙ ap (λ (z : ℕ). cond (ltb (2 ^ 53 * 2 ^ k) (2 ^ 2098)) (fin false 1 (lib.Ieee.minus z 1074)) (inf false)) (sum k)
   where
     sum : (k : ℕ) → suc k + 52 ≡ k + 53
     sum k = omega arith
 
-pub packed : (q k : ℕ) → q ≤ 2 ^ 53 → (k ≡ 0) ⊎ (2 ^ 52 ≤ q) → k * 2 ^ 52 + q < infiniteBits → (ofBits binary64 (k * 2 ^ 52 + q) ≡ units binary64 false q k) × T (not (nanBits binary64 (k * 2 ^ 52 + q)))
+pub packed : (q k : ℕ) → q ≤ 2 ^ 53 → (k ≡ 0) ⊎ (2 ^ 52 ≤ q) → k * 2 ^ 52 + q < infiniteBits
+    → (ofBits binary64 (k * 2 ^ 52 + q) ≡ units binary64 false q k) × T (not (nanBits binary64 (k * 2 ^ 52 + q)))
 packed q k h p l = go (eq-or-lt-of-le h) p (side q)
   where
     side : (q : ℕ) → (2 ^ 52 ≤ q) ⊎ (q < 2 ^ 52)
@@ -58,7 +60,8 @@ packed q k h p l = go (eq-or-lt-of-le h) p (side q)
     field : (k : ℕ) → suc k * 2 ^ 52 + 2 ^ 52 ≡ k * 2 ^ 52 + 2 ^ 53
     field k = omega arith
 
-    go : (q ≡ 2 ^ 53) ⊎ (q < 2 ^ 53) → (k ≡ 0) ⊎ (2 ^ 52 ≤ q) → (2 ^ 52 ≤ q) ⊎ (q < 2 ^ 52) → (ofBits binary64 (k * 2 ^ 52 + q) ≡ units binary64 false q k) × T (not (nanBits binary64 (k * 2 ^ 52 + q)))
+    go : (q ≡ 2 ^ 53) ⊎ (q < 2 ^ 53) → (k ≡ 0) ⊎ (2 ^ 52 ≤ q) → (2 ^ 52 ≤ q) ⊎ (q < 2 ^ 52)
+        → (ofBits binary64 (k * 2 ^ 52 + q) ≡ units binary64 false q k) × T (not (nanBits binary64 (k * 2 ^ 52 + q)))
     go (inl e) p s =
         let K = high k (subst (λ (z : ℕ). k * 2 ^ 52 + z < infiniteBits) e l) in
         subst (λ (z : ℕ). (ofBits binary64 (k * 2 ^ 52 + z) ≡ units binary64 false z k) × T (not (nanBits binary64 (k * 2 ^ 52 + z)))) (sym e) (
@@ -101,9 +104,11 @@ count-of-value nan s a h = absurd h
 count-of-value (inf t) s a h = absurd h
 count-of-value (fin t m e) s a h = ap (λ (z : ℕ). z / down e) (h .1) ∙ mul-div-cancel a (down-pos e)
 
-pub bits-value : (s : Bool) (e f a : ℕ) → e < 2 ^ 11 - 1 → f < 2 ^ 52 → a ≡ e * 2 ^ 52 + f → HasValue (ofFields binary64 s e f) s (digitsOf a * 2 ^ placeOf a) (2 ^ 1074)
+pub bits-value : (s : Bool) (e f a : ℕ) → e < 2 ^ 11 - 1 → f < 2 ^ 52 → a ≡ e * 2 ^ 52 + f
+    → HasValue (ofFields binary64 s e f) s (digitsOf a * 2 ^ placeOf a) (2 ^ 1074)
 bits-value s zero f a E h q =
-    subst (λ (z : ℕ). HasValue (ofFields binary64 s 0 f) s z (2 ^ 1074)) (sym (ap (λ (z : ℕ). (a - z * 2 ^ 52) * 2 ^ z) (place a f q h) ∙ mul-one (a - 0 * 2 ^ 52) ∙ digits a f q)) (subnormal-value s f)
+    subst (λ (z : ℕ). HasValue (ofFields binary64 s 0 f) s z (2 ^ 1074))
+    (sym (ap (λ (z : ℕ). (a - z * 2 ^ 52) * 2 ^ z) (place a f q h) ∙ mul-one (a - 0 * 2 ^ 52) ∙ digits a f q)) (subnormal-value s f)
   where
     place : (a f : ℕ) → a ≡ 0 * 2 ^ 52 + f → f < 2 ^ 52 → a / 2 ^ 52 - 1 ≡ 0
     place a f e h = omega arith
@@ -111,7 +116,8 @@ bits-value s zero f a E h q =
     digits : (a f : ℕ) → a ≡ 0 * 2 ^ 52 + f → a - 0 * 2 ^ 52 ≡ f
     digits a f e = omega arith
 bits-value s (suc k) f a E h q =
-    subst (λ (z : ℕ). HasValue (ofFields binary64 s (suc k) f) s z (2 ^ 1074)) (sym (ap (λ (z : ℕ). (a - z * 2 ^ 52) * 2 ^ z) (place a k f q h) ∙ ap (λ (z : ℕ). z * 2 ^ k) (digits a k f q))) (normal-value s k f (le-of-suc-le-suc E))
+    subst (λ (z : ℕ). HasValue (ofFields binary64 s (suc k) f) s z (2 ^ 1074)) (sym (ap (λ (z : ℕ). (a - z * 2 ^ 52) * 2 ^ z) (place a k f q h)
+    ∙ ap (λ (z : ℕ). z * 2 ^ k) (digits a k f q))) (normal-value s k f (le-of-suc-le-suc E))
   where
     place : (a k f : ℕ) → a ≡ suc k * 2 ^ 52 + f → f < 2 ^ 52 → a / 2 ^ 52 - 1 ≡ k
     place a k f e h = omega arith

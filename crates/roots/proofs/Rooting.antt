@@ -1,6 +1,6 @@
--- Finding a root digit by digit. The digits so far are q, the last of them of weight w; rest * w + low is what v exceeds 2 * q * q by, low being what has not come down to rest.
--- The next digit has the weight r, half of w; it is set exactly where 2 * q + r is not above rest, for then 2 * (q + r) * (q + r) is not above v. Then the next digit of low comes
--- down: 1 where low is r or more.
+-- Finding a root digit by digit. The digits so far are q, the last of them of weight w; rest * w + low is what v exceeds 2 * q * q by, low being what has not
+-- come down to rest. The next digit has the weight r, half of w; it is set exactly where 2 * q + r is not above rest, for then 2 * (q + r) * (q + r) is not
+-- above v. Then the next digit of low comes down: 1 where low is r or more.
 use mathlib.Core.Path.{_≡_, refl, sym, ap, _∙_, subst}
 use Prim.Native.Nat.{ℕ, zero, suc, _+_, _-_, _*_, _/_, _%_, _^_, _≤_, _<_}
 use native.Mathlib.Nat.{mul-assoc, mul-left-comm, add-mul, lt-of-mul-lt-mul-right, mul-le-mul-right, pow-succ'}
@@ -40,13 +40,15 @@ set v rest low q r d h =
     let n : q + 2 * r ≡ q + r + r = omega arith in
     let a = d .same in
     record {
-      same = same-is v low (q * q) ((q + r) * (q + r)) (q * r) (r * r) (rest * r) (u * r) (rest * (2 * r)) (2 * u * r) (2 * q * r) ((2 * q + r) * r) a f g k l p s;
+      same = same-is v low (q * q) ((q + r) * (q + r)) (q * r) (r * r) (rest * r) (u * r) (rest * (2 * r)) (2 * u * r) (2 * q * r)
+          ((2 * q + r) * r) a f g k l p s;
       little = d .little;
       next = subst (λ (z : ℕ). v < 2 * (z * z)) n (d .next);
       few = subst (λ (z : ℕ). z ≤ 2 ^ 54) n (d .few);
     }
   where
-    same-is : (v low qq ss qr rr er ur e2 u2 q2 t : ℕ) → v ≡ 2 * qq + e2 + low → e2 ≡ 2 * er → er ≡ t + ur → t ≡ q2 + rr → q2 ≡ 2 * qr → u2 ≡ 2 * ur → ss ≡ qq + 2 * qr + rr → v ≡ 2 * ss + u2 + low
+    same-is : (v low qq ss qr rr er ur e2 u2 q2 t : ℕ) → v ≡ 2 * qq + e2 + low → e2 ≡ 2 * er → er ≡ t + ur → t ≡ q2 + rr → q2 ≡ 2 * qr → u2 ≡ 2 * ur
+        → ss ≡ qq + 2 * qr + rr → v ≡ 2 * ss + u2 + low
     same-is v low qq ss qr rr er ur e2 u2 q2 t a b c d e f g = omega arith
 
 -- it is not
@@ -62,11 +64,13 @@ clear v rest low q r d h =
     record {
       same = d .same ∙ ap (λ (z : ℕ). 2 * (q * q) + z + low) (f ∙ sym p);
       little = d .little;
-      next = next-is v low r (q * q) ((q + r) * (q + r)) (q * r) (r * r) (rest * r) (rest * (2 * r)) ((2 * q + r) * r) (2 * q * r) ((rest + 1) * r) (d .same) (d .little) f k l s m o;
+      next = next-is v low r (q * q) ((q + r) * (q + r)) (q * r) (r * r) (rest * r) (rest * (2 * r)) ((2 * q + r) * r) (2 * q * r) ((rest + 1) * r)
+          (d .same) (d .little) f k l s m o;
       few = fewer q r (d .few);
     }
   where
-    next-is : (v low r qq ss qr rr er e2 t q2 n : ℕ) → v ≡ 2 * qq + e2 + low → low < 2 * r → e2 ≡ 2 * er → t ≡ q2 + rr → q2 ≡ 2 * qr → ss ≡ qq + 2 * qr + rr → n ≤ t → n ≡ er + 1 * r → v < 2 * ss
+    next-is : (v low r qq ss qr rr er e2 t q2 n : ℕ) → v ≡ 2 * qq + e2 + low → low < 2 * r → e2 ≡ 2 * er → t ≡ q2 + rr → q2 ≡ 2 * qr → ss ≡ qq + 2 * qr + rr
+        → n ≤ t → n ≡ er + 1 * r → v < 2 * ss
     next-is v low r qq ss qr rr er e2 t q2 n a b c d e f g h = omega arith
 
     fewer : (q r : ℕ) → q + 2 * r ≤ 2 ^ 54 → q + r ≤ 2 ^ 54
@@ -90,7 +94,8 @@ rest-lt v rest low q w d =
     let k : (4 * q + 2 * w) * w ≡ 4 * q * w + 2 * w * w = add-mul (4 * q) (2 * w) w in
     let l : 4 * q * w ≡ 4 * (q * w) = mul-assoc 4 q w in
     let p : 2 * w * w ≡ 2 * (w * w) = mul-assoc 2 w w in
-    few rest q w (lt-of-mul-lt-mul-right w (small v low (q * q) ((q + w) * (q + w)) (q * w) (w * w) (rest * w) ((4 * q + 2 * w) * w) (4 * q * w) (2 * w * w) (d .same) (d .next) s k l p)) (d .few)
+    few rest q w (lt-of-mul-lt-mul-right w (small v low (q * q) ((q + w) * (q + w)) (q * w) (w * w) (rest * w) ((4 * q + 2 * w) * w) (4 * q * w) (2 * w * w)
+    (d .same) (d .next) s k l p)) (d .few)
   where
     small : (v low qq ss qw ww ew t a b : ℕ) → v ≡ 2 * qq + ew + low → v < 2 * ss → ss ≡ qq + 2 * qw + ww → t ≡ a + b → a ≡ 4 * qw → b ≡ 2 * ww → ew < t
     small v low qq ss qw ww ew t a b c d e f g h = omega arith
@@ -109,7 +114,8 @@ found-small v rest low q r f = (rest-lt v rest low q (2 ^ f .0) (f .2), both q r
     both q r w a b = omega arith
 
 -- one digit more
-pub found-next : (v rest low q r rest′ low′ q′ : ℕ) → (Digits v rest low q (2 * r) → Digits v rest′ low′ q′ r) → (r ≡ 0 → ⊥) → Found v rest low q r → Found v rest′ low′ q′ (r / 2)
+pub found-next : (v rest low q r rest′ low′ q′ : ℕ) → (Digits v rest low q (2 * r) → Digits v rest′ low′ q′ r) → (r ≡ 0 → ⊥) → Found v rest low q r
+    → Found v rest′ low′ q′ (r / 2)
 found-next v rest low q r rest′ low′ q′ go n (zero, e, d) = absurd (n e)
 found-next v rest low q r rest′ low′ q′ go n (suc i, e, d) =
     let p : 2 ^ suc i ≡ 2 * 2 ^ i = pow-succ' 2 i in

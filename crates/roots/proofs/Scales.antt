@@ -1,10 +1,12 @@
--- From significands and places to `hypotOfCount`: the definition drops k digits where the sum of the squares has 105 or 106 digits more than 2 * k, and a q that is nearest there is its
--- significand (`hypot-is`).
+-- From significands and places to `hypotOfCount`: the definition drops k digits where the sum of the squares has 105 or 106 digits more than 2 * k, and a q
+-- that is nearest there is its significand (`hypot-is`).
 use mathlib.Core.Path.{_≡_, refl, sym, ap, _∙_, subst}
 use mathlib.Core.Bool.{false}
 use mathlib.Core.Logic.{_⊎_, inl, inr}
 use Prim.Native.Nat.{ℕ, zero, suc, _+_, _-_, _*_, _/_, _%_, _^_, _≤_, _<_}
-use native.Mathlib.Nat.{mul-assoc, mul-comm, add-mul, mul-add, mul-le-mul, mul-le-mul-right, mul-le-mul-left, mul-lt-mul-of-pos-right, mul-mul-mul-comm, le-trans, le-of-eq, lt-of-not-le, lt-of-lt-of-le, lt-of-le-of-lt, not-le-of-lt, pow-le-pow-right, mul-lt-mul-of-pos-left, lt-of-mul-lt-mul-left, le-of-mul-le-mul-left, le-of-lt, pow-succ'}
+use native.Mathlib.Nat.{mul-assoc, mul-comm, add-mul, mul-add, mul-le-mul, mul-le-mul-right, mul-le-mul-left, mul-lt-mul-of-pos-right}
+use native.Mathlib.Nat.{mul-mul-mul-comm, le-trans, le-of-eq, lt-of-not-le, lt-of-lt-of-le, lt-of-le-of-lt, not-le-of-lt, pow-le-pow-right}
+use native.Mathlib.Nat.{mul-lt-mul-of-pos-left, lt-of-mul-lt-mul-left, le-of-mul-le-mul-left, le-of-lt, pow-succ'}
 use native.Mathlib.Omega.{arith}
 use lib.Dec.{lit<, lit≤}
 use lib.Pow.{pow-add, pow-pos, pow-mono}
@@ -27,7 +29,8 @@ digits-lt n k a h = size-le n (a + 2 * k) (subst (λ (z : ℕ). n < z) (ap (λ (
 
 digits-ge : (n k a : ℕ) → 2 ^ a * 4 ^ k ≤ n → a + 2 * k < size n
 digits-ge n k a h =
-    lt-of-not-le (λ (g : size n ≤ a + 2 * k). not-le-of-lt (lt-of-lt-of-le (size-lt n) (pow-mono g)) (le-trans (le-of-eq (pow-add 2 a (2 * k) ∙ ap (λ (z : ℕ). 2 ^ a * z) (sym (four k)))) h))
+    lt-of-not-le (λ (g : size n ≤ a + 2 * k). not-le-of-lt (lt-of-lt-of-le (size-lt n) (pow-mono g))
+    (le-trans (le-of-eq (pow-add 2 a (2 * k) ∙ ap (λ (z : ℕ). 2 ^ a * z) (sym (four k)))) h))
 
 dropped : (n k : ℕ) → n < 2 ^ 106 * 4 ^ k → (k ≡ 0) ⊎ (2 ^ 104 * 4 ^ k ≤ n) → (size n - 105) / 2 ≡ k
 dropped n k h (inl e) = go (size n) k (digits-lt n k 106 h) e
@@ -43,7 +46,8 @@ pub hypot-is : (n k q : ℕ) → n < 2 ^ 106 * 4 ^ k → (k ≡ 0) ⊎ (2 ^ 104 
 unfolding hypotOfCount
 hypot-is n k q h l a =
     ap (λ (j : ℕ). units binary64 false (evenRoot n j) j) (dropped n k h l)
-    ∙ ap (λ (z : ℕ). units binary64 false z k) (one-even (4 * n) (4 ^ k) (evenRoot n k) q (four-pos k) (even-root n k (four-pos k) (subst (λ (z : ℕ). n < z * 4 ^ k) refl h)) a)
+    ∙ ap (λ (z : ℕ). units binary64 false z k)
+    (one-even (4 * n) (4 ^ k) (evenRoot n k) q (four-pos k) (even-root n k (four-pos k) (subst (λ (z : ℕ). n < z * 4 ^ k) refl h)) a)
 
 -- ---- four times n, for what is nearest to it
 four-lt : (n c : ℕ) → n < 2 ^ 106 * c → 4 * n < 2 ^ 108 * c
@@ -77,7 +81,8 @@ split-place p k h = omega arith
 
 pub sum-is : (m n p k : ℕ) → k ≤ p → sumOf m n p k ≡ (m * m * 4 ^ k + n * n) * 4 ^ (p - k)
 sum-is m n p k h =
-    ap (λ (z : ℕ). z + n * 2 ^ (p - k) * (n * 2 ^ (p - k))) (square-power m p ∙ ap (λ (z : ℕ). m * m * z) (ap (λ (z : ℕ). 4 ^ z) (sym (split-place p k h)) ∙ pow-add 4 k (p - k)) ∙ sym (mul-assoc (m * m) (4 ^ k) (4 ^ (p - k))))
+    ap (λ (z : ℕ). z + n * 2 ^ (p - k) * (n * 2 ^ (p - k))) (square-power m p
+    ∙ ap (λ (z : ℕ). m * m * z) (ap (λ (z : ℕ). 4 ^ z) (sym (split-place p k h)) ∙ pow-add 4 k (p - k)) ∙ sym (mul-assoc (m * m) (4 ^ k) (4 ^ (p - k))))
     ∙ ap (λ (z : ℕ). m * m * 4 ^ k * 4 ^ (p - k) + z) (square-power n (p - k))
     ∙ sym (add-mul (m * m * 4 ^ k) (n * n) (4 ^ (p - k)))
 
@@ -87,7 +92,8 @@ lifted m n p k j q h a =
     let d = 4 ^ (p - k) in
     let e : 4 * (m * m * 4 ^ k + n * n) * d ≡ 4 * sumOf m n p k = mul-assoc 4 (m * m * 4 ^ k + n * n) d ∙ ap (λ (z : ℕ). 4 * z) (sym (sum-is m n p k h)) in
     let f : 4 ^ (k + j) * d ≡ 4 ^ (p + j) = four-add (k + j) (p - k) ∙ ap (λ (z : ℕ). 4 ^ z) (sum p k j h) in
-    subst (λ (z : ℕ). NearestEven z (4 ^ (p + j)) q) e (subst (λ (z : ℕ). NearestEven (4 * (m * m * 4 ^ k + n * n) * d) z q) f (scaled _ _ q d (four-pos (p - k)) a))
+    subst (λ (z : ℕ). NearestEven z (4 ^ (p + j)) q) e
+    (subst (λ (z : ℕ). NearestEven (4 * (m * m * 4 ^ k + n * n) * d) z q) f (scaled _ _ q d (four-pos (p - k)) a))
   where
     sum : (p k j : ℕ) → k ≤ p → k + j + (p - k) ≡ p + j
     sum p k j h = omega arith
@@ -96,7 +102,8 @@ lifted m n p k j q h a =
 pub sum-lt : (m n p k j a : ℕ) → k ≤ p → m * m * 4 ^ k + n * n < a * 4 ^ (k + j) → sumOf m n p k < a * 4 ^ (p + j)
 sum-lt m n p k j a h l =
     lt-of-le-of-lt (le-of-eq (sum-is m n p k h))
-    (lt-of-lt-of-le (mul-lt-mul-of-pos-right l (four-pos (p - k))) (le-of-eq (mul-assoc a (4 ^ (k + j)) (4 ^ (p - k)) ∙ ap (λ (z : ℕ). a * z) (four-add (k + j) (p - k) ∙ ap (λ (z : ℕ). 4 ^ z) (sum p k j h)))))
+    (lt-of-lt-of-le (mul-lt-mul-of-pos-right l (four-pos (p - k)))
+    (le-of-eq (mul-assoc a (4 ^ (k + j)) (4 ^ (p - k)) ∙ ap (λ (z : ℕ). a * z) (four-add (k + j) (p - k) ∙ ap (λ (z : ℕ). 4 ^ z) (sum p k j h)))))
   where
     sum : (p k j : ℕ) → k ≤ p → k + j + (p - k) ≡ p + j
     sum p k j h = omega arith
@@ -122,7 +129,8 @@ pub far : (m n p r : ℕ) → 2 ^ 52 ≤ m → m < 2 ^ 53 → n < 2 ^ 53 → r +
 far m n p r L M N h =
     let c = 4 ^ p in
     let y = n * n * 4 ^ r in
-    let e : m * 2 ^ p * (m * 2 ^ p) + n * 2 ^ r * (n * 2 ^ r) ≡ m * m * c + y = ap (λ (z : ℕ). z + n * 2 ^ r * (n * 2 ^ r)) (square-power m p) ∙ ap (λ (z : ℕ). m * m * c + z) (square-power n r) in
+    let e : m * 2 ^ p * (m * 2 ^ p) + n * 2 ^ r * (n * 2 ^ r) ≡ m * m * c + y = ap (λ (z : ℕ). z + n * 2 ^ r * (n * 2 ^ r)) (square-power m p)
+    ∙ ap (λ (z : ℕ). m * m * c + z) (square-power n r) in
     let nn : n * n < 2 ^ 106 = mul-lt (2 ^ 53) (2 ^ 53) (lit< tt) N N in
     let Y : y < m * c =
     lt-of-lt-of-le (mul-lt-mul-of-pos-right nn (four-pos r))
@@ -211,13 +219,15 @@ module _ (m n p k v w j r : ℕ) (M : m < 2 ^ 53) (N : n < 2 ^ 53) (P : (p ≡ 0
   f = m * m * 4 ^ k + n * n
 
   eight : u ≡ 8 * f
-  eight = ap (λ (z : ℕ). z + 8 * (n * n)) (mul-assoc 8 (m * m) (2 ^ (2 * k)) ∙ ap (λ (z : ℕ). 8 * (m * m * z)) (sym (four k))) ∙ sym (mul-add 8 (m * m * 4 ^ k) (n * n))
+  eight = ap (λ (z : ℕ). z + 8 * (n * n)) (mul-assoc 8 (m * m) (2 ^ (2 * k)) ∙ ap (λ (z : ℕ). 8 * (m * m * z)) (sym (four k)))
+      ∙ sym (mul-add 8 (m * m * 4 ^ k) (n * n))
 
   at-f : NearestEven (4 * f) (4 ^ (k + j)) r
   at-f =
       unscaled (4 * f) (4 ^ (k + j)) r 2 (lit< tt)
       (subst (λ (z : ℕ). NearestEven z (4 ^ (k + j) * 2) r) (eight ∙ twice f)
-      (subst (λ (z : ℕ). NearestEven u z r) (mul-comm 2 (2 ^ (2 * k + 2 * j)) ∙ ap (λ (z : ℕ). z * 2) (ap (λ (z : ℕ). 2 ^ z) (sum k j) ∙ sym (four (k + j)))) (nearest-lowered u w (2 * k + 2 * j) r (lowered-both u v w (2 * k) (2 * j) a b) near)))
+      (subst (λ (z : ℕ). NearestEven u z r) (mul-comm 2 (2 ^ (2 * k + 2 * j)) ∙ ap (λ (z : ℕ). z * 2) (ap (λ (z : ℕ). 2 ^ z) (sum k j) ∙ sym (four (k + j))))
+      (nearest-lowered u w (2 * k + 2 * j) r (lowered-both u v w (2 * k) (2 * j) a b) near)))
     where
       twice : (f : ℕ) → 8 * f ≡ 4 * f * 2
       twice f = omega arith
@@ -227,10 +237,12 @@ module _ (m n p k v w j r : ℕ) (M : m < 2 ^ 53) (N : n < 2 ^ 53) (P : (p ≡ 0
 
   -- v against a number of digits
   under : (d : ℕ) → 8 * d % 2 ≡ 0 → v < 8 * d → f < d * 4 ^ k
-  under d e h = lt-of-mul-lt-mul-left 8 (lt-of-le-of-lt (le-of-eq (sym eight)) (lt-of-lt-of-le (less-than u v (2 * k) (8 * d) e a h) (le-of-eq (mul-assoc 8 d (2 ^ (2 * k)) ∙ ap (λ (z : ℕ). 8 * (d * z)) (sym (four k))))))
+  under d e h = lt-of-mul-lt-mul-left 8 (lt-of-le-of-lt (le-of-eq (sym eight))
+      (lt-of-lt-of-le (less-than u v (2 * k) (8 * d) e a h) (le-of-eq (mul-assoc 8 d (2 ^ (2 * k)) ∙ ap (λ (z : ℕ). 8 * (d * z)) (sym (four k))))))
 
   not-under : (d : ℕ) → 8 * d % 2 ≡ 0 → 8 * d ≤ v → d * 4 ^ k ≤ f
-  not-under d e h = le-of-mul-le-mul-left (le-trans (le-of-eq (ap (λ (z : ℕ). 8 * (d * z)) (four k) ∙ sym (mul-assoc 8 d (2 ^ (2 * k))))) (le-trans (at-least u v (2 * k) (8 * d) e a h) (le-of-eq eight))) (lit< {m = 0} {n = 8} tt)
+  not-under d e h = le-of-mul-le-mul-left (le-trans (le-of-eq (ap (λ (z : ℕ). 8 * (d * z)) (four k) ∙ sym (mul-assoc 8 d (2 ^ (2 * k)))))
+      (le-trans (at-least u v (2 * k) (8 * d) e a h) (le-of-eq eight))) (lit< {m = 0} {n = 8} tt)
 
   pub by-sum : More v j → Hits (sumOf m n p k) (p + j) r
   by-sum (inl (e, h)) =
@@ -249,13 +261,15 @@ module _ (m n p k v w j r : ℕ) (M : m < 2 ^ 53) (N : n < 2 ^ 53) (P : (p ≡ 0
           zero-both : (p j : ℕ) → p ≡ 0 → j ≡ 0 → p + j ≡ 0
           zero-both p j a b = omega arith
       first (inr q) =
-          inr (sum-ge m n p k j (2 ^ 104) K (subst (λ (z : ℕ). 2 ^ 104 * 4 ^ z ≤ f) (plain k j e) (le-trans (mul-le-mul-right (4 ^ k) (mul-le-mul q q)) (front (m * m * 4 ^ k) (n * n)))))
+          inr (sum-ge m n p k j (2 ^ 104) K
+          (subst (λ (z : ℕ). 2 ^ 104 * 4 ^ z ≤ f) (plain k j e) (le-trans (mul-le-mul-right (4 ^ k) (mul-le-mul q q)) (front (m * m * 4 ^ k) (n * n)))))
         where
           front : (a b : ℕ) → a ≤ a + b
           front a b = omega arith
   by-sum (inr (e, l, h)) =
       let g : 4 * 4 ^ k ≡ 4 ^ (k + j) = sym (pow-succ' 4 k) ∙ ap (λ (z : ℕ). 4 ^ z) (next k j e) in
-      let x : 2 ^ 107 * 4 ^ k ≤ 2 ^ 106 * 4 ^ (k + j) = le-trans (mul-le-mul-right (4 ^ k) (lit≤ {m = 2 ^ 107} {n = 2 ^ 106 * 4} tt)) (le-of-eq (mul-assoc (2 ^ 106) 4 (4 ^ k) ∙ ap (λ (z : ℕ). 2 ^ 106 * z) g)) in
+      let x : 2 ^ 107 * 4 ^ k ≤ 2 ^ 106 * 4 ^ (k + j) = le-trans (mul-le-mul-right (4 ^ k) (lit≤ {m = 2 ^ 107} {n = 2 ^ 106 * 4} tt))
+      (le-of-eq (mul-assoc (2 ^ 106) 4 (4 ^ k) ∙ ap (λ (z : ℕ). 2 ^ 106 * z) g)) in
       let y : 2 ^ 104 * 4 ^ (k + j) ≡ 2 ^ 106 * 4 ^ k = ap (λ (z : ℕ). 2 ^ 104 * z) (sym g) ∙ sym (mul-assoc (2 ^ 104) 4 (4 ^ k)) in
       record {
         high = sum-lt m n p k j (2 ^ 106) K (lt-of-lt-of-le (under (2 ^ 107) refl h) x);

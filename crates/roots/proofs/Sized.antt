@@ -34,12 +34,15 @@ sized a h = record { few = omega arith; enough = go (a / 2 ^ 52) refl; place = o
 pub sizes-infinite : (a b : ℕ) → infiniteBits ≤ a → inf false ≡ ofSizes a b
 unfolding ofSizes
 sizes-infinite a b h =
-    sym (ap (λ (t : Bool). cond t (inf false) (hypotOfCount (digitsOf a * 2 ^ placeOf a * (digitsOf a * 2 ^ placeOf a) + digitsOf b * 2 ^ placeOf b * (digitsOf b * 2 ^ placeOf b)))) (is-true (leb infiniteBits a) (le→leb infiniteBits a h)))
+    sym (ap (λ (t : Bool). cond t (inf false) (hypotOfCount (digitsOf a * 2 ^ placeOf a * (digitsOf a * 2 ^ placeOf a) + digitsOf b * 2 ^ placeOf b
+    * (digitsOf b * 2 ^ placeOf b)))) (is-true (leb infiniteBits a) (le→leb infiniteBits a h)))
 
-pub sizes-finite : (a b : ℕ) → a < infiniteBits → hypotOfCount (digitsOf a * 2 ^ placeOf a * (digitsOf a * 2 ^ placeOf a) + digitsOf b * 2 ^ placeOf b * (digitsOf b * 2 ^ placeOf b)) ≡ ofSizes a b
+pub sizes-finite : (a b : ℕ) → a < infiniteBits
+    → hypotOfCount (digitsOf a * 2 ^ placeOf a * (digitsOf a * 2 ^ placeOf a) + digitsOf b * 2 ^ placeOf b * (digitsOf b * 2 ^ placeOf b)) ≡ ofSizes a b
 unfolding ofSizes
 sizes-finite a b h =
-    sym (ap (λ (t : Bool). cond t (inf false) (hypotOfCount (digitsOf a * 2 ^ placeOf a * (digitsOf a * 2 ^ placeOf a) + digitsOf b * 2 ^ placeOf b * (digitsOf b * 2 ^ placeOf b)))) (is-false (leb infiniteBits a) (not-T (leb infiniteBits a) (λ t. no a h (leb→le infiniteBits a t)))))
+    sym (ap (λ (t : Bool). cond t (inf false) (hypotOfCount (digitsOf a * 2 ^ placeOf a * (digitsOf a * 2 ^ placeOf a) + digitsOf b * 2 ^ placeOf b
+    * (digitsOf b * 2 ^ placeOf b)))) (is-false (leb infiniteBits a) (not-T (leb infiniteBits a) (λ t. no a h (leb→le infiniteBits a t)))))
   where
     no : (a : ℕ) → a < infiniteBits → infiniteBits ≤ a → ⊥
     no a h l = omega arith
@@ -52,7 +55,8 @@ module _ (n k q : ℕ) (h : Hits n k q) (K : k ≤ 2046) where
   few : q ≤ 2 ^ 53
   few = few-digits n k q (h .high) (h .nearest)
 
-  pub result-is : k * 2 ^ 52 % 2 ^ 64 + q < infiniteBits → (ofBits binary64 (k * 2 ^ 52 % 2 ^ 64 + q) ≡ hypotOfCount n) × T (not (nanBits binary64 (k * 2 ^ 52 % 2 ^ 64 + q)))
+  pub result-is : k * 2 ^ 52 % 2 ^ 64 + q < infiniteBits → (ofBits binary64 (k * 2 ^ 52 % 2 ^ 64 + q) ≡ hypotOfCount n)
+      × T (not (nanBits binary64 (k * 2 ^ 52 % 2 ^ 64 + q)))
   result-is l =
       subst (λ (z : ℕ). (ofBits binary64 (z + q) ≡ hypotOfCount n) × T (not (nanBits binary64 (z + q)))) (sym exact)
       (let p = packed q k few (all-digits n k q (h .low) (h .nearest)) (subst (λ (z : ℕ). z + q < infiniteBits) exact l) in (p .0 ∙ sym (hit h), p .1))
@@ -109,7 +113,8 @@ magnitude x h n =
     let s = leb (2 ^ 63) b in
     let e = apart x s h refl in
     subst (λ (z : Float). Magnitude z (bitAnd b (2 ^ 63 - 1))) (sym e)
-    (go s (exponentOf b) (fractionOf b) (bitAnd b (2 ^ 63 - 1)) (eq-or-lt-of-le (le-of-suc-le-suc (exponent-lt b))) (fraction-lt b) (parts b _ _ _ (and-mask b 63) (and-mask (b / 2 ^ 52) 11) (and-mask b 52)) (subst (λ (z : Float). T (not (isNan z))) e n))
+    (go s (exponentOf b) (fractionOf b) (bitAnd b (2 ^ 63 - 1)) (eq-or-lt-of-le (le-of-suc-le-suc (exponent-lt b))) (fraction-lt b)
+    (parts b _ _ _ (and-mask b 63) (and-mask (b / 2 ^ 52) 11) (and-mask b 52)) (subst (λ (z : Float). T (not (isNan z))) e n))
   where
     parts : (b a e f : ℕ) → a ≡ b % 2 ^ 63 → e ≡ b / 2 ^ 52 % 2 ^ 11 → f ≡ b % 2 ^ 52 → a ≡ e * 2 ^ 52 + f
     parts b a e f p q r = omega arith
@@ -137,7 +142,8 @@ module _ (x y : Float) (a b : ℕ) where
   unfolding hypotOf
   hypot-of-infinite i j e f h = rw (e, f, h)
 
-  hypot-of-finite : infinite x ≡ false → infinite y ≡ false → isNan x ≡ false → isNan y ≡ false → hypotOf x y ≡ hypotOfCount (countOf x * countOf x + countOf y * countOf y)
+  hypot-of-finite : infinite x ≡ false → infinite y ≡ false → isNan x ≡ false → isNan y ≡ false
+      → hypotOf x y ≡ hypotOfCount (countOf x * countOf x + countOf y * countOf y)
   unfolding hypotOf
   hypot-of-finite e f g h = rw (e, f, g, h)
 
@@ -151,8 +157,10 @@ module _ (x y : Float) (a b : ℕ) where
       ∙ ordered (leb b a) (leb→le b a) (nleb→lt b a)
     where
       ordered : (t : Bool) → (T t → b ≤ a) → (T (not t) → a < b)
-          → hypotOfCount (digitsOf a * 2 ^ placeOf a * (digitsOf a * 2 ^ placeOf a) + digitsOf b * 2 ^ placeOf b * (digitsOf b * 2 ^ placeOf b)) ≡ ofSizes (max a b) (min a b)
-      ordered true f g = let l = f tt in sizes-finite a b (h .below) ∙ ap (λ (z : ℕ). ofSizes z b) (higher a b l) ∙ ap (λ (z : ℕ). ofSizes (max a b) z) (lower a b l)
+          → hypotOfCount (digitsOf a * 2 ^ placeOf a * (digitsOf a * 2 ^ placeOf a) + digitsOf b * 2 ^ placeOf b * (digitsOf b * 2 ^ placeOf b))
+          ≡ ofSizes (max a b) (min a b)
+      ordered true f g = let l = f tt in sizes-finite a b (h .below) ∙ ap (λ (z : ℕ). ofSizes z b) (higher a b l)
+          ∙ ap (λ (z : ℕ). ofSizes (max a b) z) (lower a b l)
         where
           higher : (a b : ℕ) → b ≤ a → a ≡ max a b
           higher a b l = omega arith
@@ -160,7 +168,8 @@ module _ (x y : Float) (a b : ℕ) where
           lower : (a b : ℕ) → b ≤ a → b ≡ min a b
           lower a b l = omega arith
       ordered false f g = let l = g tt in
-          ap hypotOfCount (add-comm _ _) ∙ sizes-finite b a (k .below) ∙ ap (λ (z : ℕ). ofSizes z a) (higher a b l) ∙ ap (λ (z : ℕ). ofSizes (max a b) z) (lower a b l)
+          ap hypotOfCount (add-comm _ _) ∙ sizes-finite b a (k .below) ∙ ap (λ (z : ℕ). ofSizes z a) (higher a b l)
+          ∙ ap (λ (z : ℕ). ofSizes (max a b) z) (lower a b l)
         where
           higher : (a b : ℕ) → a < b → b ≡ max a b
           higher a b l = omega arith
@@ -175,4 +184,5 @@ module _ (x y : Float) (a b : ℕ) where
 -- one is a NaN
 pub hypot-nan : (x y r : Float) → (isNan x || isNan y) ≡ true → r ≡ cond (infinite x || infinite y) (inf false) nan → r ≡ hypotOf x y
 unfolding hypotOf
-hypot-nan x y r e h = h ∙ ap (λ (t : Bool). cond (infinite x || infinite y) (inf false) (cond t nan (hypotOfCount (countOf x * countOf x + countOf y * countOf y)))) (sym e)
+hypot-nan x y r e h = h ∙ ap
+    (λ (t : Bool). cond (infinite x || infinite y) (inf false) (cond t nan (hypotOfCount (countOf x * countOf x + countOf y * countOf y)))) (sym e)

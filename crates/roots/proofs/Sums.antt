@@ -51,7 +51,8 @@ odd-number d s (suc q) k l = refl
 
 units-number : (s : Bool) (q k : ℕ) → isNan (units binary64 s q k) ≡ false
 unfolding units
-units-number s q k = either (λ (x : Float). isNan x ≡ false) (ltb (q * 2 ^ k) (2 ^ 2098)) (odd 54 s q k 1074) (inf s) (λ h. odd-number 54 s q k 1074) (λ h. unfold isNan in refl)
+units-number s q k = either (λ (x : Float). isNan x ≡ false) (ltb (q * 2 ^ k) (2 ^ 2098)) (odd 54 s q k 1074) (inf s) (λ h. odd-number 54 s q k 1074)
+    (λ h. unfold isNan in refl)
 
 round-number : (s : Bool) (n d : ℕ) → isNan (round binary64 s n d) ≡ false
 unfolding round kept
@@ -60,14 +61,17 @@ round-number s n d = units-number s (kept n d) (size (n * 2 ^ 1074 / d) - 53)
 sum-number : (s : Bool) (a : ℕ) (t : Bool) (b c : ℕ) → isNan (sum binary64 s a t b c) ≡ false
 unfolding sum
 sum-number s a t b c =
-    either (λ (x : Float). isNan x ≡ false) (Bool·beq s t) (round binary64 s (a + b) c) (cond (ltb a b) (round binary64 t (b - a) c) (round binary64 (s && ltb b a) (a - b) c)) (λ h. round-number s (a + b) c)
-    (λ h. either (λ (x : Float). isNan x ≡ false) (ltb a b) (round binary64 t (b - a) c) (round binary64 (s && ltb b a) (a - b) c) (λ k. round-number t (b - a) c) (λ k. round-number (s && ltb b a) (a - b) c))
+    either (λ (x : Float). isNan x ≡ false) (Bool·beq s t) (round binary64 s (a + b) c)
+    (cond (ltb a b) (round binary64 t (b - a) c) (round binary64 (s && ltb b a) (a - b) c)) (λ h. round-number s (a + b) c)
+    (λ h. either (λ (x : Float). isNan x ≡ false) (ltb a b) (round binary64 t (b - a) c) (round binary64 (s && ltb b a) (a - b) c)
+    (λ k. round-number t (b - a) c) (λ k. round-number (s && ltb b a) (a - b) c))
 
 add-number : (x y : Float) → Upright x → Upright y → isNan (add binary64 x y) ≡ false
 unfolding add isNan Upright
 add-number nan y a b = absurd a
 add-number (inf s) nan a b = absurd b
-add-number (inf s) (inf t) a b = subst (λ (z : Bool). isNan (cond (Bool·beq z t) (inf z) nan) ≡ false) (sym a) (subst (λ (z : Bool). isNan (cond (Bool·beq false z) (inf false) nan) ≡ false) (sym b) refl)
+add-number (inf s) (inf t) a b = subst (λ (z : Bool). isNan (cond (Bool·beq z t) (inf z) nan) ≡ false) (sym a)
+    (subst (λ (z : Bool). isNan (cond (Bool·beq false z) (inf false) nan) ≡ false) (sym b) refl)
 add-number (inf s) (fin t n d) a b = refl
 add-number (fin s m e) nan a b = absurd b
 add-number (fin s m e) (inf t) a b = refl
@@ -75,7 +79,8 @@ add-number (fin s m e) (fin t n d) a b = sum-number s (m * up e * down d) t (n *
 
 -- a NaN comes from one
 pub one-nan : (x y : Float) → isNan (squares x y) ≡ true → (isNan x || isNan y) ≡ true
-one-nan x y h = by-test (isNan x) (λ e. rw e refl) (λ e. by-test (isNan y) (λ f. rw (e, f) refl) (λ f. absurd (no (sym (add-number _ _ (square-upright x e) (square-upright y f)) ∙ h))))
+one-nan x y h = by-test (isNan x) (λ e. rw e refl)
+    (λ e. by-test (isNan y) (λ f. rw (e, f) refl) (λ f. absurd (no (sym (add-number _ _ (square-upright x e) (square-upright y f)) ∙ h))))
 
 -- and gives one
 pub first-number : (x y : Float) → ne (squares x y) (squares x y) ≡ false → T (not (isNan x))

@@ -2,7 +2,8 @@
 use mathlib.Core.Path.{_≡_, refl, sym, ap, _∙_, subst}
 use mathlib.Core.Bool.{true, false, not}
 use Prim.Native.Nat.{ℕ, zero, suc, _+_, _-_, _*_, _/_, _%_, _^_, _≤_, _<_}
-use native.Mathlib.Nat.{le-antisymm, mod-lt, le-of-eq, le-of-suc-le-suc, lt-of-not-le, lt-of-lt-of-le, le-trans, not-le-of-lt, mul-assoc, mul-right-comm, mul-one, mul-div-cancel, mul-le-mul-right, div-one, pow-suc}
+use native.Mathlib.Nat.{le-antisymm, mod-lt, le-of-eq, le-of-suc-le-suc, lt-of-not-le, lt-of-lt-of-le, le-trans, not-le-of-lt}
+use native.Mathlib.Nat.{mul-assoc, mul-right-comm, mul-one, mul-div-cancel, mul-le-mul-right, div-one, pow-suc}
 use native.Mathlib.Omega.{arith}
 use lib.IntN.{ℤ, pos, negsuc}
 use lib.Dec.{T, lt→ltb, lit<}
@@ -31,9 +32,11 @@ pub root-same : (x y : Float) (a c b d : ℕ) → 0 < a → 0 < b → 0 < c → 
 root-same x y a c b d A B C D h k e =
     let u = value→cross x a c h in
     let v = value→cross y b d k in
-    let w : num x * den y ≡ num y * den x = le-antisymm (transfer (num x) (num y) (den x) (den y) a b c d C D u v (le-of-eq e)) (transfer (num y) (num x) (den y) (den x) b a d c D C v u (le-of-eq (sym e))) in
+    let w : num x * den y ≡ num y * den x = le-antisymm (transfer (num x) (num y) (den x) (den y) a b c d C D u v (le-of-eq e))
+    (transfer (num y) (num x) (den y) (den x) b a d c D C v u (le-of-eq (sym e))) in
     root-is x (positive-of-value x a c h A)
-    ∙ ap rootOfUnits (div-same (num x * 2 ^ 2148) (den x) (num y * 2 ^ 2148) (den y) (den-pos x) (den-pos y) (mul-right-comm (num x) (2 ^ 2148) (den y) ∙ ap (λ (z : ℕ). z * 2 ^ 2148) w ∙ mul-right-comm (num y) (den x) (2 ^ 2148)))
+    ∙ ap rootOfUnits (div-same (num x * 2 ^ 2148) (den x) (num y * 2 ^ 2148) (den y) (den-pos x) (den-pos y) (mul-right-comm (num x) (2 ^ 2148) (den y)
+    ∙ ap (λ (z : ℕ). z * 2 ^ 2148) w ∙ mul-right-comm (num y) (den x) (2 ^ 2148)))
     ∙ sym (root-is y (positive-of-value y b d k B))
 
 pub four : (k : ℕ) → 4 ^ k ≡ 2 ^ (2 * k)
@@ -67,7 +70,8 @@ units-root m e l h =
     let k = e / 2 in
     let n = m * 2 ^ (e % 2) * 2 ^ 52 in
     ap (λ (j : ℕ). units binary64 false (nearestRoot (p / 4 ^ j)) j) z
-    ∙ ap (λ (x : ℕ). units binary64 false (nearestRoot x) k) (ap (λ (x : ℕ). x / 4 ^ k) (units-square m e) ∙ mul-div-cancel n (subst (λ (x : ℕ). 0 < x) (sym (four k)) (pow-pos (2 * k))))
+    ∙ ap (λ (x : ℕ). units binary64 false (nearestRoot x) k) (ap (λ (x : ℕ). x / 4 ^ k) (units-square m e)
+    ∙ mul-div-cancel n (subst (λ (x : ℕ). 0 < x) (sym (four k)) (pow-pos (2 * k))))
   where
     digits : (e : ℕ) → 53 + (52 + e) ≡ suc (52 + (52 + e))
     digits e = omega arith
@@ -87,7 +91,8 @@ drop-down m a l h =
 
 lifted-is : (m : ℕ) (e : ℤ) → down e ≤ 2 ^ 1126 → m * up e * 2 ^ 2148 / down e ≡ m * 2 ^ (52 + lifted e)
 unfolding lifted
-lifted-is m (pos a) h = div-one (m * 2 ^ a * 2 ^ 2148) ∙ mul-assoc m (2 ^ a) (2 ^ 2148) ∙ ap (λ (x : ℕ). m * x) (sym (pow-add 2 a 2148)) ∙ ap (λ (x : ℕ). m * 2 ^ x) (sum a)
+lifted-is m (pos a) h = div-one (m * 2 ^ a * 2 ^ 2148) ∙ mul-assoc m (2 ^ a) (2 ^ 2148) ∙ ap (λ (x : ℕ). m * x) (sym (pow-add 2 a 2148))
+    ∙ ap (λ (x : ℕ). m * 2 ^ x) (sum a)
   where
     sum : (a : ℕ) → a + 2148 ≡ 52 + (a + 2096)
     sum a = omega arith
@@ -138,7 +143,8 @@ shifted m (suc (suc r)) l h a = absurd (none r a)
     none : (r : ℕ) → suc (suc r) < 2 → ⊥
     none r h = omega arith
 
-module _ (m : ℕ) (e : ℤ) (r k q : ℕ) (l : 2 ^ 52 ≤ m) (h : m < 2 ^ 53) (x : Exponent e) (o : r ≡ lifted e % 2) (p : k ≡ lifted e / 2) (a : Nearest (m * 2 ^ r * 2 ^ 52) q) where
+module _ (m : ℕ) (e : ℤ) (r k q : ℕ) (l : 2 ^ 52 ≤ m) (h : m < 2 ^ 53) (x : Exponent e) (o : r ≡ lifted e % 2) (p : k ≡ lifted e / 2)
+    (a : Nearest (m * 2 ^ r * 2 ^ 52) q) where
   is-nearest : Nearest (m * 2 ^ (lifted e % 2) * 2 ^ 52) q
   is-nearest = subst (λ (z : ℕ). Nearest (m * 2 ^ z * 2 ^ 52) q) o a
 

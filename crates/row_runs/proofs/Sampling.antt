@@ -45,17 +45,22 @@ module _ (under : Run → Float) (p : Parameters) (r : Float) where
       es : List Ends
       es = directed (s .rows + 1) (stretchesOf (onLevel under (aimOf p r l) lane) (lane .samples))
 
-      by : (b : Bool) → cond b (foundFrom s) (record { rows = s .rows + 1; pieces = halvesOfAll under p r (s .stretches) ++ piecesAlong under (aimOf p r l) lane es }) ≡ foundFrom (cond b s (record { rows = s .rows + 1; stretches = s .stretches ++ stretchesAlong lane es }))
+      by : (b : Bool) → cond b (foundFrom s)
+          (record { rows = s .rows + 1; pieces = halvesOfAll under p r (s .stretches) ++ piecesAlong under (aimOf p r l) lane es })
+          ≡ foundFrom (cond b s (record { rows = s .rows + 1; stretches = s .stretches ++ stretchesAlong lane es }))
       by true = refl
       by false = rw (along-halved l lane es, all-append (s .stretches) (stretchesAlong lane es))
 
-  rows-halved : (l : Level) (lane : ℕ → Lane) (n : ℕ) (s : Sampled) (row : ℕ) → rowsFound under (aimOf p r l) lane (foundFrom s) row n ≡ foundFrom (rowsSampled under (aimOf p r l) lane s row n)
+  rows-halved : (l : Level) (lane : ℕ → Lane) (n : ℕ) (s : Sampled) (row : ℕ)
+      → rowsFound under (aimOf p r l) lane (foundFrom s) row n ≡ foundFrom (rowsSampled under (aimOf p r l) lane s row n)
   unfolding rowsFound rowsSampled
   rows-halved l lane zero s row = refl
   rows-halved l lane (suc n) s row =
-      ap (λ (f : Found). rowsFound under (aimOf p r l) lane f (row + 1) n) (row-halved l s (lane row)) ∙ rows-halved l lane n (rowSampled under (aimOf p r l) s (lane row)) (row + 1)
+      ap (λ (f : Found). rowsFound under (aimOf p r l) lane f (row + 1) n) (row-halved l s (lane row))
+      ∙ rows-halved l lane n (rowSampled under (aimOf p r l) s (lane row)) (row + 1)
 
-  pub levels-halved : (axis : Axis) (ls : List Level) (s : Sampled) → levelsFound under p axis r (foundFrom s) ls ≡ foundFrom (levelsSampled under p axis r s ls)
+  pub levels-halved : (axis : Axis) (ls : List Level) (s : Sampled)
+      → levelsFound under p axis r (foundFrom s) ls ≡ foundFrom (levelsSampled under p axis r s ls)
   unfolding levelsFound levelFound levelsSampled levelSampled
   levels-halved axis [] s = refl
   levels-halved axis (l ∷ ls) s =

@@ -94,8 +94,10 @@ module _ (under : Run → Float) (a : Aim) (l : Lane) where
       unfolding endedAt piecesAlong takenAll empty
       short-row h = let e = le-ltb 1 (w .k) h in record { number = refl; some = rw e (had-none (w .some)); taken = rw e }
 
-      pub long-row : (t′ : List Float) (first last : ℕ) (r : Run) (s : Stand) → 1 < w .k → first ≡ numberOf forward (l .samples) (j - w .k) → last ≡ numberOf forward (l .samples) (j - 1) → r ≡ between l first last
-          → work t′ (s .tally) ≡ takenAll (work t (w .stand .tally)) (piecesOf (clear under a) (a .least) 32 r) → Ended under a l forward j w t (record { k = 0; some = true; stand = s }) t′
+      pub long-row : (t′ : List Float) (first last : ℕ) (r : Run) (s : Stand) → 1 < w .k → first ≡ numberOf forward (l .samples) (j - w .k)
+          → last ≡ numberOf forward (l .samples) (j - 1) → r ≡ between l first last
+          → work t′ (s .tally) ≡ takenAll (work t (w .stand .tally)) (piecesOf (clear under a) (a .least) 32 r)
+          → Ended under a l forward j w t (record { k = 0; some = true; stand = s }) t′
       unfolding endedAt piecesAlong empty
       long-row t′ first last r s h p q d x =
           let e = lt-ltb 1 (w .k) h in
@@ -107,15 +109,19 @@ module _ (under : Run → Float) (a : Aim) (l : Lane) where
 
     -- ---- one sample, on the level and off it
 
-    module _ (j : ℕ) (w : Walked) (t : List Float) (w′ : Walked) (t′ : List Float) (i : ℕ) (o : Bool) (p : i ≡ numberOf forward (l .samples) j) (q : o ≡ onLevel under a l i) where
+    module _ (j : ℕ) (w : Walked) (t : List Float) (w′ : Walked) (t′ : List Float) (i : ℕ) (o : Bool) (p : i ≡ numberOf forward (l .samples) j)
+        (q : o ≡ onLevel under a l i) where
       seen : on j ≡ o
       seen = ap (onLevel under a l) (sym p) ∙ sym q
 
-      pub advanced-on : o ≡ true → w′ .k ≡ w .k + 1 → w′ .some ≡ w .some → work t′ (w′ .stand .tally) ≡ work t (w .stand .tally) → Advanced under a l forward j w t w′ t′
+      pub advanced-on : o ≡ true → w′ .k ≡ w .k + 1 → w′ .some ≡ w .some → work t′ (w′ .stand .tally) ≡ work t (w .stand .tally)
+          → Advanced under a l forward j w t w′ t′
       advanced-on e x y z = record { on = λ _. (x, y, z); off = λ f. absurd (no (sym f ∙ seen ∙ e)) }
 
-      pub advanced-off : (stamp : ℕ) → o ≡ false → Ended under a l forward j (record { k = w .k; some = w .some; stand = record { tally = w .stand .tally; stamp = stamp } }) t w′ t′ → Advanced under a l forward j w t w′ t′
-      advanced-off stamp e x = record { on = λ f. absurd (no (sym e ∙ sym seen ∙ f)); off = λ _. record { number = x .number; some = x .some; taken = x .taken } }
+      pub advanced-off : (stamp : ℕ) → o ≡ false → Ended under a l forward j
+          (record { k = w .k; some = w .some; stand = record { tally = w .stand .tally; stamp = stamp } }) t w′ t′ → Advanced under a l forward j w t w′ t′
+      advanced-off stamp e
+          x = record { on = λ f. absurd (no (sym e ∙ sym seen ∙ f)); off = λ _. record { number = x .number; some = x .some; taken = x .taken } }
 
     -- ---- the whole row
 
@@ -180,7 +186,8 @@ module _ (under : Run → Float) (a : Aim) (l : Lane) where
     unfolding stretchesOf
     rowing-starts t s = let e : l .samples + 1 - 0 ≡ l .samples + 1 = omega arith in record { same = rw e; some = rw e; low = omega arith }
 
-    pub rowing-ends : (t₀ : List Float) (s : Stand) (t t′ : List Float) (w w′ : Walked) (j : ℕ) → l .samples + 1 ≤ j → Rowing (work t₀ (s .tally)) t w j → Ended under a l forward j w t w′ t′ → Trodden under a l (far (stretchesOf on (l .samples))) t₀ s t′ w′
+    pub rowing-ends : (t₀ : List Float) (s : Stand) (t t′ : List Float) (w w′ : Walked) (j : ℕ) → l .samples + 1 ≤ j → Rowing (work t₀ (s .tally)) t w j
+        → Ended under a l forward j w t w′ t′ → Trodden under a l (far (stretchesOf on (l .samples))) t₀ s t′ w′
     rowing-ends t₀ s t t′ w w′ j h g e =
         let q = from-end (w .k) j (l .samples) on h in
         record {

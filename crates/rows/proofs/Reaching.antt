@@ -17,7 +17,8 @@ use Rattle.rules.proofs.Branches.{either, by-test, no}
 use Rattle.plane.specs.Ranges.{isRadius}
 use Rattle.order.proofs.Ranges.{cut-up}
 use Rattle.order.proofs.Extremes.{not-below}
-use Rattle.order.proofs.Whole.{Within, Bounded, within-more, bounded-add, bounded-sub, within-mul, within-times, within-div, ahead, back, ahead-few, back-few, width-within, further}
+use Rattle.order.proofs.Whole.{Within, Bounded, within-more, bounded-add, bounded-sub, within-mul, within-times}
+use Rattle.order.proofs.Whole.{within-div, ahead, back, ahead-few, back-few, width-within, further}
 use Rattle.bound.proofs.Small.{coordinate-bounded, radius-bounded}
 use Rattle.fives.specs.Groups.{Each}
 use Rattle.fives.proofs.Grouping.{each-append}

@@ -96,7 +96,8 @@ from-mirrored (false ∷ fs) k =
     let front : stretchesFrom 0 0 (reverse fs) ≡ map (mirrored (0 + length fs)) (reverse (stretchesFrom 0 0 fs)) =
     ap (stretchesFrom 0 0) (sym (append-nil (reverse fs))) ∙ from-mirrored fs 0 in
     let s₀ : k + 1 ≡ 0 + (k + 1) = omega arith in
-    let rest : stretchesFrom 0 (k + 1) fs ≡ map (later (k + 1)) (stretchesFrom 0 0 fs) = ap (λ (x : ℕ). stretchesFrom 0 x fs) s₀ ∙ from-later fs 0 0 (k + 1) (omega arith) in
+    let rest : stretchesFrom 0 (k + 1) fs ≡ map (later (k + 1)) (stretchesFrom 0 0 fs) = ap (λ (x : ℕ). stretchesFrom 0 x fs) s₀
+    ∙ from-later fs 0 0 (k + 1) (omega arith) in
     let back : map (mirrored n) (reverse (stretchesFrom 0 (k + 1) fs)) ≡ map (mirrored (0 + length fs)) (reverse (stretchesFrom 0 0 fs)) =
     ap (λ (x : List Ends). map (mirrored n) (reverse x)) rest
     ∙ ap (map (mirrored n)) (sym (map-reverse (later (k + 1)) (stretchesFrom 0 0 fs)))
@@ -105,7 +106,8 @@ from-mirrored (false ∷ fs) k =
     ap (stretchesFrom 0 0) l
     ∙ from-parted (reverse fs) (replicate k true) 0 0
     ∙ ap (λ (x : List Ends). x ++ stretchesFrom 0 (0 + length (reverse fs) + 1) (replicate k true)) front
-    ∙ ap (λ (x : List Ends). map (mirrored (0 + length fs)) (reverse (stretchesFrom 0 0 fs)) ++ x) (from-all k 0 (0 + length (reverse fs) + 1) ∙ (rw (z, k₀) (sym (ended-mirrored k n (omega arith)))))
+    ∙ ap (λ (x : List Ends). map (mirrored (0 + length fs)) (reverse (stretchesFrom 0 0 fs)) ++ x) (from-all k 0 (0 + length (reverse fs) + 1)
+    ∙ (rw (z, k₀) (sym (ended-mirrored k n (omega arith)))))
     ∙ ap (λ (x : List Ends). x ++ map (mirrored n) (reverse (endedAt k k))) (sym back)
     ∙ sym (map-append (mirrored n) (reverse (stretchesFrom 0 (k + 1) fs)) (reverse (endedAt k k)))
     ∙ ap (map (mirrored n)) (sym (reverse-append (endedAt k k) (stretchesFrom 0 (k + 1) fs)))
@@ -143,7 +145,8 @@ sampled-reverse f a zero = refl
 sampled-reverse f a (suc m) =
     let z : a + suc m - 1 - (0 + m) ≡ a = omega arith in
     reverse-cons (f a) (sampled f (a + 1) m)
-    ∙ ap (λ (l : List Bool). l ++ f a ∷ []) (sampled-reverse f (a + 1) m ∙ sampled-same _ (λ j. f (a + suc m - 1 - j)) 0 0 m (λ j h. let e : a + 1 + m - 1 - (0 + j) ≡ a + suc m - 1 - (0 + j) = omega arith in ap f e))
+    ∙ ap (λ (l : List Bool). l ++ f a ∷ []) (sampled-reverse f (a + 1) m
+    ∙ sampled-same _ (λ j. f (a + suc m - 1 - j)) 0 0 m (λ j h. let e : a + 1 + m - 1 - (0 + j) ≡ a + suc m - 1 - (0 + j) = omega arith in ap f e))
     ∙ ap (λ (x : ℕ). sampled (λ j. f (a + suc m - 1 - j)) 0 m ++ f x ∷ []) (sym z)
     ∙ sym (sampled-last (λ j. f (a + suc m - 1 - j)) 0 m)
 
@@ -156,13 +159,15 @@ ended-agree f g b k s h l = by (ltb 1 k) refl
     by true q = let w : 1 < k = ltb-true 1 k q in ap (λ (e : Ends). e ∷ []) (h (ends (s - k) (s - 1)) (omega arith) (omega arith))
     by false q = refl
 
-from-agree : (f g : Ends → Ends) (b : ℕ) → ((e : Ends) → e .from ≤ b → e .to ≤ b → f e ≡ g e) → (fs : List Bool) (k s : ℕ) → s + length fs ≤ b + 1 → map f (stretchesFrom k s fs) ≡ map g (stretchesFrom k s fs)
+from-agree : (f g : Ends → Ends) (b : ℕ) → ((e : Ends) → e .from ≤ b → e .to ≤ b → f e ≡ g e) → (fs : List Bool) (k s : ℕ) → s + length fs ≤ b + 1
+    → map f (stretchesFrom k s fs) ≡ map g (stretchesFrom k s fs)
 unfolding stretchesFrom
 from-agree f g b h [] k s l = ended-agree f g b k s h (omega arith)
 from-agree f g b h (true ∷ fs) k s l = from-agree f g b h fs (k + 1) (s + 1) (omega arith)
 from-agree f g b h (false ∷ fs) k s l =
     map-append f (endedAt k s) (stretchesFrom 0 (s + 1) fs)
-    ∙ (rw (ended-agree f g b k s h (omega arith), from-agree f g b h fs 0 (s + 1) (omega arith)) (sym (map-append g (endedAt k s) (stretchesFrom 0 (s + 1) fs))))
+    ∙ (rw (ended-agree f g b k s h (omega arith), from-agree f g b h fs 0 (s + 1) (omega arith))
+    (sym (map-append g (endedAt k s) (stretchesFrom 0 (s + 1) fs))))
 
 -- sample j of a row that is walked the other way
 abbrev pub counted : ℕ → Ends → Ends
@@ -174,12 +179,14 @@ row-turned on samples =
     let fs = sampled on 0 (samples + 1) in
     let n : length fs ≡ samples + 1 = sampled-length on 0 (samples + 1) in
     let r : sampled (λ j. on (samples - j)) 0 (samples + 1) ≡ reverse fs ++ [] =
-    sampled-same _ (λ j. on (0 + (samples + 1) - 1 - j)) 0 0 (samples + 1) (λ j h. let e : samples - (0 + j) ≡ 0 + (samples + 1) - 1 - (0 + j) = omega arith in ap on e)
+    sampled-same _ (λ j. on (0 + (samples + 1) - 1 - j)) 0 0 (samples + 1)
+    (λ j h. let e : samples - (0 + j) ≡ 0 + (samples + 1) - 1 - (0 + j) = omega arith in ap on e)
     ∙ sym (sampled-reverse on 0 (samples + 1))
     ∙ sym (append-nil (reverse fs)) in
     ap (λ (l : List Bool). map (counted samples) (stretchesFrom 0 0 l)) r
     ∙ ap (map (counted samples)) (from-mirrored fs 0)
     ∙ map-map (counted samples) (mirrored (0 + length fs)) (reverse (stretchesFrom 0 0 fs))
     ∙ map-reverse (λ e. counted samples (mirrored (0 + length fs) e)) (stretchesFrom 0 0 fs)
-    ∙ ap reverse (from-agree (λ e. counted samples (mirrored (0 + length fs) e)) turned samples (λ e p q. same-ends _ _ _ _ (omega arith) (omega arith)) fs 0 0 (omega arith))
+    ∙ ap reverse (from-agree (λ e. counted samples (mirrored (0 + length fs) e)) turned samples
+    (λ e p q. same-ends _ _ _ _ (omega arith) (omega arith)) fs 0 0 (omega arith))
     ∙ sym (map-reverse turned (stretchesFrom 0 0 fs))

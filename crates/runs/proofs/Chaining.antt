@@ -61,7 +61,8 @@ module _ (clear : Run → Bool) (least : Float) where
   unfolding piecesOf
   whole zero r = one r (clear r) (λ k. k)
   whole (suc left) r =
-      let halves = both r (piecesOf clear least left (firstHalf r)) (piecesOf clear least left (secondHalf r)) (whole left (firstHalf r)) (whole left (secondHalf r)) in
+      let halves = both r (piecesOf clear least left (firstHalf r)) (piecesOf clear least left (secondHalf r)) (whole left (firstHalf r))
+      (whole left (secondHalf r)) in
       by-test (clear r)
       (λ (c : clear r ≡ true). rw c (one r true (λ k. c)))
       (λ (c : clear r ≡ false).
@@ -81,10 +82,12 @@ opened-lie : (bs : List Run) (r : Run) (rs : List Run) (g : Run) → Joins r rs 
 unfolding grouping
 opened-lie [] r rs g e = LieIn.part r rs [] g [] e LieIn.none
 opened-lie (b ∷ bs) r rs g e =
-    let grown : touchesOf g b ≡ true → LieIn (r ∷ (rs ++ b ∷ []) ++ bs) (grouping touchesOf lengthened (λ r. r) (lengthened g b) bs) = λ t. opened-lie bs r (rs ++ b ∷ []) (lengthened g b) (joins-more r rs g b e t) in
+    let grown : touchesOf g b ≡ true → LieIn (r ∷ (rs ++ b ∷ []) ++ bs) (grouping touchesOf lengthened (λ r. r) (lengthened g b) bs) =
+    λ t. opened-lie bs r (rs ++ b ∷ []) (lengthened g b) (joins-more r rs g b e t) in
     let next = opened-lie bs b [] b (unfold Joins in refl) in
     by-test (touchesOf g b)
-    (λ (t : touchesOf g b ≡ true). rw t (subst (λ (l : List Run). LieIn (r ∷ l) (grouping touchesOf lengthened (λ r. r) (lengthened g b) bs)) (append-assoc rs (b ∷ []) bs) (grown t)))
+    (λ (t : touchesOf g b ≡ true). rw t
+    (subst (λ (l : List Run). LieIn (r ∷ l) (grouping touchesOf lengthened (λ r. r) (lengthened g b) bs)) (append-assoc rs (b ∷ []) bs) (grown t)))
     (λ (t : touchesOf g b ≡ false). rw t (LieIn.part r rs (b ∷ bs) g _ e next))
 
 pub joined-lie : (rs : List Run) → LieIn rs (joinedOf rs)

@@ -25,7 +25,9 @@ on-or-off : (b : Bool) → (b ≡ true) ⊎ (b ≡ false)
 on-or-off true = inl refl
 on-or-off false = inr refl
 
-pub closed-is : (t t′ : List Float) (y : Tally) (more : ℕ) (len : Float) → y .some ≡ true → t′ ≡ putAt t (y .count) (fiveOf (y .last)) → more ≡ onTo (roomOf t) (y .count) → len ≡ lengthOf (y .last) → work t′ (record { some = false; last = y .last; count = more; cut = y .cut ⊕ len; dropped = y .dropped }) ≡ closedOf t y
+pub closed-is : (t t′ : List Float) (y : Tally) (more : ℕ) (len : Float) → y .some ≡ true
+    → t′ ≡ putAt t (y .count) (fiveOf (y .last)) → more ≡ onTo (roomOf t) (y .count) → len ≡ lengthOf (y .last)
+    → work t′ (record { some = false; last = y .last; count = more; cut = y .cut ⊕ len; dropped = y .dropped }) ≡ closedOf t y
 unfolding closedOf
 closed-is t t′ y more len e p q r = rw (e, p, q, r)
 
@@ -48,11 +50,13 @@ unfolding keptOf
 kept-append [] qs = refl
 kept-append (p ∷ ps) qs = by (p .kept) (kept-append ps qs)
   where
-    by : (b : Bool) → keptOf (ps ++ qs) ≡ keptOf ps ++ keptOf qs → cond b (p .run ∷ keptOf (ps ++ qs)) (keptOf (ps ++ qs)) ≡ cond b (p .run ∷ keptOf ps) (keptOf ps) ++ keptOf qs
+    by : (b : Bool) → keptOf (ps ++ qs) ≡ keptOf ps ++ keptOf qs
+        → cond b (p .run ∷ keptOf (ps ++ qs)) (keptOf (ps ++ qs)) ≡ cond b (p .run ∷ keptOf ps) (keptOf ps) ++ keptOf qs
     by true r = ap (λ (l : List Run). p .run ∷ l) r
     by false r = r
 
-dropped-append : (sum : Float) (ps : List Piece) (q : Piece) → droppedBy sum (ps ++ q ∷ []) ≡ cond (q .kept) (droppedBy sum ps) (droppedBy sum ps ⊕ lengthOf (q .run))
+dropped-append : (sum : Float) (ps : List Piece) (q : Piece)
+    → droppedBy sum (ps ++ q ∷ []) ≡ cond (q .kept) (droppedBy sum ps) (droppedBy sum ps ⊕ lengthOf (q .run))
 unfolding droppedBy
 dropped-append sum [] q = refl
 dropped-append sum (p ∷ ps) q = dropped-append (cond (p .kept) sum (sum ⊕ lengthOf (p .run))) ps q
@@ -142,7 +146,8 @@ module _ (t₀ : List Float) where
         }
 
     -- a run that touches the open one, and one that does not
-    grows : Tallied t₀ ps (work t (tally true l n c d)) → touchesOf l r ≡ true → Tallied t₀ (ps ++ piece r true ∷ []) (work t (tally true (lengthened l r) n c d))
+    grows : Tallied t₀ ps (work t (tally true l n c d)) → touchesOf l r ≡ true
+        → Tallied t₀ (ps ++ piece r true ∷ []) (work t (tally true (lengthened l r) n c d))
     grows g e =
         record {
           done = g .done;
@@ -153,7 +158,8 @@ module _ (t₀ : List Float) where
           last = rw kept-more (opened-joins touchesOf lengthened (λ r. r) (keptOf ps) (g .done) l r (g .last) e);
         }
 
-    opens : Tallied t₀ ps (work t (tally true l n c d)) → touchesOf l r ≡ false → Tallied t₀ (ps ++ piece r true ∷ []) (work (putAt t n (fiveOf l)) (tally true r (onTo (roomOf t) n) (c ⊕ lengthOf l) d))
+    opens : Tallied t₀ ps (work t (tally true l n c d)) → touchesOf l r ≡ false
+        → Tallied t₀ (ps ++ piece r true ∷ []) (work (putAt t n (fiveOf l)) (tally true r (onTo (roomOf t) n) (c ⊕ lengthOf l) d))
     opens g e =
         let w = written-next (g .done) l t n (g .table) (g .count) in
         record {
@@ -170,7 +176,8 @@ module _ (t₀ : List Float) where
     keeps false g = begins g
     keeps true g = by (touchesOf l r) refl
       where
-        by : (b : Bool) → touchesOf l r ≡ b → Tallied t₀ (ps ++ piece r true ∷ []) (cond b (work t (tally true (lengthened l r) n c d)) (work (putAt t n (fiveOf l)) (tally true r (onTo (roomOf t) n) (c ⊕ lengthOf l) d)))
+        by : (b : Bool) → touchesOf l r ≡ b → Tallied t₀ (ps ++ piece r true ∷ [])
+            (cond b (work t (tally true (lengthened l r) n c d)) (work (putAt t n (fiveOf l)) (tally true r (onTo (roomOf t) n) (c ⊕ lengthOf l) d)))
         by true e = grows g e
         by false e = opens g e
 
@@ -185,7 +192,8 @@ module _ (t₀ : List Float) where
   tallied-all ps [] w g = rw (append-nil ps) g
   tallied-all ps (q ∷ qs) w g = rw (← (append-assoc ps (q ∷ []) qs)) (tallied-all (ps ++ q ∷ []) qs _ (tallied-goes ps w (q .run) (q .kept) g))
 
-  ends : (ps : List Piece) (t : List Float) (l : Run) (n : ℕ) (c d : Float) (b : Bool) → Tallied t₀ ps (work t (tally b l n c d)) → Written t₀ ps (closedOf t (tally b l n c d))
+  ends : (ps : List Piece) (t : List Float) (l : Run) (n : ℕ) (c d : Float) (b : Bool) → Tallied t₀ ps (work t (tally b l n c d))
+      → Written t₀ ps (closedOf t (tally b l n c d))
   unfolding closedOf joinedOf
   ends ps t l n c d false g =
       let e : joinedOf (keptOf ps) ≡ g .done = ap joinedOf (g .last .0) ∙ (unfold grouped in sym (g .last .1)) in

@@ -34,11 +34,13 @@ map-itself : (f : Ends → Ends) → ((e : Ends) → f e ≡ e) → (es : List E
 map-itself f h [] = refl
 map-itself f h (e ∷ es) = rw (h e, map-itself f h es)
 
-directed-is : (on : ℕ → Bool) (samples n : ℕ) (forward : Bool) → forward ≡ not (eqb (n % 2) 0) → map (numbered forward samples) (stretchesOf (λ j. on (numberOf forward samples j)) samples) ≡ directed n (stretchesOf on samples)
+directed-is : (on : ℕ → Bool) (samples n : ℕ) (forward : Bool) → forward ≡ not (eqb (n % 2) 0)
+    → map (numbered forward samples) (stretchesOf (λ j. on (numberOf forward samples j)) samples) ≡ directed n (stretchesOf on samples)
 unfolding numberOf directed
 directed-is on samples n forward e = by forward (eqb (n % 2) 0) e
   where
-    by : (b d : Bool) → b ≡ not d → map (numbered b samples) (stretchesOf (λ j. on (numberOf b samples j)) samples) ≡ cond d (backward (stretchesOf on samples)) (stretchesOf on samples)
+    by : (b d : Bool) → b ≡ not d → map (numbered b samples) (stretchesOf (λ j. on (numberOf b samples j)) samples)
+        ≡ cond d (backward (stretchesOf on samples)) (stretchesOf on samples)
     by true true p = cc
     by true false p = map-itself _ (λ e. refl) (stretchesOf on samples)
     by false true p = row-turned on samples
@@ -69,7 +71,9 @@ unfolding piecesAlong empty
 along-none under a l [] e = refl
 along-none under a l (x ∷ es) e = absurd (no e)
 
-module _ (under : Run → Float) (a : Aim) (l : Lane) (t : List Float) (s : Swept) (t′ : List Float) (w : Walked) (n : ℕ) (forward : Bool) (e : n ≡ s .rows + 1) (f : forward ≡ not (eqb (n % 2) 0)) (x : Trodden under a l (map (numbered forward (l .samples)) (stretchesOf (λ j. onLevel under a l (numberOf forward (l .samples) j)) (l .samples))) t (s .stand) t′ w) where
+module _ (under : Run → Float) (a : Aim) (l : Lane) (t : List Float) (s : Swept) (t′ : List Float) (w : Walked)
+    (n : ℕ) (forward : Bool) (e : n ≡ s .rows + 1) (f : forward ≡ not (eqb (n % 2) 0)) (x : Trodden under a l
+    (map (numbered forward (l .samples)) (stretchesOf (λ j. onLevel under a l (numberOf forward (l .samples) j)) (l .samples))) t (s .stand) t′ w) where
   abbrev es : List Ends
   es = stretchesOf (onLevel under a l) (l .samples)
 
@@ -89,7 +93,8 @@ module _ (under : Run → Float) (a : Aim) (l : Lane) (t : List Float) (s : Swep
   unfolding rowFound
   row-some h = by (empty es) (sym one ∙ h)
     where
-      by : (b : Bool) → not b ≡ true → Takes t s (cond b (from s) (record { rows = s .rows + 1; pieces = piecesAlong under a l ds })) t′ (record { rows = n; stand = w .stand })
+      by : (b : Bool) → not b ≡ true
+          → Takes t s (cond b (from s) (record { rows = s .rows + 1; pieces = piecesAlong under a l ds })) t′ (record { rows = n; stand = w .stand })
       by true p = absurd (no p)
       by false p = record { rows = e; taken = all }
 
@@ -97,8 +102,10 @@ module _ (under : Run → Float) (a : Aim) (l : Lane) (t : List Float) (s : Swep
   unfolding rowFound takenAll
   row-none h = by (empty es) refl (sym one ∙ h)
     where
-      by : (b : Bool) → empty es ≡ b → not b ≡ false → Takes t s (cond b (from s) (record { rows = s .rows + 1; pieces = piecesAlong under a l ds })) t′ (record { rows = s .rows; stand = w .stand })
-      by true q p = record { rows = refl; taken = all ∙ ap (takenAll (work t (s .stand .tally))) (along-none under a l ds (empty-directed (s .rows + 1) es ∙ q)) }
+      by : (b : Bool) → empty es ≡ b → not b ≡ false
+          → Takes t s (cond b (from s) (record { rows = s .rows + 1; pieces = piecesAlong under a l ds })) t′ (record { rows = s .rows; stand = w .stand })
+      by true q
+          p = record { rows = refl; taken = all ∙ ap (takenAll (work t (s .stand .tally))) (along-none under a l ds (empty-directed (s .rows + 1) es ∙ q)) }
       by false q p = absurd (no (sym p))
 
 pub row-rows : (under : Run → Float) (a : Aim) (f : Found) (l : Lane) → rowFound under a f l .rows ≤ f .rows + 1
@@ -125,7 +132,8 @@ module _ (under : Run → Float) (a : Aim) (lane : ℕ → Lane) (t₀ : List Fl
   pub laning-starts : (n : ℕ) → Laning t₀ s₀ 0 n
   laning-starts n = let e : n - 0 ≡ n = omega arith in record { found = from s₀; taken = takes-none t₀ s₀; same = rw e; few = omega arith }
 
-  pub laning-goes : (t : List Float) (s : Swept) (t′ : List Float) (s′ : Swept) (row n : ℕ) (l : Lane) → row < n → Laning t s row n → l ≡ lane row → Takes t s (rowFound under a (from s) l) t′ s′ → Laning t′ s′ (row + 1) n
+  pub laning-goes : (t : List Float) (s : Swept) (t′ : List Float) (s′ : Swept) (row n : ℕ) (l : Lane) → row < n → Laning t s row n → l ≡ lane row
+      → Takes t s (rowFound under a (from s) l) t′ s′ → Laning t′ s′ (row + 1) n
   unfolding rowsFound
   laning-goes t s t′ s′ row n l h g p x =
       let q : n - row ≡ suc (n - (row + 1)) = omega arith in
@@ -155,7 +163,8 @@ module _ (p : Parameters) (axis : Axis) (r : Float) (l : Level) where
   unfolding Coarse laneOf
   coarse-samples row lane e h = rw e (h .1)
 
-  pub level-is : (under : Run → Float) (t₀ : List Float) (s₀ : Swept) (t : List Float) (s : Swept) (a : Aim) (b : Spread) (n : ℕ) → a ≡ aimOf p r l → b ≡ spreadOf axis r l → n ≡ intervalsOf b (p .stepover)
+  pub level-is : (under : Run → Float) (t₀ : List Float) (s₀ : Swept) (t : List Float) (s : Swept) (a : Aim) (b : Spread) (n : ℕ) → a ≡ aimOf p r l
+      → b ≡ spreadOf axis r l → n ≡ intervalsOf b (p .stepover)
       → Takes t₀ s₀ (rowsFound under a (laneOf p axis r l) (from s₀) 0 (n + 1)) t s → Takes t₀ s₀ (levelFound under p axis r (from s₀) l) t s
   unfolding levelFound
   level-is under t₀ s₀ t s a b n x y z e =

@@ -35,17 +35,20 @@ module _ (under : Run → Float) (a : Aim) where
       qs : List Piece
       qs = piecesAlong under a l (directed (f .rows + 1) es)
 
-      by : (b : Bool) → cond b (behind ps f) (record { rows = f .rows + 1; pieces = (ps ++ f .pieces) ++ qs }) ≡ behind ps (cond b f (record { rows = f .rows + 1; pieces = f .pieces ++ qs }))
+      by : (b : Bool) → cond b (behind ps f) (record { rows = f .rows + 1; pieces = (ps ++ f .pieces) ++ qs })
+          ≡ behind ps (cond b f (record { rows = f .rows + 1; pieces = f .pieces ++ qs }))
       by true = refl
       by false = ap (λ (x : List Piece). record { rows = f .rows + 1; pieces = x }) (append-assoc ps (f .pieces) qs)
 
-  rows-behind : (lane : ℕ → Lane) (ps : List Piece) (n : ℕ) (f : Found) (row : ℕ) → rowsFound under a lane (behind ps f) row n ≡ behind ps (rowsFound under a lane f row n)
+  rows-behind : (lane : ℕ → Lane) (ps : List Piece) (n : ℕ) (f : Found) (row : ℕ)
+      → rowsFound under a lane (behind ps f) row n ≡ behind ps (rowsFound under a lane f row n)
   unfolding rowsFound
   rows-behind lane ps zero f row = refl
   rows-behind lane ps (suc n) f row =
       ap (λ (g : Found). rowsFound under a lane g (row + 1) n) (row-behind (lane row) ps f) ∙ rows-behind lane ps n (rowFound under a f (lane row)) (row + 1)
 
-pub level-behind : (under : Run → Float) (p : Parameters) (axis : Axis) (r : Float) (l : Level) (ps : List Piece) (f : Found) → levelFound under p axis r (behind ps f) l ≡ behind ps (levelFound under p axis r f l)
+pub level-behind : (under : Run → Float) (p : Parameters) (axis : Axis) (r : Float) (l : Level) (ps : List Piece) (f : Found)
+    → levelFound under p axis r (behind ps f) l ≡ behind ps (levelFound under p axis r f l)
 unfolding levelFound
 level-behind under p axis r l ps f = rows-behind under _ _ ps _ f 0
 
@@ -57,11 +60,13 @@ takes-none t s = record { rows = refl; taken = refl }
 
 -- and then what g adds
 pub takes-on : (g : Found → Found) → ((ps : List Piece) (f : Found) → g (behind ps f) ≡ behind ps (g f))
-    → (t₀ : List Float) (s₀ : Swept) (f : Found) (t : List Float) (s : Swept) (t′ : List Float) (s′ : Swept) → Takes t₀ s₀ f t s → Takes t s (g (from s)) t′ s′ → Takes t₀ s₀ (g f) t′ s′
+    → (t₀ : List Float) (s₀ : Swept) (f : Found) (t : List Float) (s : Swept) (t′ : List Float) (s′ : Swept) → Takes t₀ s₀ f t s → Takes t s (g (from s)) t′ s′
+    → Takes t₀ s₀ (g f) t′ s′
 takes-on g h t₀ s₀ f t s t′ s′ x y =
     let n : Found = record { rows = f .rows; pieces = [] } in
     let e : from s ≡ n = ap (λ (k : ℕ). record { rows = k; pieces = [] }) (x .rows) in
-    let q : behind (f .pieces) (g n) ≡ g f = sym (h (f .pieces) n) ∙ ap (λ (ps : List Piece). g (record { rows = f .rows; pieces = ps })) (append-nil (f .pieces)) in
+    let q : behind (f .pieces) (g n) ≡ g f = sym (h (f .pieces) n)
+    ∙ ap (λ (ps : List Piece). g (record { rows = f .rows; pieces = ps })) (append-nil (f .pieces)) in
     record {
       rows = y .rows ∙ ap (λ (z : Found). g z .rows) e ∙ ap (λ (z : Found). z .rows) q;
       taken =
@@ -75,7 +80,8 @@ takes-on g h t₀ s₀ f t s t′ s′ x y =
 -- ---- the open run written
 
 -- all taken from nothing, and the open run written
-pub searched : (t₀ : List Float) (s₀ : Swept) (f : Found) (t : List Float) (s : Swept) (t′ : List Float) (y : Tally) → s₀ .stand .tally ≡ begun → Takes t₀ s₀ f t s → work t′ y ≡ closedOf t (s .stand .tally) → Searched t₀ f t′ (record { rows = s .rows; tally = y })
+pub searched : (t₀ : List Float) (s₀ : Swept) (f : Found) (t : List Float) (s : Swept) (t′ : List Float) (y : Tally) → s₀ .stand .tally ≡ begun
+    → Takes t₀ s₀ f t s → work t′ y ≡ closedOf t (s .stand .tally) → Searched t₀ f t′ (record { rows = s .rows; tally = y })
 searched t₀ s₀ f t s t′ y b x q =
     let w : Work = takenAll (work t₀ begun) (f .pieces) in
     let g = tallied-ends t₀ (f .pieces) w (tallied-all t₀ [] (f .pieces) (work t₀ begun) (tallied-starts t₀)) in

@@ -40,8 +40,10 @@ module _ (under other : Run → Float) (a : Aim) (z : Float) (s : Serves under o
   unfolding piecesOf
   pieces-same least zero r e = ap (λ (b : Bool). piece r b ∷ []) (s .clears r e)
   pieces-same least (suc left) r e =
-      ap (λ (b : Bool). cond b (piece r true ∷ []) (cond (le (lengthOf r) least) (piece r false ∷ []) (piecesOf (clear other a) least left (firstHalf r) ++ piecesOf (clear other a) least left (secondHalf r)))) (s .clears r e)
-      ∙ ap₂ (λ (x y : List Piece). cond (clear under a r) (piece r true ∷ []) (cond (le (lengthOf r) least) (piece r false ∷ []) (x ++ y))) (pieces-same least left (firstHalf r) e) (pieces-same least left (secondHalf r) e)
+      ap (λ (b : Bool). cond b (piece r true ∷ []) (cond (le (lengthOf r) least) (piece r false ∷ [])
+      (piecesOf (clear other a) least left (firstHalf r) ++ piecesOf (clear other a) least left (secondHalf r)))) (s .clears r e)
+      ∙ ap₂ (λ (x y : List Piece). cond (clear under a r) (piece r true ∷ []) (cond (le (lengthOf r) least) (piece r false ∷ []) (x ++ y)))
+      (pieces-same least left (firstHalf r) e) (pieces-same least left (secondHalf r) e)
 
   along-same : (l : Lane) (es : List Ends) → l .z ≡ z → piecesAlong other a l es ≡ piecesAlong under a l es
   unfolding piecesAlong
@@ -56,15 +58,18 @@ module _ (under other : Run → Float) (a : Aim) (z : Float) (s : Serves under o
   row-same : (f : Found) (l : Lane) → l .z ≡ z → rowFound other a f l ≡ rowFound under a f l
   unfolding rowFound
   row-same f l e =
-      ap (λ (on : ℕ → Bool). cond (empty (stretchesOf on (l .samples))) f (record { rows = f .rows + 1; pieces = f .pieces ++ piecesAlong other a l (directed (f .rows + 1) (stretchesOf on (l .samples))) })) (on-same l)
-      ∙ ap (λ (ps : List Piece). cond (empty (stretchesOf (onLevel under a l) (l .samples))) f (record { rows = f .rows + 1; pieces = f .pieces ++ ps })) (along-same l (directed (f .rows + 1) (stretchesOf (onLevel under a l) (l .samples))) e)
+      ap (λ (on : ℕ → Bool). cond (empty (stretchesOf on (l .samples))) f
+      (record { rows = f .rows + 1; pieces = f .pieces ++ piecesAlong other a l (directed (f .rows + 1) (stretchesOf on (l .samples))) })) (on-same l)
+      ∙ ap (λ (ps : List Piece). cond (empty (stretchesOf (onLevel under a l) (l .samples))) f (record { rows = f .rows + 1; pieces = f .pieces ++ ps }))
+      (along-same l (directed (f .rows + 1) (stretchesOf (onLevel under a l) (l .samples))) e)
 
   rows-same : (lane : ℕ → Lane) → ((k : ℕ) → lane k .z ≡ z) → (n row : ℕ) (f : Found) → rowsFound other a lane f row n ≡ rowsFound under a lane f row n
   unfolding rowsFound
   rows-same lane e zero row f = refl
   rows-same lane e (suc n) row f = ap (λ (v : Found). rowsFound other a lane v (row + 1) n) (row-same f (lane row) (e row)) ∙ rows-same lane e n (row + 1) _
 
-pub level-same : (under other : Run → Float) (p : Parameters) (axis : Axis) (r : Float) (l : Level) (f : Found) → Serves under other (aimOf p r l) (l .z ⊕ p .«stock_to_leave») → levelFound other p axis r f l ≡ levelFound under p axis r f l
+pub level-same : (under other : Run → Float) (p : Parameters) (axis : Axis) (r : Float) (l : Level) (f : Found)
+    → Serves under other (aimOf p r l) (l .z ⊕ p .«stock_to_leave») → levelFound other p axis r f l ≡ levelFound under p axis r f l
 unfolding levelFound laneOf
 level-same under other p axis r l f s = rows-same under other (aimOf p r l) (l .z ⊕ p .«stock_to_leave») s (laneOf p axis r l) (λ k. refl) _ 0 f
 
@@ -81,18 +86,23 @@ module _ (mesh : List Float) (h : Header) (starts members : List ℕ) (boxes : L
 
   askable-there : Askable (indexOf mesh h starts members boxes) → Askable (indexOf mesh g starts members boxes)
   askable-there q =
-      subst (λ (k : Header). Askable (indexOf mesh k starts members boxes)) (sym e) (record { nine = q .nine; five = q .five; few = q .few; walkable = q .walkable })
+      subst (λ (k : Header). Askable (indexOf mesh k starts members boxes)) (sym e)
+      (record { nine = q .nine; five = q .five; few = q .few; walkable = q .walkable })
 
-  pub rows-ask : (stamp : ℕ) (marks : List ℕ) (p : Parameters) (axis : Axis) (l : Level) → Askable (indexOf mesh h starts members boxes) → Marked (h .n) stamp marks → Coarse p axis (h .r) l
+  pub rows-ask : (stamp : ℕ) (marks : List ℕ) (p : Parameters) (axis : Axis) (l : Level) → Askable (indexOf mesh h starts members boxes)
+      → Marked (h .n) stamp marks → Coarse p axis (h .r) l
       → Askable (indexOf mesh g starts members boxes) × Marked (g .n) stamp marks × Coarse p axis (g .r) l
   rows-ask stamp marks p axis l q m c =
       (askable-there q, marks-there _ _ stamp marks (sym same-n) m, subst (λ (r : Float). Coarse p axis r l) (sym same-r) c)
 
   pub level-there : (p : Parameters) (axis : Axis) (l : Level) (a : Aim) (t : List Float) (s : Swept) (t′ : List Float) (s′ : Swept) → a ≡ aimOf p (h .r) l
       → Serves (heightUnder (indexOf mesh h starts members boxes)) (heightUnder (indexOf mesh g starts members boxes)) a (l .z ⊕ p .«stock_to_leave»)
-      → Takes t s (levelFound (heightUnder (indexOf mesh g starts members boxes)) p axis (g .r) (from s) l) t′ s′ → Takes t s (levelFound (heightUnder (indexOf mesh h starts members boxes)) p axis (h .r) (from s) l) t′ s′
+      → Takes t s (levelFound (heightUnder (indexOf mesh g starts members boxes)) p axis (g .r) (from s) l) t′ s′
+      → Takes t s (levelFound (heightUnder (indexOf mesh h starts members boxes)) p axis (h .r) (from s) l) t′ s′
   level-there p axis l a t s t′ s′ d v q =
-      let e : levelFound (heightUnder (indexOf mesh g starts members boxes)) p axis (g .r) (from s) l ≡ levelFound (heightUnder (indexOf mesh h starts members boxes)) p axis (h .r) (from s) l =
+      let e : levelFound (heightUnder (indexOf mesh g starts members boxes)) p axis (g .r) (from s) l
+      ≡ levelFound (heightUnder (indexOf mesh h starts members boxes)) p axis (h .r) (from s) l =
       ap (λ (r : Float). levelFound (heightUnder (indexOf mesh g starts members boxes)) p axis r (from s) l) same-r
-      ∙ level-same _ _ p axis (h .r) l (from s) (subst (λ (b : Aim). Serves (heightUnder (indexOf mesh h starts members boxes)) (heightUnder (indexOf mesh g starts members boxes)) b (l .z ⊕ p .«stock_to_leave»)) d v) in
+      ∙ level-same _ _ p axis (h .r) l (from s) (subst (λ (b : Aim). Serves (heightUnder (indexOf mesh h starts members boxes))
+      (heightUnder (indexOf mesh g starts members boxes)) b (l .z ⊕ p .«stock_to_leave»)) d v) in
       subst (λ (f : Found). Takes t s f t′ s′) e q

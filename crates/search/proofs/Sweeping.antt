@@ -76,12 +76,14 @@ module _ (under : Run → Float) (p : Parameters) (axis : Axis) (r : Float) wher
           record {
             found = levelFound under p axis r (g .found) l;
             taken = y;
-            same = ap (λ (v : Level). levelsFound under p axis r (levelFound under p axis r (g .found) v) (levelsIn levels (m + 1) (n - (m + 1)))) e ∙ (rw q at (g .same));
+            same = ap (λ (v : Level). levelsFound under p axis r (levelFound under p axis r (g .found) v) (levelsIn levels (m + 1) (n - (m + 1)))) e
+                ∙ (rw q at (g .same));
             coarse = parted .1;
             few = omega (arith, g .few, y .rows, g .taken .rows, level-rows (g .found) l sweeping-coarse);
           }
 
-    pub sweeping-ends : (t : List Float) (s : Swept) (m n : ℕ) → n ≤ m → Sweeping t s m n → Takes t₀ s₀ (levelsFound under p axis r (from s₀) (levelsIn levels 0 n)) t s
+    pub sweeping-ends : (t : List Float) (s : Swept) (m n : ℕ) → n ≤ m → Sweeping t s m n
+        → Takes t₀ s₀ (levelsFound under p axis r (from s₀) (levelsIn levels 0 n)) t s
     unfolding levelsIn levelsFound
     sweeping-ends t s m n h g =
         let q : n - m ≡ 0 = omega arith in

@@ -1,4 +1,5 @@
--- The section's surface is nowhere below z0. So no vertex gives a tip above its height less z0, and no edge a bound above its higher end less z0 and what the search's bound adds at most.
+-- The section's surface is nowhere below z0. So no vertex gives a tip above its height less z0,
+-- and no edge a bound above its higher end less z0 and what the search's bound adds at most.
 use mathlib.Core.Bool.{Bool, true, false, cond}
 use mathlib.Core.Logic.{⊎-elim}
 use mathlib.Core.Path.{_≡_, refl, sym, _∙_, subst}
@@ -43,7 +44,8 @@ use Rattle.caps.proofs.Drops.{drop-nan, sum-nan, drop-more}
 use Rattle.section.specs.declared.Section.{Section}
 use Rattle.section.specs.declared.Surface.{Surface}
 use Rattle.section.specs.declared.Surface.the-variants.{Beyond, Over}
-use Rattle.section.specs.Section.{positiveReach, validSection, profileOf, heightOver, sectionUnder, sectionVertex, sectionAt, lipschitzOf, sectionStretch, sectionEdge}
+use Rattle.section.specs.Section.{positiveReach, validSection, profileOf, heightOver, sectionUnder}
+use Rattle.section.specs.Section.{sectionVertex, sectionAt, lipschitzOf, sectionStretch, sectionEdge}
 use Rattle.section.specs.Inside.{Firm, lowEdge}
 
 -- ---- a valid section
@@ -151,7 +153,8 @@ module _ (s : Section) (v : Valid s) (g : T (fits binary64 (s .z0))) where
 
     more : T (le O (d ⊖ s .r0))
     more =
-        le-trans O (s .r0 ⊖ s .r0) (d ⊖ s .r0) (self (s .r0) (small-finite _ s0)) (sub-mono binary64 (s .r0) d (s .r0) (small-finite _ s0) fd (small-finite _ s0) lo)
+        le-trans O (s .r0 ⊖ s .r0) (d ⊖ s .r0) (self (s .r0) (small-finite _ s0))
+        (sub-mono binary64 (s .r0) d (s .r0) (small-finite _ s0) fd (small-finite _ s0) lo)
 
     fm : T (finite (d ⊖ s .r0))
     fm = small-sub d (s .r0) sd s0
@@ -164,8 +167,10 @@ module _ (s : Section) (v : Valid s) (g : T (fits binary64 (s .z0))) where
 
     climb-high : T (le climb (two ⊗ B))
     climb-high =
-        le-trans climb (two ⊗ s .rise) (two ⊗ B) (mul-up (d ⊖ s .r0) two (s .rise) fm tt fr (small-range d (s .r0) sd s0 .1) (no-lower (s .rise) fr (v .rise-low)))
-        (rw (mul-swap two (s .rise) tt fr) (subst (λ (w : Float). T (le (s .rise ⊗ two) w)) (mul-swap B two tt tt) (mul-up (s .rise) B two fr tt tt (v .rise-high) refl)))
+        le-trans climb (two ⊗ s .rise) (two ⊗ B)
+        (mul-up (d ⊖ s .r0) two (s .rise) fm tt fr (small-range d (s .r0) sd s0 .1) (no-lower (s .rise) fr (v .rise-low)))
+        (rw (mul-swap two (s .rise) tt fr)
+        (subst (λ (w : Float). T (le (s .rise ⊗ two) w)) (mul-swap B two tt tt) (mul-up (s .rise) B two fr tt tt (v .rise-high) refl)))
 
     fc : T (finite climb)
     fc = finite-between O climb (two ⊗ B) tt (unfold mul round in tt) climb-low climb-high
@@ -176,7 +181,8 @@ module _ (s : Section) (v : Valid s) (g : T (fits binary64 (s .z0))) where
     risen : T (le (s .z0) (s .z0 ⊕ climb)) × T (le (s .z0 ⊕ climb) top)
     risen = (
       le-trans (s .z0) (s .z0 ⊕ O) (s .z0 ⊕ climb) (plus-none (s .z0) g fz) (add-right binary64 O climb (s .z0) tt fc fz climb-low),
-      le-trans (s .z0 ⊕ climb) (M ⊕ climb) top (add-left binary64 (s .z0) M climb fz tt fc (v .z-high)) (add-right binary64 climb (two ⊗ B) M fc (unfold mul round in tt) tt climb-high),
+      le-trans (s .z0 ⊕ climb) (M ⊕ climb) top (add-left binary64 (s .z0) M climb fz tt fc (v .z-high))
+          (add-right binary64 climb (two ⊗ B) M fc (unfold mul round in tt) tt climb-high),
     )
 
   -- ---- the surface at any distance
@@ -190,7 +196,8 @@ module _ (s : Section) (v : Valid s) (g : T (fits binary64 (s .z0))) where
       (λ h. none))
 
   -- within r1 it is there
-  pub height-all : (P : Float → Type 0) → ((h : Float) → T (le (s .z0) h) → T (le h top) → P h) → (d : Float) → T (le d (s .r1)) → P (heightOver (profileOf s d))
+  pub height-all : (P : Float → Type 0) → ((h : Float) → T (le (s .z0) h) → T (le h top) → P h) → (d : Float) → T (le d (s .r1))
+      → P (heightOver (profileOf s d))
   unfolding profileOf heightOver
   height-all P some d m =
       either (λ w. P (heightOver w)) (le d (s .r0)) (Over (s .z0)) (cond (le d (s .r1)) (Over (s .z0 ⊕ (d ⊖ s .r0) ⊗ s .rise)) Beyond)
@@ -231,7 +238,11 @@ module _ (s : Section) (v : Valid s) (g : T (fits binary64 (s .z0))) where
     high-small : Small high
     unfolding highOn ofBits
     high-small =
-        record { low = either-of (λ w. T (le M′ w)) _ _ (parts .0 .low) (parts .1 .low); high = either-of (λ w. T (le w M)) _ _ (parts .0 .high) (parts .1 .high) }
+        record {
+          low = either-of (λ w. T (le M′ w)) _ _ (parts .0 .low) (parts .1 .low);
+          high =
+              either-of (λ w. T (le w M)) _ _ (parts .0 .high) (parts .1 .high);
+        }
 
     abbrev C : Float
     C = high ⊖ s .z0
@@ -259,10 +270,12 @@ module _ (s : Section) (v : Valid s) (g : T (fits binary64 (s .z0))) where
           height-all (λ h. T (le (z ⊖ h) C) × T (finite (z ⊖ h)))
           (λ h a b.
           let fh = f-top h a b in
-          let up = le-trans (z ⊖ h) (z ⊖ s .z0) C (sub-turns binary64 (s .z0) h z fz fh (small-finite z sm) a) (sub-mono binary64 z high (s .z0) (small-finite z sm) (small-finite high high-small) fz z-high) in (
+          let up = le-trans (z ⊖ h) (z ⊖ s .z0) C (sub-turns binary64 (s .z0) h z fz fh (small-finite z sm) a)
+          (sub-mono binary64 z high (s .z0) (small-finite z sm) (small-finite high high-small) fz z-high) in (
             up,
             finite-between (M′ ⊖ top) (z ⊖ h) C (unfold sub add neg sum mul round in tt) fC
-                (le-trans (M′ ⊖ top) (z ⊖ top) (z ⊖ h) (sub-mono binary64 M′ z top tt (small-finite z sm) (unfold add mul sum round in tt) (sm .low)) (sub-turns binary64 h top z fh (unfold add mul sum round in tt) (small-finite z sm) b))
+                (le-trans (M′ ⊖ top) (z ⊖ top) (z ⊖ h) (sub-mono binary64 M′ z top tt (small-finite z sm) (unfold add mul sum round in tt) (sm .low))
+                (sub-turns binary64 h top z fh (unfold add mul sum round in tt) (small-finite z sm) b))
                 up,
           ))
           _ (least-far _)
@@ -310,13 +323,15 @@ module _ (s : Section) (v : Valid s) (g : T (fits binary64 (s .z0))) where
     up₂ : T (le p₂ (B ⊗ R))
     up₂ =
         le-trans p₂ (s .rise ⊗ R) (B ⊗ R)
-        (rw (mul-swap (s .rise) R fr tt, mul-swap (s .rise) (rootMost q) fr most-fine) (mul-up (rootMost q) R (s .rise) most-fine tt fr (most-finite q .1) rise-lower))
+        (rw (mul-swap (s .rise) R fr tt, mul-swap (s .rise) (rootMost q) fr most-fine)
+        (mul-up (rootMost q) R (s .rise) most-fine tt fr (most-finite q .1) rise-lower))
         (mul-up (s .rise) B R fr tt tt (v .rise-high) refl)
 
     low₁ : T (le O p₁)
     low₁ =
         rw (mul-swap (s .rise) (rootOf q) fr (root-fine .1))
-        (le-trans O (O ⊗ s .rise) (rootOf q ⊗ s .rise) (none-of-zero (s .rise) fr) (mul-up O (rootOf q) (s .rise) tt (root-fine .1) fr (root-fine .0) rise-lower))
+        (le-trans O (O ⊗ s .rise) (rootOf q ⊗ s .rise) (none-of-zero (s .rise) fr)
+        (mul-up O (rootOf q) (s .rise) tt (root-fine .1) fr (root-fine .0) rise-lower))
 
     fp₂ : T (finite p₂)
     fp₂ = finite-between O p₂ (B ⊗ R) tt (unfold mul round in tt) (le-trans O p₁ p₂ low₁ up₁) up₂
@@ -422,21 +437,25 @@ module _ (s : Section) (v : Valid s) (g : T (fits binary64 (s .z0))) where
     unfolding sectionEdge
     edge-low c x y h =
         reached-all (λ k. c ≡ offerOf c (sectionStretch s x y e k)) (unfold sectionStretch offerOf in refl)
-        (λ lo hi u w o. unfold sectionStretch offerOf in sym (stays-under c _ (edge (e .which)) (is-true _ (le-trans _ (C ⊕ K ⊗ phi60) (limitOf c) (bound-under lo hi u w o x y) (holds _ h)))))
+        (λ lo hi u w o. unfold sectionStretch offerOf in
+        sym (stays-under c _ (edge (e .which)) (is-true _ (le-trans _ (C ⊕ K ⊗ phi60) (limitOf c) (bound-under lo hi u w o x y) (holds _ h)))))
         e x y (s .r1)
 
 -- ---- as the code has it
-pub vertex-stays : (s : Section) (low : Float) → Firm s low → (c : Contact) (x y : Float) (n : ℕ) (vx vy vz : Float) → le (vz ⊖ low) (limitOf c) ≡ true → c ≡ offerOf c (sectionVertex s x y n vx vy vz)
+pub vertex-stays : (s : Section) (low : Float) → Firm s low → (c : Contact) (x y : Float) (n : ℕ) (vx vy vz : Float) → le (vz ⊖ low) (limitOf c) ≡ true
+    → c ≡ offerOf c (sectionVertex s x y n vx vy vz)
 vertex-stays s low f c x y n vx vy vz h =
     ⊎-elim (λ e. absurd (drop-nan vz low (limitOf c) e h))
     (λ k. vertex-low s (valid-parts s (k .0)) (k .2) c x y n vx vy vz (subst (λ (w : Float). le (vz ⊖ w) (limitOf c) ≡ true) (k .1) h)) f
 
-pub edge-stays : (s : Section) (low : Float) → Firm s low → (c : Contact) (x y : Float) (e : Edge) → lowEdge s low e (limitOf c) ≡ true → c ≡ offerOf c (sectionEdge s x y e)
+pub edge-stays : (s : Section) (low : Float) → Firm s low → (c : Contact) (x y : Float) (e : Edge) → lowEdge s low e (limitOf c) ≡ true
+    → c ≡ offerOf c (sectionEdge s x y e)
 unfolding lowEdge
 edge-stays s low f c x y e h =
     let p = chosen _ _ h in
     ⊎-elim (λ k. absurd (sum-nan (highOn e f0 f1) low _ (limitOf c) k (p .1)))
-    (λ k. edge-low s (valid-parts s (k .0)) (k .2) e (p .0) c x y (subst (λ (w : Float). le (highOn e f0 f1 ⊖ w ⊕ (absOf (e .bz ⊖ e .az) ⊕ s .rise ⊗ rootMost (length2 e)) ⊗ phi60) (limitOf c) ≡ true) (k .1) (p .1))) f
+    (λ k. edge-low s (valid-parts s (k .0)) (k .2) e (p .0) c x y (subst
+    (λ (w : Float). le (highOn e f0 f1 ⊖ w ⊕ (absOf (e .bz ⊖ e .az) ⊕ s .rise ⊗ rootMost (length2 e)) ⊗ phi60) (limitOf c) ≡ true) (k .1) (p .1))) f
   where
     chosen : (a b : Bool) → cond a b false ≡ true → (a ≡ true) × (b ≡ true)
     chosen true b e = (refl, e)

@@ -1,5 +1,5 @@
--- The surface grows with the distance from the axis, so no place of an edge from lo to hi gives a tip above the cap; where that is at most the larger of the two ends' values the search
--- finds that.
+-- The surface grows with the distance from the axis, so no place of an edge from lo to hi gives a tip above the cap; where that is at most the larger of the
+-- two ends' values the search finds that.
 use mathlib.Core.Bool.{true, false}
 use mathlib.Core.Logic.{⊎-elim}
 use mathlib.Core.Path.{_≡_, sym, _∙_, subst}
@@ -49,10 +49,12 @@ module _ (s : Section) (v : Valid s) (g : T (fits binary64 (s .z0))) where
       let a′ = climb-fine s v g d′ (beyond s v g d′ e′ (is-true _ m)) (le-trans d′ (s .r1) M m (v .far-high)) in
       rw (far-height s d e (is-true _ m₀), far-height s d′ e′ (is-true _ m))
       (add-right binary64 ((d ⊖ s .r0) ⊗ s .rise) ((d′ ⊖ s .r0) ⊗ s .rise) (s .z0) (a .climbed) (a′ .climbed) (fz s v g)
-      (mul-up (d ⊖ s .r0) (d′ ⊖ s .r0) (s .rise) (a .way) (a′ .way) (fr s v g) (sub-mono binary64 d d′ (s .r0) (a .place) (a′ .place) (a .start) k) (no-lower (s .rise) (fr s v g) (v .rise-low)))))
+      (mul-up (d ⊖ s .r0) (d′ ⊖ s .r0) (s .rise) (a .way) (a′ .way) (fr s v g) (sub-mono binary64 d d′ (s .r0) (a .place) (a′ .place) (a .start) k)
+      (no-lower (s .rise) (fr s v g) (v .rise-low)))))
 
   -- ---- below the cap
-  module _ (x y : Float) (e : Edge) (lo hi : Float) (p : T (fits binary64 lo)) (q : T (fits binary64 hi)) (tame : tameOn e x y lo hi ≡ true) (t : Float) (i : In lo hi t) where
+  module _ (x y : Float) (e : Edge) (lo hi : Float) (p : T (fits binary64 lo)) (q : T (fits binary64 hi)) (tame : tameOn e x y lo hi ≡ true)
+      (t : Float) (i : In lo hi t) where
     abbrev z : Float
     z = at (e .az) (e .bz) t
 
@@ -89,7 +91,8 @@ no-number : isNan (f0 ⊘ f0) ≡ false → ⊥
 unfolding ofBits div isNan
 no-number h = no (sym h)
 
-module _ (s : Section) (low x y : Float) (e : Edge) (lo hi : Float) (f : Firm s low) (p : T (fits binary64 lo)) (q : T (fits binary64 hi)) (h : isNan (capOf s low x y e lo hi) ≡ false) where
+module _ (s : Section) (low x y : Float) (e : Edge) (lo hi : Float) (f : Firm s low) (p : T (fits binary64 lo)) (q : T (fits binary64 hi))
+    (h : isNan (capOf s low x y e lo hi) ≡ false) where
   there : (le f0 low ≡ true) × (tameOn e x y lo hi ≡ true)
   unfolding capOf
   there =
@@ -111,7 +114,9 @@ module _ (s : Section) (low x y : Float) (e : Edge) (lo hi : Float) (f : Firm s 
   ordered = places e x y lo hi p q (there .1)
 
 -- ---- as the code has it
-pub cap-ends : (s : Section) (low x y : Float) (e : Edge) (cap lo hi : Float) → Firm s low → T (fits binary64 lo) → T (fits binary64 hi) → cap ≡ capOf s low x y e lo hi → (n : ℕ) → le cap (maxOf (sectionAt s x y e lo) (sectionAt s x y e hi)) ≡ true → maxOf (sectionAt s x y e lo) (sectionAt s x y e hi) ≡ goldenMax (sectionAt s x y e) lo hi n
+pub cap-ends : (s : Section) (low x y : Float) (e : Edge) (cap lo hi : Float) → Firm s low → T (fits binary64 lo) → T (fits binary64 hi)
+    → cap ≡ capOf s low x y e lo hi → (n : ℕ) → le cap (maxOf (sectionAt s x y e lo) (sectionAt s x y e hi)) ≡ true
+    → maxOf (sectionAt s x y e lo) (sectionAt s x y e hi) ≡ goldenMax (sectionAt s x y e) lo hi n
 cap-ends s low x y e cap lo hi f p q c n h =
     let b = maxOf (sectionAt s x y e lo) (sectionAt s x y e hi) in
     let l = subst (λ (w : Float). T (le w b)) c (holds _ h) in

@@ -34,7 +34,8 @@ summand nan z b h = absurd (no h)
 summand (inf s) z b h = refl
 summand (fin s m e) z b h = refl
 
-module _ (s : Section) (low x y : Float) (e : Edge) (flat lo hi m more limit : Float) (u : Begun s low x y e flat lo hi m) (n : ℕ) (g : Golden) (below : n ≤ 60) (here : g ≡ goldenAt rises (sectionAt s x y e) lo hi n) where
+module _ (s : Section) (low x y : Float) (e : Edge) (flat lo hi m more limit : Float) (u : Begun s low x y e flat lo hi m) (n : ℕ) (g : Golden) (below : n ≤ 60)
+    (here : g ≡ goldenAt rises (sectionAt s x y e) lo hi n) where
   pub gives-up : InnerOf g × Under (capOf s low x y e (g .a) (g .b)) m more limit → Alike limit (m ⊕ more) (goldenMax (sectionAt s x y e) lo hi 60 ⊕ more)
   gives-up q =
       let i = q .0 in
@@ -45,11 +46,13 @@ module _ (s : Section) (low x y : Float) (e : Edge) (flat lo hi m more limit : F
       let l = holds-le cap m h in
       let r = number-of cap m l .0 in
       same-beside limit (m ⊕ more) (goldenMax f lo hi 60 ⊕ more)
-      (ap (λ v. v ⊕ more) (u .ends ∙ sym (narrow-ends f lo hi n 60 g below here i (ordered s low x y e (g .a) (g .b) (u .firm) (i .fit-a) (i .fit-b) r) cap (capped s low x y e (g .a) (g .b) (u .firm) (i .fit-a) (i .fit-b) r) (subst (λ (v : Float). T (le cap v)) (u .ends) l)))))
+      (ap (λ v. v ⊕ more) (u .ends ∙ sym (narrow-ends f lo hi n 60 g below here i (ordered s low x y e (g .a) (g .b) (u .firm) (i .fit-a) (i .fit-b) r) cap
+      (capped s low x y e (g .a) (g .b) (u .firm) (i .fit-a) (i .fit-b) r) (subst (λ (v : Float). T (le cap v)) (u .ends) l)))))
       (λ h.
       let r = summand cap more limit h in
       subst (λ (v : Float). Alike limit (v ⊕ more) (goldenMax f lo hi 60 ⊕ more)) (sym (u .ends))
-      (bounds-beside f lo hi n 60 g below here i (ordered s low x y e (g .a) (g .b) (u .firm) (i .fit-a) (i .fit-b) r) cap (capped s low x y e (g .a) (g .b) (u .firm) (i .fit-a) (i .fit-b) r) limit more h))
+      (bounds-beside f lo hi n 60 g below here i (ordered s low x y e (g .a) (g .b) (u .firm) (i .fit-a) (i .fit-b) r) cap
+      (capped s low x y e (g .a) (g .b) (u .firm) (i .fit-a) (i .fit-b) r) limit more h))
       (q .1)
 
   pub finds : 60 ≤ n → (v r : Float) → v ≡ maxOf m (g .f1) → r ≡ maxOf v (g .f2) → Alike limit (r ⊕ more) (goldenMax (sectionAt s x y e) lo hi 60 ⊕ more)
@@ -60,7 +63,8 @@ abbrev missed : Float → Float → Float → Float
 missed lo hi slope = slope ⊗ ((hi ⊖ lo) ⊗ phi60)
 
 module _ (s : Section) (low x y : Float) (e : Edge) (lo hi limit slope : Float) (k : slope ≡ lipschitzOf s e) where
-  pub bound-none : Firm s low → T (fits binary64 lo) → T (fits binary64 hi) → (cap : Float) → cap ≡ capOf s low x y e lo hi → le (cap ⊕ missed lo hi slope) limit ≡ true → Alike limit (cap ⊕ missed lo hi slope) (goldenMaxBound (sectionAt s x y e) lo hi (lipschitzOf s e))
+  pub bound-none : Firm s low → T (fits binary64 lo) → T (fits binary64 hi) → (cap : Float) → cap ≡ capOf s low x y e lo hi
+      → le (cap ⊕ missed lo hi slope) limit ≡ true → Alike limit (cap ⊕ missed lo hi slope) (goldenMaxBound (sectionAt s x y e) lo hi (lipschitzOf s e))
   unfolding goldenMaxBound boundOf
   bound-none f p q cap c h =
       let d = capOf s low x y e lo hi in
@@ -71,7 +75,8 @@ module _ (s : Section) (low x y : Float) (e : Edge) (lo hi limit slope : Float) 
       (subst (λ (v : Float). Alike limit (v ⊕ more) (goldenMax (sectionAt s x y e) lo hi 60 ⊕ more)) (sym c)
       (whole-beside (sectionAt s x y e) lo hi (ordered s low x y e lo hi f p q r) d (capped s low x y e lo hi f p q r) limit more 60 h′))
 
-  pub bound-found : (best r : Float) → Alike limit (best ⊕ missed lo hi slope) (goldenMax (sectionAt s x y e) lo hi 60 ⊕ missed lo hi slope) → r ≡ boundOf best lo hi slope → Alike limit r (goldenMaxBound (sectionAt s x y e) lo hi (lipschitzOf s e))
+  pub bound-found : (best r : Float) → Alike limit (best ⊕ missed lo hi slope) (goldenMax (sectionAt s x y e) lo hi 60 ⊕ missed lo hi slope)
+      → r ≡ boundOf best lo hi slope → Alike limit r (goldenMaxBound (sectionAt s x y e) lo hi (lipschitzOf s e))
   unfolding goldenMaxBound boundOf
   bound-found best r h q =
       subst (λ (v : Float). Alike limit v (goldenMax (sectionAt s x y e) lo hi 60 ⊕ missed lo hi (lipschitzOf s e))) (sym q)
@@ -83,6 +88,7 @@ module _ (s : Section) (x y : Float) (e : Edge) (part : Stretch) (limit : Float)
   unfolding sectionStretch
   stretch-none p = λ c q. ap (λ k. offerOf c (sectionStretch s x y e k)) (sym p)
 
-  pub stretch-some : (lo hi z : Float) → part ≡ Between lo hi → Alike limit z (goldenMaxBound (sectionAt s x y e) lo hi (lipschitzOf s e)) → AsGood limit (Height z (edge (e .which))) (sectionStretch s x y e part)
+  pub stretch-some : (lo hi z : Float) → part ≡ Between lo hi → Alike limit z (goldenMaxBound (sectionAt s x y e) lo hi (lipschitzOf s e))
+      → AsGood limit (Height z (edge (e .which))) (sectionStretch s x y e part)
   unfolding sectionStretch offerOf
   stretch-some lo hi z p h = λ c q. h c (edge (e .which)) q ∙ ap (λ k. offerOf c (sectionStretch s x y e k)) (sym p)

@@ -14,7 +14,8 @@ edges-on : (s : Section) (x y : Float) (t : Triangle) (c d : Contact) → offerO
 unfolding sectionEdges
 edges-on s x y t c d = three-on c d (sectionEdge s x y (edgeAb t)) (sectionEdge s x y (edgeBc t)) (sectionEdge s x y (edgeCa t))
 
-pub contact-on : (s : Section) (x y : Float) (t : Triangle) (c v e k r : Contact) {g : Facing} → v ≡ offerOf c (sectionVertices s x y t) → e ≡ sectionEdges s x y t v → g ≡ facingOf t → k ≡ sectionFacet s x y t g → r ≡ offerOf e k
+pub contact-on : (s : Section) (x y : Float) (t : Triangle) (c v e k r : Contact) {g : Facing} → v ≡ offerOf c (sectionVertices s x y t)
+    → e ≡ sectionEdges s x y t v → g ≡ facingOf t → k ≡ sectionFacet s x y t g → r ≡ offerOf e k
     → r ≡ offerOf c (sectionContact t x y s)
 unfolding sectionContact
 contact-on s x y t c v e k r {g} p q f h o =

@@ -33,6 +33,7 @@ none-reached v h = no h
 pub clear-none : (s : Section) → Clear s (f0 ⊘ f0)
 clear-none s = record { out = λ p q f g h. absurd (none-reached _ h) }
 
-pub none-beyond : (s : Section) (far x y : Float) (n : ℕ) (vx vy vz : Float) (c : Contact) → Clear s far → le far ((vx ⊖ x) ⊗ (vx ⊖ x) ⊕ (vy ⊖ y) ⊗ (vy ⊖ y)) ≡ true → c ≡ offerOf c (sectionVertex s x y n vx vy vz)
+pub none-beyond : (s : Section) (far x y : Float) (n : ℕ) (vx vy vz : Float) (c : Contact) → Clear s far
+    → le far ((vx ⊖ x) ⊗ (vx ⊖ x) ⊕ (vy ⊖ y) ⊗ (vy ⊖ y)) ≡ true → c ≡ offerOf c (sectionVertex s x y n vx vy vz)
 unfolding sectionVertex sectionUnder offerOf
 none-beyond s far x y n vx vy vz c b h = rw (b .out (vx ⊖ x) (vy ⊖ y) (sub-fits binary64 vx x) (sub-fits binary64 vy y) h)

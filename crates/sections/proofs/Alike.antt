@@ -50,7 +50,8 @@ too-many : (ss : List Section) → 32 < length ss → isTool (flatOf ss) ≡ fal
 unfolding isTool
 too-many ss h =
     let n : length (flatOf ss) / 4 ≡ length ss = omega (arith, flat-length ss) in
-    out-of-range (eqb (length (flatOf ss) % 4) 0) _ (every (λ (i : ℕ). validSection (sectionOf (flatOf ss) i)) 0 (length (flatOf ss) / 4)) (ap (isFrom 1 32) n ∙ beyond (length ss) h)
+    out-of-range (eqb (length (flatOf ss) % 4) 0) _ (every (λ (i : ℕ). validSection (sectionOf (flatOf ss) i)) 0 (length (flatOf ss) / 4))
+    (ap (isFrom 1 32) n ∙ beyond (length ss) h)
 
 none : isTool [] ≡ false
 unfolding isTool isFrom
@@ -82,7 +83,8 @@ on-or-off : (b : Bool) → (b ≡ true) ⊎ (b ≡ false)
 on-or-off true = inl refl
 on-or-off false = inr refl
 
-copied-alike : {A : Type 0} (f : List Float → A) → ((s t : List Float) → isTool s ≡ false → isTool t ≡ false → f s ≡ f t) → (ss : List Section) → f (flatOf (take (copiedOf (length ss)) ss)) ≡ f (flatOf ss)
+copied-alike : {A : Type 0} (f : List Float → A) → ((s t : List Float) → isTool s ≡ false → isTool t ≡ false → f s ≡ f t) → (ss : List Section)
+    → f (flatOf (take (copiedOf (length ss)) ss)) ≡ f (flatOf ss)
 unfolding copiedOf flatOf
 copied-alike f same ss =
     ⊎-elim

@@ -25,7 +25,8 @@ use Rattle.setup.specs.declared.Reach.{Reach}
 use Rattle.setup.specs.declared.Seen.{Seen}
 use Rattle.setup.specs.declared.Question.{Question}
 use Rattle.setup.specs.Question.{isQuestion, reachOf, stepOf, patchOf}
-use Rattle.setup.specs.Answer.{isMarked, triangleUsable, memberUsable, tablesUsable, refusalOfTables, refusalOf, setupWalk, refusedBy, answeredBy, setupHeightOf}
+use Rattle.setup.specs.Answer.{isMarked, triangleUsable, memberUsable, tablesUsable, refusalOfTables}
+use Rattle.setup.specs.Answer.{refusalOf, setupWalk, refusedBy, answeredBy, setupHeightOf}
 use Rattle.setup.specs.Inside.{seen, Small}
 use Rattle.setup.proofs.Reaching.{small-reach, patch-inside}
 use Rattle.setup.proofs.Heads.{Headed, headed-is}
@@ -45,13 +46,20 @@ member-is mesh n marks stamp i e =
 -- what the test of the question's cells asks, and what it told
 module _ (ix : Index) (marks : List ℕ) (stamp : ℕ) (w : Reach) (p : Patch) (e : p ≡ patchOf (ix .header) w) where
   pub tables-ask : Headed (ix .mesh) (ix .header) (ix .starts) → length (ix .mesh) ≡ length marks * 9
-      → (length (ix .mesh) ≡ ix .header .n * 9) × (length marks ≡ ix .header .n) × (p .x1 ≤ ix .header .columns) × (p .y1 * ix .header .columns < length (ix .starts))
+      → (length (ix .mesh) ≡ ix .header .n * 9) × (length marks ≡ ix .header .n) × (p .x1 ≤ ix .header .columns)
+      × (p .y1 * ix .header .columns < length (ix .starts))
   tables-ask d nine =
-      subst⁻¹ (λ (p : Patch). (length (ix .mesh) ≡ ix .header .n * 9) × (length marks ≡ ix .header .n) × (p .x1 ≤ ix .header .columns) × (p .y1 * ix .header .columns < length (ix .starts))) e
-      (let i = patch-inside (ix .header) w in
-      (d .nine, omega (arith, d .nine, nine), i .0, omega (arith, mul-le-mul-right {m = patchOf (ix .header) w .y1} {n = ix .header .rows} (ix .header .columns) (i .1), d .room)))
+      subst⁻¹ (λ (p : Patch). (length (ix .mesh) ≡ ix .header .n * 9) × (length marks ≡ ix .header .n) × (p .x1 ≤ ix .header .columns)
+      × (p .y1 * ix .header .columns < length (ix .starts))) e
+      (let i = patch-inside (ix .header) w in (
+        d .nine,
+        omega (arith, d .nine, nine),
+        i .0,
+        omega (arith, mul-le-mul-right {m = patchOf (ix .header) w .y1} {n = ix .header .rows} (ix .header .columns) (i .1), d .room),
+      ))
 
-  pub tables-told : (r t : Bool) → r ≡ cellsUsable (memberUsable (ix .mesh) (ix .header .n) marks stamp) (ix .starts) (ix .members) (ix .header .columns) p → r ≡ t → tablesUsable ix marks stamp w ≡ t
+  pub tables-told : (r t : Bool) → r ≡ cellsUsable (memberUsable (ix .mesh) (ix .header .n) marks stamp) (ix .starts) (ix .members) (ix .header .columns) p
+      → r ≡ t → tablesUsable ix marks stamp w ≡ t
   unfolding tablesUsable
   tables-told r t f h = sym (f ∙ ap (cellsUsable (memberUsable (ix .mesh) (ix .header .n) marks stamp) (ix .starts) (ix .members) (ix .header .columns)) e) ∙ h
 
@@ -80,7 +88,8 @@ module _ (ix : Index) (marks : List ℕ) (stamp : ℕ) (q : Question) where
   unfolding tablesUsable
   walkable b =
       let i = patch-inside (ix .header) (reachOf q) in
-      walkable-cells (memberUsable (ix .mesh) (ix .header .n) marks stamp) (ix .starts) (ix .members) (ix .header .columns) cells (b .tables) (ix .header .n) (ix .header .rows)
+      walkable-cells (memberUsable (ix .mesh) (ix .header .n) marks stamp) (ix .starts) (ix .members) (ix .header .columns) cells (b .tables)
+      (ix .header .n) (ix .header .rows)
       (λ k t. member-is (ix .mesh) (ix .header .n) marks stamp k t .0) (b .head .room) (i .0) (i .1)
 
   -- n is the refusal that the code found
@@ -95,20 +104,25 @@ module _ (ix : Index) (marks : List ℕ) (stamp : ℕ) (q : Question) where
 
       -- what the walk may rely on, with the marks m that it begins with and the reach w
       pub may-walk : (m : List ℕ) (w : Reach) → m ≡ readyMarks marks stamp → w ≡ reachOf q
-          → (length (ix .mesh) ≡ length m * 9) × (length m ≤ 65536) × (ix .header .floor < 4294967296) × Small w × (ix .header .x < 4294967296) × (ix .header .y < 4294967296) × (0 < ix .header .cell)
-          × Walkable (ix .starts) (ix .members) (length m) (ix .header .columns) (patchOf (ix .header) w .x0) (patchOf (ix .header) w .x1) (patchOf (ix .header) w .y0) (patchOf (ix .header) w .y1)
+          → (length (ix .mesh) ≡ length m * 9) × (length m ≤ 65536) × (ix .header .floor < 4294967296) × Small w × (ix .header .x < 4294967296)
+          × (ix .header .y < 4294967296) × (0 < ix .header .cell)
+          × Walkable (ix .starts) (ix .members) (length m) (ix .header .columns) (patchOf (ix .header) w .x0) (patchOf (ix .header) w .x1)
+          (patchOf (ix .header) w .y0) (patchOf (ix .header) w .y1)
       may-walk m w f g =
           let b = stands in
           let r = b .head .ranged in
           let l : length m ≡ length marks = ap length f ∙ ready-length marks stamp in
           let s : length m ≡ ix .header .n = omega (arith, l, b .nine, b .head .nine) in
-          subst⁻¹ (λ (w : Reach). (length (ix .mesh) ≡ length m * 9) × (length m ≤ 65536) × (ix .header .floor < 4294967296) × Small w × (ix .header .x < 4294967296) × (ix .header .y < 4294967296) × (0 < ix .header .cell)
-          × Walkable (ix .starts) (ix .members) (length m) (ix .header .columns) (patchOf (ix .header) w .x0) (patchOf (ix .header) w .x1) (patchOf (ix .header) w .y0) (patchOf (ix .header) w .y1)) g
+          subst⁻¹ (λ (w : Reach). (length (ix .mesh) ≡ length m * 9) × (length m ≤ 65536) × (ix .header .floor < 4294967296) × Small w
+          × (ix .header .x < 4294967296) × (ix .header .y < 4294967296) × (0 < ix .header .cell)
+          × Walkable (ix .starts) (ix .members) (length m) (ix .header .columns) (patchOf (ix .header) w .x0) (patchOf (ix .header) w .x1)
+          (patchOf (ix .header) w .y0) (patchOf (ix .header) w .y1)) g
           (omega (arith, l, b .nine), omega (arith, l, b .few), r .floor, small-reach q (b .asked), r .x, r .y, r .cell, rw s (walkable b))
 
       pub answered : (m m′ : List ℕ) (w : Reach) (next : ℕ) (s : Seen) → m ≡ readyMarks marks stamp → next ≡ nextStamp stamp → w ≡ reachOf q
           → seen m′ s ≡ fold (look next (stepOf (ix .mesh) w)) (seen m (record { count = 0; height = ix .header .floor; met = 0 }))
-          (block (ix .starts) (ix .members) (ix .header .columns) (patchOf (ix .header) w .x0) (patchOf (ix .header) w .x1) (patchOf (ix .header) w .y0) (patchOf (ix .header) w .y1))
+          (block (ix .starts) (ix .members) (ix .header .columns) (patchOf (ix .header) w .x0) (patchOf (ix .header) w .x1) (patchOf (ix .header) w .y0)
+          (patchOf (ix .header) w .y1))
           → ended (answeredBy (seen m′ s) next) m′ ≡ setupHeightOf ix marks stamp q
       unfolding setupHeightOf setupWalk
       answered m m′ w next s f g h i =

@@ -27,7 +27,8 @@ and-assoc : (a b c : Bool) → ((a && b) && c) ≡ (a && (b && c))
 and-assoc true b c = refl
 and-assoc false b c = refl
 
-pub ranges-are : (h : Header) (a : Bool) → a ≡ (isFrom 1 65536 (h .n) && (placesIn (h .x) (h .y) (h .floor) (h .r) && (countsIn (h .columns) (h .rows) && isPower (h .cell)))) → a ≡ inRanges h
+pub ranges-are : (h : Header) (a : Bool)
+    → a ≡ (isFrom 1 65536 (h .n) && (placesIn (h .x) (h .y) (h .floor) (h .r) && (countsIn (h .columns) (h .rows) && isPower (h .cell)))) → a ≡ inRanges h
 unfolding inRanges placesIn countsIn
 ranges-are h a e = e ∙ (simp and-assoc)
 

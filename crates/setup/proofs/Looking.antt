@@ -16,7 +16,8 @@ use Rattle.setup.specs.Inside.{Sane}
 abbrev next : Seen → Best → Seen
 next s v = record { count = s .count + 1; height = v .height; met = v .met }
 
-pub taken-sane : (w : Reach) (b : Box) (s : Seen) (r : Best) → Sane s → b .top < 4294967296 → r ≡ taken w b (record { height = s .height; met = s .met }) → Sane (next s r)
+pub taken-sane : (w : Reach) (b : Box) (s : Seen) (r : Best) → Sane s → b .top < 4294967296
+    → r ≡ taken w b (record { height = s .height; met = s .met }) → Sane (next s r)
 unfolding taken
 taken-sane w b s r k h e =
     subst⁻¹ (λ (v : Best). Sane (next s v)) e

@@ -43,7 +43,8 @@ unfolding touches
 touch-is low high a b r e = let p = both-true (leb a (high + r)) (leb low (b + r)) e in (leb-true _ _ (p .0), leb-true _ _ (p .1))
 
 common : (origin end cell low high a b r : ℕ) → origin ≤ low → low ≤ high → high ≤ end → a ≤ b → touches low high a b r ≡ true
-    → Common (spanOf a b r origin cell (cellsAlong origin end cell)) (stretchOf origin cell (cellsAlong origin end cell) low high .first) (stretchOf origin cell (cellsAlong origin end cell) low high .last) (cellsAlong origin end cell)
+    → Common (spanOf a b r origin cell (cellsAlong origin end cell)) (stretchOf origin cell (cellsAlong origin end cell) low high .first)
+    (stretchOf origin cell (cellsAlong origin end cell) low high .last) (cellsAlong origin end cell)
 unfolding stretchOf
 common origin end cell low high a b r h₀ h₁ h₂ h₃ e =
     let t = touch-is low high a b r e in
@@ -66,14 +67,16 @@ common origin end cell low high a b r h₀ h₁ h₂ h₃ e =
     }
 
 -- ---- the cell in column x of row y
-cell-covered : (columns x y : ℕ) (mesh : List ℤ) (g : Grid) (i : ℕ) → x < columns → cellsOf mesh g i .left ≤ x → x ≤ cellsOf mesh g i .right → cellsOf mesh g i .bottom ≤ y → y ≤ cellsOf mesh g i .top → covers columns (cellsOf mesh g i) (y * columns + x) ≡ true
+cell-covered : (columns x y : ℕ) (mesh : List ℤ) (g : Grid) (i : ℕ) → x < columns → cellsOf mesh g i .left ≤ x → x ≤ cellsOf mesh g i .right
+    → cellsOf mesh g i .bottom ≤ y → y ≤ cellsOf mesh g i .top → covers columns (cellsOf mesh g i) (y * columns + x) ≡ true
 cell-covered columns x y mesh g i h a b c d =
     let m : (y * columns + x) % columns ≡ x = mul-add-mod-self-right y columns x ∙ mod-eq-of-lt h in
     let z : x / columns ≡ 0 = div-eq-of-lt h in
     let q : (y * columns + x) / columns ≡ y = mul-add-div-right {m = columns} (omega arith) y x ∙ omega arith in
     covered columns (cellsOf mesh g i) (y * columns + x) (rw m a) (rw m b) (rw q c) (rw q d)
 
-meet-is : (w : Reach) (b : Box) → meets w b ≡ true → (touches (b .«low_x») (b .«high_x») (w .left) (w .right) (w .by) ≡ true) × (touches (b .«low_y») (b .«high_y») (w .bottom) (w .top) (w .by) ≡ true)
+meet-is : (w : Reach) (b : Box) → meets w b ≡ true → (touches (b .«low_x») (b .«high_x») (w .left) (w .right) (w .by) ≡ true)
+    × (touches (b .«low_y») (b .«high_y») (w .bottom) (w .top) (w .by) ≡ true)
 unfolding meets
 meet-is w b e = both-true _ _ e
 
@@ -89,7 +92,8 @@ patchIn g w =
     record { x0 = x .first; x1 = x .past; y0 = y .first; y1 = y .past }
 
 shares-at : (mesh : List ℤ) (n cell : ℕ) (q : Question) (i : ℕ) → i < n → meets (reachOf q) (boxOf mesh i) ≡ true
-    → SharesCell (coverOf mesh (gridOf (extentOf mesh n) cell)) n (gridOf (extentOf mesh n) cell .columns) (patchIn (gridOf (extentOf mesh n) cell) (reachOf q)) i
+    → SharesCell (coverOf mesh (gridOf (extentOf mesh n) cell)) n (gridOf (extentOf mesh n) cell .columns)
+    (patchIn (gridOf (extentOf mesh n) cell) (reachOf q)) i
 unfolding gridOf cellsOf
 shares-at mesh n cell q i h e =
     let w = reachOf q in
@@ -110,7 +114,8 @@ shares-at mesh n cell q i h e =
       covers = cell-covered _ (x .at) (y .at) mesh (gridOf g cell) i (x .inside-of) (x .low) (x .high) (y .low) (y .high);
     }
 
-pub meeting : (ix : Index) → SoundIndex ix → (q : Question) (i : ℕ) → i < ix .header .n → meets (reachOf q) (boxOf (ix .mesh) i) ≡ true → Shares ix (patchOf (ix .header) (reachOf q)) i
+pub meeting : (ix : Index) → SoundIndex ix → (q : Question) (i : ℕ) → i < ix .header .n → meets (reachOf q) (boxOf (ix .mesh) i) ≡ true
+    → Shares ix (patchOf (ix .header) (reachOf q)) i
 unfolding patchOf
 meeting ix d q i h e =
     subst⁻¹ (λ (g : Grid). SharesCell (coverOf (ix .mesh) g) (ix .header .n) (g .columns) (patchIn g (reachOf q)) i) (d .grid)

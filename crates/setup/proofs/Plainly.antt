@@ -76,8 +76,17 @@ module _ {A : Type 0} (step : A → ℕ → A) (comm : (v : A) (a b : ℕ) → s
 
 module _ (mesh : List ℤ) (w : Reach) where
   -- the order of two triangles does not matter
-  swap : (b c : Box) (s t : Bool) (v : Best) → cond t (record { height = max (cond s (record { height = max (v .height) (b .top); met = v .met + 1 }) v .height) (c .top); met = cond s (record { height = max (v .height) (b .top); met = v .met + 1 }) v .met + 1 }) (cond s (record { height = max (v .height) (b .top); met = v .met + 1 }) v)
-      ≡ cond s (record { height = max (cond t (record { height = max (v .height) (c .top); met = v .met + 1 }) v .height) (b .top); met = cond t (record { height = max (v .height) (c .top); met = v .met + 1 }) v .met + 1 }) (cond t (record { height = max (v .height) (c .top); met = v .met + 1 }) v)
+  swap : (b c : Box) (s t : Bool) (v : Best) → cond t (record {
+    height = max (cond s (record { height = max (v .height) (b .top); met = v .met + 1 }) v .height)
+        (c .top);
+    met = cond s (record { height = max (v .height) (b .top); met = v .met + 1 }) v .met + 1;
+  })
+      (cond s (record { height = max (v .height) (b .top); met = v .met + 1 }) v)
+      ≡ cond s (record {
+        height = max (cond t (record { height = max (v .height) (c .top); met = v .met + 1 }) v .height) (b .top);
+        met = cond t (record { height = max (v .height) (c .top); met = v .met + 1 }) v .met + 1;
+      })
+      (cond t (record { height = max (v .height) (c .top); met = v .met + 1 }) v)
   swap b c true true v = ap (λ (k : ℕ). record { height = k; met = v .met + 1 + 1 }) (omega arith)
   swap b c true false v = refl
   swap b c false true v = refl
@@ -92,7 +101,8 @@ module _ (mesh : List ℤ) (w : Reach) where
   step-idle i e v = rw e
 
   -- the list holds each triangle that meets exactly once
-  plain-below : (floor n : ℕ) (xs : List ℕ) → ((i : ℕ) → i < n → meets w (boxOf mesh i) ≡ true → times i xs ≡ 1) → part (stepOf mesh w) step-comm n (fromFloor floor) xs ≡ plainWalk mesh w floor n
+  plain-below : (floor n : ℕ) (xs : List ℕ) → ((i : ℕ) → i < n → meets w (boxOf mesh i) ≡ true → times i xs ≡ 1)
+      → part (stepOf mesh w) step-comm n (fromFloor floor) xs ≡ plainWalk mesh w floor n
   unfolding plainWalk
   plain-below floor zero xs f = none (stepOf mesh w) step-comm (fromFloor floor) xs
   plain-below floor (suc n) xs f =

@@ -25,7 +25,8 @@ use Rattle.setup.specs.declared.Best.{Best}
 use Rattle.setup.specs.declared.Answer.{Answer}
 use Rattle.setup.specs.declared.Question.{Question}
 use Rattle.setup.specs.Question.{reachOf, plainWalk, patchOf}
-use Rattle.setup.specs.Answer.{isMarked, headUsable, triangleUsable, memberUsable, tablesUsable, refusalOfTables, refusalOf, within, lookedIn, setupWalk, refusedBy, answeredBy, setupHeightOf}
+use Rattle.setup.specs.Answer.{isMarked, headUsable, triangleUsable, memberUsable, tablesUsable, refusalOfTables}
+use Rattle.setup.specs.Answer.{refusalOf, within, lookedIn, setupWalk, refusedBy, answeredBy, setupHeightOf}
 use Rattle.setup.specs.Demand.{Shares, GoodQuestion, Plain, SetupPromise}
 use Rattle.setup.proofs.Reaching.{patch-inside}
 use Rattle.setup.proofs.Heads.{in-ranges-is}
@@ -41,7 +42,10 @@ module _ (ix : Index) (marks : List ℕ) (stamp : ℕ) (q : Question) where
   module _ (d : SoundIndex ix) (g : GoodQuestion ix marks stamp q) where
     sound-marked : isMarked (ix .mesh) marks ≡ true
     unfolding isMarked
-    sound-marked = rw (le-leb (length marks) 65536 (omega (arith, g .marked, in-ranges-is (ix .header) (d .ranges) .few)), eq-eqb (length (ix .mesh)) (length marks * 9) (omega (arith, g .marked, d .nine)))
+    sound-marked = rw (
+      le-leb (length marks) 65536 (omega (arith, g .marked, in-ranges-is (ix .header) (d .ranges) .few)),
+      eq-eqb (length (ix .mesh)) (length marks * 9) (omega (arith, g .marked, d .nine)),
+    )
 
     sound-head : headUsable (ix .mesh) (ix .header) (ix .starts) ≡ true
     unfolding headUsable
@@ -79,8 +83,10 @@ module _ (ix : Index) (marks : List ℕ) (stamp : ℕ) (q : Question) where
     abbrev list : List ℕ
     list = lookedIn ix marks stamp cells
 
-    member : (x y k : ℕ) → cells .x0 ≤ x → x < cells .x1 → cells .y0 ≤ y → y < cells .y1 → k < length (cell (ix .starts) (ix .members) (y * ix .header .columns + x))
-        → (getD (cell (ix .starts) (ix .members) (y * ix .header .columns + x)) k 0 < ix .header .n) × (getD marks (getD (cell (ix .starts) (ix .members) (y * ix .header .columns + x)) k 0) 0 ≤ stamp)
+    member : (x y k : ℕ) → cells .x0 ≤ x → x < cells .x1 → cells .y0 ≤ y → y < cells .y1
+        → k < length (cell (ix .starts) (ix .members) (y * ix .header .columns + x))
+        → (getD (cell (ix .starts) (ix .members) (y * ix .header .columns + x)) k 0 < ix .header .n)
+        × (getD marks (getD (cell (ix .starts) (ix .members) (y * ix .header .columns + x)) k 0) 0 ≤ stamp)
     unfolding tablesUsable
     member x y k a c e f l =
         member-is (ix .mesh) (ix .header .n) marks stamp _
@@ -93,13 +99,15 @@ module _ (ix : Index) (marks : List ℕ) (stamp : ℕ) (q : Question) where
     unfolding lookedIn
     looks =
         let i = patch-inside (ix .header) (reachOf q) in
-        each-once (coversOf ix) (ix .header .n) (ix .header .columns) (ix .header .rows) (ix .starts) (ix .members) marks stamp cells (d .cell) member as-many (i .0) (i .1)
+        each-once (coversOf ix) (ix .header .n) (ix .header .columns) (ix .header .rows) (ix .starts) (ix .members) marks stamp cells
+        (d .cell) member as-many (i .0) (i .1)
 
     shared : (i : ℕ) → 0 < times i list → Shares ix cells i
     unfolding lookedIn
     shared =
         let i = patch-inside (ix .header) (reachOf q) in
-        once-shared (coversOf ix) (ix .header .n) (ix .header .columns) (ix .header .rows) (ix .starts) (ix .members) marks stamp cells (d .cell) member as-many (i .0) (i .1)
+        once-shared (coversOf ix) (ix .header .n) (ix .header .columns) (ix .header .rows) (ix .starts) (ix .members) marks stamp cells
+        (d .cell) member as-many (i .0) (i .1)
 
     walk-plain : setupWalk ix marks stamp q .value ≡ plainWalk (ix .mesh) (reachOf q) (ix .header .floor) (ix .header .n)
     unfolding setupWalk walked lookedIn
@@ -121,7 +129,8 @@ module _ (ix : Index) (marks : List ℕ) (stamp : ℕ) (q : Question) where
     unfolding setupHeightOf
     refusal-is =
         by-test (eqb (refusalOf ix marks stamp q) 0)
-        (λ t. let f : ended a m ≡ ended (answeredBy found (nextStamp stamp)) (found .marks) = rw t at e in ap (λ (o : Outcome Answer). o .answer .refusal) f ∙ sym (eqb-true _ _ t))
+        (λ t. let f : ended a m ≡ ended (answeredBy found (nextStamp stamp)) (found .marks) = rw t at e in
+        ap (λ (o : Outcome Answer). o .answer .refusal) f ∙ sym (eqb-true _ _ t))
         (λ t. let f : ended a m ≡ ended (refusedBy (refusalOf ix marks stamp q) stamp) marks = rw t at e in ap (λ (o : Outcome Answer). o .answer .refusal) f)
 
     walked-is : a .refusal ≡ 0 → ended a m ≡ ended (answeredBy found (nextStamp stamp)) (found .marks)

@@ -67,17 +67,20 @@ module _ (a b r origin cell count first : ℕ) (f : first ≡ (a - (r + origin))
   unfolding spanOf
   span-none h = left _ _ _ _ (le-ltb (b + r) origin right) (taken _ _ _ _ (rw f at (le-leb count first h)) refl)
 
-  pub span-some : (past : ℕ) → past ≡ min ((b + r - origin) / cell + 1) count → first < count → record { first = first; past = past } ≡ spanOf a b r origin cell count
+  pub span-some : (past : ℕ) → past ≡ min ((b + r - origin) / cell + 1) count → first < count
+      → record { first = first; past = past } ≡ spanOf a b r origin cell count
   unfolding spanOf
   span-some past p h =
       left _ _ _ _ (le-ltb (b + r) origin right)
-      (left _ _ _ _ (rw f at (lt-leb count first h)) (ap (λ (n : ℕ). record { first = n; past = past }) f ∙ ap (λ (n : ℕ). record { first = (a - (r + origin)) / cell; past = n }) p))
+      (left _ _ _ _ (rw f at (lt-leb count first h)) (ap (λ (n : ℕ). record { first = n; past = past }) f
+      ∙ ap (λ (n : ℕ). record { first = (a - (r + origin)) / cell; past = n }) p))
 
 span-inside : (a b r origin cell count : ℕ) → spanOf a b r origin cell count .past ≤ count
 unfolding spanOf
 span-inside a b r origin cell count =
     either (λ (s : Span). s .past ≤ count) (ltb (b + r) origin) _ _ (λ _. omega arith)
-    (λ _. either (λ (s : Span). s .past ≤ count) (leb count ((a - (r + origin)) / cell)) _ _ (λ _. omega arith) (λ _. min-le-right ((b + r - origin) / cell + 1) count))
+    (λ _. either (λ (s : Span). s .past ≤ count) (leb count ((a - (r + origin)) / cell)) _ _ (λ _. omega arith)
+    (λ _. min-le-right ((b + r - origin) / cell + 1) count))
 
 pub patch-inside : (h : Header) (w : Reach) → (patchOf h w .x1 ≤ h .columns) × (patchOf h w .y1 ≤ h .rows)
 unfolding patchOf

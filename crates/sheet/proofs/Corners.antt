@@ -1,9 +1,10 @@
--- The root of a square: of a number from 2 ^ -511 to 1e6 the root of its square, both rounded, is not above the number. With 53 digits m the square is m * m, off by
--- half a unit of its last digit at most, which is at most m / 2; so the whole number nearest to its root is m again.
+-- The root of a square: of a number from 2 ^ -511 to 1e6 the root of its square, both rounded, is not above the number. With 53 digits m the square is m * m,
+-- off by half a unit of its last digit at most, which is at most m / 2; so the whole number nearest to its root is m again.
 use mathlib.Core.Bool.{false, not}
 use mathlib.Core.Path.{_≡_, refl, sym, ap, _∙_, subst}
 use Prim.Native.Nat.{ℕ, zero, suc, _+_, _-_, _*_, _/_, _%_, _^_, _≤_, _<_, compare, Ordering, Ordering·lt, Ordering·eq, Ordering·gt}
-use native.Mathlib.Nat.{le-trans, le-of-eq, lt-of-lt-of-le, lt-of-le-of-lt, lt-of-not-le, lt-irrefl, mul-assoc, mul-comm, mul-one, mul-le-mul, mul-le-mul-right, mul-div-cancel, mul-mul-mul-comm, mul-right-comm, suc-mul, add-mul, mod-lt, div-add-mod', mul-pos}
+use native.Mathlib.Nat.{le-trans, le-of-eq, lt-of-lt-of-le, lt-of-le-of-lt, lt-of-not-le, lt-irrefl, mul-assoc, mul-comm, mul-one, mul-le-mul}
+use native.Mathlib.Nat.{mul-le-mul-right, mul-div-cancel, mul-mul-mul-comm, mul-right-comm, suc-mul, add-mul, mod-lt, div-add-mod', mul-pos}
 use native.Mathlib.Omega.{arith}
 use lib.Arith.{lt-of-le-ne}
 use lib.Dec.{T, isLe, isEq, eqb, leb→le, nleb→lt, eqb→eq, eqb-refl, lit<}
@@ -82,10 +83,12 @@ module _ (m : ℕ) (low : 2 ^ 52 ≤ m) (high : m < 2 ^ 53) where
   abbrev n : ℕ
   n = closest (m * m) u * u
 
-  unit : (i : ℕ) → i ≤ 1 → (1 ≤ i → 2 ^ 105 ≤ m * m) → (2 ^ 52 ≤ 2 ^ 52 * 2 ^ i) × (2 ^ 52 * 2 ^ i ≤ 2 ^ 53) × (2 ^ 52 * 2 ^ i < 2 * m) × (2 ^ 52 ≤ m * m / (2 ^ 52 * 2 ^ i))
+  unit : (i : ℕ) → i ≤ 1 → (1 ≤ i → 2 ^ 105 ≤ m * m) → (2 ^ 52 ≤ 2 ^ 52 * 2 ^ i) × (2 ^ 52 * 2 ^ i ≤ 2 ^ 53) × (2 ^ 52 * 2 ^ i < 2 * m)
+      × (2 ^ 52 ≤ m * m / (2 ^ 52 * 2 ^ i))
   unit zero l h = (omega arith, omega arith, omega arith, omega (arith, least))
   unit (suc zero) l h =
-      let g : 2 ^ 52 < m = lt-of-not-le (λ (z : m ≤ 2 ^ 52). let q : m * m ≤ 2 ^ 52 * 2 ^ 52 = mul-le-mul z z in let r = h (omega arith) in lt-irrefl (m * m) (omega (arith, q, r))) in
+      let g : 2 ^ 52 < m = lt-of-not-le (λ (z : m ≤ 2 ^ 52). let q : m * m ≤ 2 ^ 52 * 2 ^ 52 = mul-le-mul z z in let r = h (omega arith) in
+      lt-irrefl (m * m) (omega (arith, q, r))) in
       (omega arith, omega arith, omega arith, let r = h (omega arith) in omega (arith, r))
   unit (suc (suc i)) l h = absurd (let z : suc (suc i) ≤ 1 = l in omega arith)
 
@@ -191,15 +194,19 @@ module _ (x : Float) (fit : T (fits binary64 x)) (lo : T (le corner x)) (hi : T 
 
   e-low : 1533 ≤ d .e
   e-low =
-      let h : 1 * 2 ^ 2148 ≤ d .m * 2 ^ (52 + d .e) * 2 ^ 511 = values-of-le corner x 1 (2 ^ 511) (d .m * 2 ^ (52 + d .e)) (2 ^ 2148) tt above (refl, refl) (d .value) lo in
-      let g : 2148 < 53 + (52 + d .e) + 511 = exponents 2148 (53 + (52 + d .e) + 511) (lt-of-le-of-lt h (shl-lt (53 + (52 + d .e)) 511 (shl-lt 53 (52 + d .e) (d .high)))) in
+      let h : 1 * 2 ^ 2148 ≤ d .m * 2 ^ (52 + d .e) * 2 ^ 511 =
+      values-of-le corner x 1 (2 ^ 511) (d .m * 2 ^ (52 + d .e)) (2 ^ 2148) tt above (refl, refl) (d .value) lo in
+      let g : 2148 < 53 + (52 + d .e) + 511 =
+      exponents 2148 (53 + (52 + d .e) + 511) (lt-of-le-of-lt h (shl-lt (53 + (52 + d .e)) 511 (shl-lt 53 (52 + d .e) (d .high)))) in
       omega arith
 
   e-high : d .e ≤ 2063
   e-high =
-      let h : d .m * 2 ^ (52 + d .e) * 1 ≤ 1000000 * 2 ^ 2148 = values-of-le x M (d .m * 2 ^ (52 + d .e)) (2 ^ 2148) 1000000 1 above tt (d .value) (refl, refl) hi in
+      let h : d .m * 2 ^ (52 + d .e) * 1 ≤ 1000000 * 2 ^ 2148 =
+      values-of-le x M (d .m * 2 ^ (52 + d .e)) (2 ^ 2148) 1000000 1 above tt (d .value) (refl, refl) hi in
       let l : 2 ^ (52 + (52 + d .e)) ≤ d .m * 2 ^ (52 + d .e) = le-trans (le-of-eq (pow-add 2 52 (52 + d .e))) (mul-le-mul-right (2 ^ (52 + d .e)) (d .low)) in
-      let g : 52 + (52 + d .e) < 2168 = exponents (52 + (52 + d .e)) 2168 (lt-of-le-of-lt l (lt-of-le-of-lt (le-trans (le-of-eq (sym (mul-one (d .m * 2 ^ (52 + d .e))))) h) (lit< tt))) in
+      let g : 52 + (52 + d .e) < 2168 =
+      exponents (52 + (52 + d .e)) 2168 (lt-of-le-of-lt l (lt-of-le-of-lt (le-trans (le-of-eq (sym (mul-one (d .m * 2 ^ (52 + d .e))))) h) (lit< tt))) in
       omega arith
 
   abbrev j : ℕ
@@ -211,7 +218,8 @@ module _ (x : Float) (fit : T (fits binary64 x)) (lo : T (le corner x)) (hi : T 
       let a = 52 + d .e in
       let s : a + a + 1126 ≡ 2 * j - 1022 + 4296 = omega (arith, e-low) in
       mul-at binary64 x x (m * 2 ^ a) (2 ^ 2148) (m * 2 ^ a) (2 ^ 2148) above above (pow-pos 2148) (pow-pos 2148) (d .value) (d .value)
-      ∙ round-same binary64 false (m * 2 ^ a * (m * 2 ^ a)) (2 ^ 2148 * 2 ^ 2148) (m * m * 2 ^ (2 * j - 1022)) (2 ^ 1126) (mul-pos (pow-pos 2148) (pow-pos 2148)) (pow-pos 1126)
+      ∙ round-same binary64 false (m * 2 ^ a * (m * 2 ^ a)) (2 ^ 2148 * 2 ^ 2148) (m * m * 2 ^ (2 * j - 1022)) (2 ^ 1126)
+      (mul-pos (pow-pos 2148) (pow-pos 2148)) (pow-pos 1126)
       (ap (λ (z : ℕ). z * 2 ^ 1126) (mul-mul-mul-comm m (2 ^ a) m (2 ^ a) ∙ ap (λ (z : ℕ). m * m * z) (sym (pow-add 2 a a)))
       ∙ scaled (m * m) (a + a) 1126 (2 * j - 1022 + 4296) s ∙ sym (scaled (m * m) (2 * j - 1022) 4296 (2 * j - 1022 + 4296) refl))
 
@@ -219,7 +227,8 @@ module _ (x : Float) (fit : T (fits binary64 x)) (lo : T (le corner x)) (hi : T 
   root-square f =
       let m = d .m in
       let far : 511 ≤ j = omega (arith, e-low) in
-      let r : rootOf (x ⊗ x) ≡ units binary64 false m j = ap rootOf square-is ∙ root-back m (d .low) (d .high) j far (subst (λ (z : Float). T (finite z)) square-is f) in
+      let r : rootOf (x ⊗ x) ≡ units binary64 false m j = ap rootOf square-is
+      ∙ root-back m (d .low) (d .high) j far (subst (λ (z : Float). T (finite z)) square-is f) in
       let v = units-val binary64 false m j (lt-of-lt-of-le (shl-lt 53 j (d .high)) (pow-mono {i = 53 + j} {j = 2098} (omega (arith, e-high)))) in
       le-of-values (rootOf (x ⊗ x)) x (m * 2 ^ j) (2 ^ 1074) (m * 2 ^ (52 + d .e)) (2 ^ 2148) (pow-pos 1074) (pow-pos 2148)
       (subst (λ (z : Float). HasValue z false (m * 2 ^ j) (2 ^ 1074)) (sym r) v) (d .value)

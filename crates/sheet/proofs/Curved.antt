@@ -49,8 +49,20 @@ less a b g p q h =
   where
     smaller : (ua la da ub lb db : ℕ) → lb ≡ 0 → (ua * db + lb * da) * da + la * (da * db) ≤ ua * (da * db) + (ub * da + la * db) * da
     smaller ua la da ub lb db z =
-        omega
-        (arith, add-mul (ua * db) (lb * da) da, add-mul (ub * da) (la * db) da, mul-assoc ua db da, mul-assoc la db da, mul-comm db da, ap (λ (x : ℕ). ua * x) (mul-comm db da), ap (λ (x : ℕ). la * x) (mul-comm db da), ap (λ (x : ℕ). x * da * da) z, zero-mul da, ap (λ (x : ℕ). x * da) (zero-mul da))
+        omega (
+          arith,
+          add-mul (ua * db) (lb * da) da,
+          add-mul (ub * da) (la * db) da,
+          mul-assoc ua db da,
+          mul-assoc la db da,
+          mul-comm db da,
+          ap (λ (x : ℕ). ua * x)
+              (mul-comm db da),
+          ap (λ (x : ℕ). la * x) (mul-comm db da),
+          ap (λ (x : ℕ). x * da * da) z,
+          zero-mul da,
+          ap (λ (x : ℕ). x * da) (zero-mul da),
+        )
 
 -- a distance that lies beyond the flat part is not negative
 beyond : (d w r : Float) → T (finite w) → T (finite r) → T (le O w) → T (le d r) → le (d ⊖ w) f0 ≡ false → T (le O d)
@@ -64,14 +76,16 @@ beyond (fin s m c) w r q p h k e =
     (λ l.
     absurd
     (no
-    (sym e ∙ is-true _ (rw f0-is (le-trans (fin s m c ⊖ w) (O ⊖ w) O (sub-mono binary64 (fin s m c) O w tt tt q (lt-le (fin s m c) O l)) (rw no-difference at (sub-turns binary64 O w O tt q tt h)))))))
+    (sym e ∙ is-true _ (rw f0-is (le-trans (fin s m c ⊖ w) (O ⊖ w) O (sub-mono binary64 (fin s m c) O w tt tt q (lt-le (fin s m c) O l))
+    (rw no-difference at (sub-turns binary64 O w O tt q tt h)))))))
     (λ l. not-below (fin s m c) O tt tt l)
   where
     is-true : (b : Bool) → T b → b ≡ true
     is-true true t = refl
     is-true false t = absurd t
 
-module _ (r rc : Float) (r₀ : T (le O r)) (r₁ : T (le r M)) (c₀ : T (le O rc)) (c₁ : T (le rc r)) (fit : T (fits binary64 r)) (square : T (le (rootOf (rc ⊗ rc)) rc)) where
+module _ (r rc : Float) (r₀ : T (le O r)) (r₁ : T (le r M)) (c₀ : T (le O rc)) (c₁ : T (le rc r)) (fit : T (fits binary64 r))
+    (square : T (le (rootOf (rc ⊗ rc)) rc)) where
   small-r : Small r
   small-r = small-up r r₀ r₁
 

@@ -50,7 +50,8 @@ module _ (rc : Float) (fit : T (fits binary64 rc)) (c₀ : T (le O rc)) (c₁ : 
   none z =
       let f = small-finite rc (small-up rc c₀ c₁) in
       let s : T (le (rc ⊗ rc) O) = rw zero-square at (square-up rc O f tt c₀ z) in
-      le-trans (rootOf (rc ⊗ rc)) O rc (rw zero-root at (root-le (rc ⊗ rc) O (mul-fits binary64 rc rc) (unfold fits in tt) square-fine tt (square-nonneg rc f) s)) c₀
+      le-trans (rootOf (rc ⊗ rc)) O rc
+      (rw zero-root at (root-le (rc ⊗ rc) O (mul-fits binary64 rc rc) (unfold fits in tt) square-fine tt (square-nonneg rc f) s)) c₀
 
   root-back : (le rc f0 || le leastCorner rc) ≡ true → T (le (rootOf (rc ⊗ rc)) rc)
   root-back e =
@@ -73,9 +74,14 @@ unfolding validSection positiveReach
 radius-of r e =
     let a = both-true _ _ (both-true (within f0 million) _ e .1) in
     let b = both-true (lt f0 r) _ (a .1) in
-    record { low = rw f0-is at (holds (le f0 r) (both-true (le f0 r) (le r r) (a .0) .0)); high = rw million-is at (holds (le r million) (both-true (le r million) _ (b .1) .0)) }
+    record {
+      low = rw f0-is at (holds (le f0 r) (both-true (le f0 r) (le r r) (a .0) .0));
+      high =
+          rw million-is at (holds (le r million) (both-true (le r million) _ (b .1) .0));
+    }
 
-enclosing : (r : Float) (table : List Float) → T (fits binary64 r) → validSection (cylinderOf f0 r) ≡ true → sectionOf table 0 ≡ cylinderOf f0 r → Encloses r table
+enclosing : (r : Float) (table : List Float) → T (fits binary64 r) → validSection (cylinderOf f0 r) ≡ true
+    → sectionOf table 0 ≡ cylinderOf f0 r → Encloses r table
 unfolding isCorner
 enclosing r table fit v e = record {
   below = λ d rc g c l.
@@ -90,7 +96,8 @@ enclosing r table fit v e = record {
 
 -- ---- where it stands
 
-curved-end : (shape : Shape) (enclose : Bool) (p : Sheet) → isCurved shape ≡ true → isAbsent (endOf shape enclose p) ≡ false → endOf shape enclose p ≡ There (cylinderOf f0 (radiusOf p))
+curved-end : (shape : Shape) (enclose : Bool) (p : Sheet) → isCurved shape ≡ true → isAbsent (endOf shape enclose p) ≡ false
+    → endOf shape enclose p ≡ There (cylinderOf f0 (radiusOf p))
 unfolding isCurved isAbsent endOf enclosedOf
 curved-end Flat enclose p c a = absurd (no c)
 curved-end Ball true p c a = refl
@@ -117,4 +124,5 @@ accepted-encloses shape enclose neck p hs table b body z t f curved =
     let a = accepted p b hs (length table) z in
     let at : b .end ≡ endOf shape enclose p = ap (λ (q : Body). q .end) body in
     let e : b .end ≡ There (cylinderOf f0 (radiusOf p)) = at ∙ curved-end shape enclose p curved (ap isAbsent (sym at) ∙ a .covered) in
-    enclosing (radiusOf p) t (div-fits binary64 (p .diameter) f2) (first-valid b hs _ e (a .valid)) (ap (λ (l : List Float). sectionOf l 0) f ∙ first-is b hs _ e table)
+    enclosing (radiusOf p) t (div-fits binary64 (p .diameter) f2) (first-valid b hs _ e (a .valid)) (ap (λ (l : List Float). sectionOf l 0) f
+    ∙ first-is b hs _ e table)

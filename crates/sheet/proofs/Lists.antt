@@ -60,11 +60,13 @@ holders-more hs i (suc n) =
 
 -- ---- the whole list
 
-pub sections-length : (b : Body) (hs : List Float) → length (sectionsOf b hs) ≡ length (listed (b .end)) + (length (listed (b .cut)) + (length (listed (b .neck)) + length hs / 4))
+pub sections-length : (b : Body) (hs : List Float)
+    → length (sectionsOf b hs) ≡ length (listed (b .end)) + (length (listed (b .cut)) + (length (listed (b .neck)) + length hs / 4))
 unfolding sectionsOf
 sections-length b hs = simp (length-append, holders-length)
 
-pub sections-valid : (b : Body) (hs : List Float) → allValid (sectionsOf b hs) ≡ ((allValid (listed (b .end)) && (allValid (listed (b .cut)) && allValid (listed (b .neck)))) && allValid (holdersFrom hs 0 (length hs / 4)))
+pub sections-valid : (b : Body) (hs : List Float) → allValid (sectionsOf b hs)
+    ≡ ((allValid (listed (b .end)) && (allValid (listed (b .cut)) && allValid (listed (b .neck)))) && allValid (holdersFrom hs 0 (length hs / 4)))
 unfolding sectionsOf
 sections-valid b hs =
     let h : List Section = holdersFrom hs 0 (length hs / 4) in
@@ -79,14 +81,16 @@ sections-valid b hs =
 
 pub placed-none : (at : ℕ) (table : List Float) → table ≡ placed [] at table
 unfolding placed flatOf
-placed-none at table = rw add-zero (sym (ap (λ (l : List Float). l ++ drop (4 * at) table) (append-nil (take (4 * at) table)) ∙ take-append-drop (4 * at) table))
+placed-none at table = rw add-zero
+    (sym (ap (λ (l : List Float). l ++ drop (4 * at) table) (append-nil (take (4 * at) table)) ∙ take-append-drop (4 * at) table))
 
 pub placed-one : (table : List Float) (at : ℕ) (s : Section) → 4 * (at + 1) ≤ length table
     → set (set (set (set table (4 * at) (s .z0)) (4 * at + 1) (s .r0)) (4 * at + 2) (s .r1)) (4 * at + 3) (s .rise) ≡ placed (s ∷ []) at table
 unfolding placed flatOf
 placed-one table at s h =
     let e : 4 * at + 4 ≡ 4 * (at + 1) = omega arith in
-    rw (add-one (4 * at), add-two (4 * at), add-three (4 * at)) (sets-eq (four s) table (4 * at) (omega arith) ∙ ap (λ (k : ℕ). take (4 * at) table ++ four s ++ drop k table) e)
+    rw (add-one (4 * at), add-two (4 * at), add-three (4 * at)) (sets-eq (four s) table (4 * at) (omega arith)
+    ∙ ap (λ (k : ℕ). take (4 * at) table ++ four s ++ drop k table) e)
 
 module _ (fs : List Section) (at : ℕ) (table : List Float) (h : 4 * (at + length fs) ≤ length table) where
   front : length (take (4 * at) table ++ flatOf fs) ≡ 4 * (at + length fs)
@@ -94,7 +98,11 @@ module _ (fs : List Section) (at : ℕ) (table : List Float) (h : 4 * (at + leng
 
   pub placed-length : length (placed fs at table) ≡ length table
   unfolding placed
-  placed-length = rw (length-append (take (4 * at) table ++ flatOf fs) (drop (4 * (at + length fs)) table), front, length-drop (4 * (at + length fs)) table) (omega arith)
+  placed-length = rw (
+    length-append (take (4 * at) table ++ flatOf fs) (drop (4 * (at + length fs)) table),
+    front,
+    length-drop (4 * (at + length fs)) table,
+  ) (omega arith)
 
   behind : (bs : List Section) → drop (4 * (at + length fs + length bs)) (placed fs at table) ≡ drop (4 * (at + length (fs ++ bs))) table
   unfolding placed
@@ -112,9 +120,11 @@ module _ (fs : List Section) (at : ℕ) (table : List Float) (h : 4 * (at + leng
       let p : List Float = take (4 * at) table ++ flatOf fs in
       ap (λ (l : List Float). l ++ flatOf bs ++ drop (4 * (at + length fs + length bs)) (placed fs at table)) (take-at p _ (4 * (at + length fs)) front)
       ∙ ap (λ (l : List Float). p ++ flatOf bs ++ l) (behind bs)
-      ∙ ap (λ (l : List Float). l ++ drop (4 * (at + length (fs ++ bs))) table) (append-assoc (take (4 * at) table) (flatOf fs) (flatOf bs) ∙ ap (λ (l : List Float). take (4 * at) table ++ l) (sym (flat-append fs bs)))
+      ∙ ap (λ (l : List Float). l ++ drop (4 * (at + length (fs ++ bs))) table) (append-assoc (take (4 * at) table) (flatOf fs) (flatOf bs)
+      ∙ ap (λ (l : List Float). take (4 * at) table ++ l) (sym (flat-append fs bs)))
 
-  pub placed-then : (bs : List Section) (k : ℕ) (t u : List Float) → k ≡ at + length fs → t ≡ placed fs at table → u ≡ placed bs k t → u ≡ placed (fs ++ bs) at table
+  pub placed-then : (bs : List Section) (k : ℕ) (t u : List Float) → k ≡ at + length fs → t ≡ placed fs at table → u ≡ placed bs k t
+      → u ≡ placed (fs ++ bs) at table
   placed-then bs k t u n p q = rw (n, p) at q ∙ placed-more bs
 
 -- a part's section, or none
@@ -126,7 +136,8 @@ pub one-long : (q : Part) (s : Section) → q ≡ There s → length (listed q) 
 unfolding listed
 one-long q s e = rw e
 
-pub one-put : (q : Part) (s : Section) (at : ℕ) (table t : List Float) → q ≡ There s → t ≡ placed (s ∷ []) at table → (at + 1 ≡ at + length (listed q)) × (t ≡ placed (listed q) at table)
+pub one-put : (q : Part) (s : Section) (at : ℕ) (table t : List Float) → q ≡ There s → t ≡ placed (s ∷ []) at table
+    → (at + 1 ≡ at + length (listed q)) × (t ≡ placed (listed q) at table)
 unfolding listed
 one-put q s at table t e f = rw e (refl, f)
 

@@ -81,7 +81,8 @@ module _ (ss : List Section) (room n : ℕ) (long : n ≡ length ss) where
 
 -- ---- the answer
 
-module _ (shape : Shape) (enclose neck : Bool) (p : Sheet) (hs table : List Float) (b : Body) (k : ℕ) (body : b ≡ bodyOf shape enclose neck p) (says : k ≡ refusalOf p b hs (length table)) where
+module _ (shape : Shape) (enclose neck : Bool) (p : Sheet) (hs table : List Float) (b : Body) (k : ℕ) (body : b ≡ bodyOf shape enclose neck p)
+    (says : k ≡ refusalOf p b hs (length table)) where
   same : k ≡ refusalOf p (bodyOf shape enclose neck p) hs (length table)
   same = says ∙ ap (λ (c : Body). refusalOf p c hs (length table)) body
 

@@ -22,7 +22,8 @@ bits-finite b = pattern-finite binary32 refl b ∙ ap (λ (x : ℕ). not (eqb x 
 Told : Bool → ℕ → ℕ → Float → Type 0
 Told s x t y = HasValue y s (cond (eqb x 0) t (2 ^ 23 + t) * 2 ^ (x - 1)) (2 ^ 149)
 
-chosen : (b z s : Bool) (x t : ℕ) (v : Float) → Told s (suc x) t v → finite (cond b (cond z (inf s) nan) v) ≡ true → Told s (suc x) t (cond b (cond z (inf s) nan) v)
+chosen : (b z s : Bool) (x t : ℕ) (v : Float) → Told s (suc x) t v → finite (cond b (cond z (inf s) nan) v) ≡ true
+    → Told s (suc x) t (cond b (cond z (inf s) nan) v)
 unfolding finite
 chosen false z s x t v q e = q
 chosen true true s x t v q e = absurd (subst T (sym e) tt)

@@ -100,7 +100,8 @@ module _ (less : ℕ → ℕ → Bool) (s : Strict less) where
         }
 
     -- entry i swapped with the later one under it
-    module _ (l : List ℕ) (i d : ℕ) (room : e ≤ length l) (g : Sifting less r e l₀ l i) (t : Later less l i e d) (u : less (getD l i 0) (getD l d 0) ≡ true) where
+    module _ (l : List ℕ) (i d : ℕ) (room : e ≤ length l) (g : Sifting less r e l₀ l i) (t : Later less l i e d)
+        (u : less (getD l i 0) (getD l d 0) ≡ true) where
       hi : i < length l
       hi = omega (arith, g .inside)
 
@@ -202,7 +203,10 @@ module _ (less : ℕ → ℕ → Bool) (s : Strict less) where
 
     pub swap-heap : Heap less 1 m (swapped l 0 m)
     swap-heap p j a b c d =
-        rw (swapped-else l 0 m (omega arith) room p (λ u. omega arith) (λ u. omega arith), swapped-else l 0 m (omega arith) room j (λ u. omega arith) (λ u. omega arith))
+        rw (
+          swapped-else l 0 m (omega arith) room p (λ u. omega arith) (λ u. omega arith),
+          swapped-else l 0 m (omega arith) room j (λ u. omega arith) (λ u. omega arith),
+        )
         (h p j (omega arith) b c (omega arith))
 
 pub within-kept : (n e : ℕ) (l l′ : List ℕ) → Within n e l → Rearranged e l l′ → Within n e l′
@@ -236,7 +240,8 @@ pub sorting-starts : (less : ℕ → ℕ → Bool) (k : ℕ) (l : List ℕ) → 
 sorting-starts less k l h r = record { moved = r; heap = h; tail = λ a b x y z. absurd (omega arith); few = omega arith }
 
 -- the first of the heap put behind it, and the rest made a heap again
-module _ (less : ℕ → ℕ → Bool) (s : Strict less) (n k : ℕ) (l₀ l l₁ : List ℕ) (e m : ℕ) (w : Within n k l₀) (g : Sorting less k l₀ l e) (q : e ≡ m + 1) (sw : l₁ ≡ swapped l 0 m) where
+module _ (less : ℕ → ℕ → Bool) (s : Strict less) (n k : ℕ) (l₀ l l₁ : List ℕ) (e m : ℕ) (w : Within n k l₀) (g : Sorting less k l₀ l e) (q : e ≡ m + 1)
+    (sw : l₁ ≡ swapped l 0 m) where
   inside : m < length l
   inside = omega (arith, g .few, g .moved .size, w .table)
 
@@ -250,8 +255,10 @@ module _ (less : ℕ → ℕ → Bool) (s : Strict less) (n k : ℕ) (l₀ l l�
   ended a b x y z = g .tail a b x (omega arith) z
 
   pub sorting-ready : Within n m l₁ × Heap less 1 m l₁
-  sorting-ready =
-      (within-less n k m l₁ (omega (arith, g .few)) (within-kept n k l₀ l₁ w (rearranged-twice k l₀ l l₁ (g .moved) apart)), rw sw (swap-heap less s m k l inside heaped ended))
+  sorting-ready = (
+    within-less n k m l₁ (omega (arith, g .few)) (within-kept n k l₀ l₁ w (rearranged-twice k l₀ l l₁ (g .moved) apart)),
+    rw sw (swap-heap less s m k l inside heaped ended),
+  )
 
   pub sorting-goes : (l′ : List ℕ) → Rearranged m l₁ l′ → Heap less 0 m l′ → Sorting less k l₀ l′ m
   sorting-goes l′ r h =

@@ -30,7 +30,8 @@ module _ (less : ℕ → ℕ → Bool) where
   insert-length : (i : ℕ) (js : List ℕ) → length (insert less i js) ≡ suc (length js)
   unfolding insert
   insert-length i [] = refl
-  insert-length i (j ∷ js) = let r = insert-length i js in either (λ (l : List ℕ). length l ≡ suc (suc (length js))) (less i j) (i ∷ j ∷ js) (j ∷ insert less i js) (λ _. refl) (λ _. ap suc r)
+  insert-length i (j ∷ js) = let r = insert-length i js in
+      either (λ (l : List ℕ). length l ≡ suc (suc (length js))) (less i j) (i ∷ j ∷ js) (j ∷ insert less i js) (λ _. refl) (λ _. ap suc r)
 
   pub sorted-length : (xs : List ℕ) → length (sortedBy less xs) ≡ length xs
   unfolding sortedBy
@@ -126,7 +127,8 @@ module _ (less : ℕ → ℕ → Bool) (s : Strict less) where
 
   pub sorted-is : (k : ℕ) (l l′ : List ℕ) → k ≤ length l → Rearranged k l l′ → Tail less 0 k l′ → l′ ≡ sortedBy less (take k l) ++ drop k l
   sorted-is k l l′ room r t =
-      let rest : drop k l′ ≡ drop k l = ext-getD 0 (drop k l′) (drop k l) (simp length-drop (rw (r .size))) (λ i h. rw (getD-drop k l′ i 0, getD-drop k l i 0) (r .rest (k + i) (omega arith))) in
+      let rest : drop k l′ ≡ drop k l = ext-getD 0 (drop k l′) (drop k l) (simp length-drop (rw (r .size)))
+      (λ i h. rw (getD-drop k l′ i 0, getD-drop k l i 0) (r .rest (k + i) (omega arith))) in
       let rises : Rising less (take k l′) = tail-rises (take k l′) (λ a b h q.
       let q′ : b < k = omega (arith, rw (length-take k l′) at q) in
       rw (getD-take k l′ b 0 q′, getD-take k l′ a 0 (omega arith)) (t a b h (omega arith) q′)) in

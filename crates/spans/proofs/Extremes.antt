@@ -130,8 +130,12 @@ three a b c p q r =
     let low = min-either (λ v. isCoordinate v ≡ true) a b p q in
     let high = either-of (λ v. isCoordinate v ≡ true) a b p q in
     let l = min-either (λ v. isCoordinate v ≡ true) _ c low r in
-    let h = either-of (λ v. isCoordinate v ≡ true) _ c high r in
-    (l, h, le-trans-finite _ c _ (good-finite _ l) (good-finite c r) (good-finite _ h) (min-second _ c (good-finite _ low) (good-finite c r)) (max-least _ c (good-finite _ high) (good-finite c r)))
+    let h = either-of (λ v. isCoordinate v ≡ true) _ c high r in (
+      l,
+      h,
+      le-trans-finite _ c _ (good-finite _ l) (good-finite c r) (good-finite _ h) (min-second _ c (good-finite _ low) (good-finite c r))
+          (max-least _ c (good-finite _ high) (good-finite c r)),
+    )
 
 -- ---- of a mesh
 module _ (mesh : List Float) where
@@ -156,21 +160,27 @@ module _ (mesh : List Float) where
   top-is (suc n) = ap (λ (v : Float). maxOf v (boxOf mesh n .«high_y»)) (top-is n)
 
   module _ (good : (k : ℕ) → k < length mesh → isCoordinate (num mesh k) ≡ true) where
-    pub box-x : (i : ℕ) → i * 9 + 9 ≤ length mesh → (isCoordinate (boxOf mesh i .«low_x») ≡ true) × (isCoordinate (boxOf mesh i .«high_x») ≡ true) × T (le (boxOf mesh i .«low_x») (boxOf mesh i .«high_x»))
+    pub box-x : (i : ℕ) → i * 9 + 9 ≤ length mesh → (isCoordinate (boxOf mesh i .«low_x») ≡ true) × (isCoordinate (boxOf mesh i .«high_x») ≡ true)
+        × T (le (boxOf mesh i .«low_x») (boxOf mesh i .«high_x»))
     unfolding boxOf boundsOf triangleOf
     box-x i h = three _ _ _ (good _ (omega arith)) (good _ (omega arith)) (good _ (omega arith))
 
-    pub box-y : (i : ℕ) → i * 9 + 9 ≤ length mesh → (isCoordinate (boxOf mesh i .«low_y») ≡ true) × (isCoordinate (boxOf mesh i .«high_y») ≡ true) × T (le (boxOf mesh i .«low_y») (boxOf mesh i .«high_y»))
+    pub box-y : (i : ℕ) → i * 9 + 9 ≤ length mesh → (isCoordinate (boxOf mesh i .«low_y») ≡ true) × (isCoordinate (boxOf mesh i .«high_y») ≡ true)
+        × T (le (boxOf mesh i .«low_y») (boxOf mesh i .«high_y»))
     unfolding boxOf boundsOf triangleOf
     box-y i h = three _ _ _ (good _ (omega arith)) (good _ (omega arith)) (good _ (omega arith))
 
-    pub ordered-x : (n : ℕ) → n * 9 ≤ length mesh → (i : ℕ) → i < n → Ordered (extentOf mesh n .left) (boxOf mesh i .«low_x») (boxOf mesh i .«high_x») (extentOf mesh n .right)
+    pub ordered-x : (n : ℕ) → n * 9 ≤ length mesh → (i : ℕ) → i < n
+        → Ordered (extentOf mesh n .left) (boxOf mesh i .«low_x») (boxOf mesh i .«high_x») (extentOf mesh n .right)
     ordered-x zero nine i h = absurd (omega arith)
-    ordered-x (suc n) nine i h = rw (left-is (suc n), right-is (suc n)) (ordered (λ i. boxOf mesh i .«low_x») (λ i. boxOf mesh i .«high_x») n (λ i h. box-x i (omega arith)) i h)
+    ordered-x (suc n) nine i h =
+        rw (left-is (suc n), right-is (suc n)) (ordered (λ i. boxOf mesh i .«low_x») (λ i. boxOf mesh i .«high_x») n (λ i h. box-x i (omega arith)) i h)
 
-    pub ordered-y : (n : ℕ) → n * 9 ≤ length mesh → (i : ℕ) → i < n → Ordered (extentOf mesh n .bottom) (boxOf mesh i .«low_y») (boxOf mesh i .«high_y») (extentOf mesh n .top)
+    pub ordered-y : (n : ℕ) → n * 9 ≤ length mesh → (i : ℕ) → i < n
+        → Ordered (extentOf mesh n .bottom) (boxOf mesh i .«low_y») (boxOf mesh i .«high_y») (extentOf mesh n .top)
     ordered-y zero nine i h = absurd (omega arith)
-    ordered-y (suc n) nine i h = rw (bottom-is (suc n), top-is (suc n)) (ordered (λ i. boxOf mesh i .«low_y») (λ i. boxOf mesh i .«high_y») n (λ i h. box-y i (omega arith)) i h)
+    ordered-y (suc n) nine i h =
+        rw (bottom-is (suc n), top-is (suc n)) (ordered (λ i. boxOf mesh i .«low_y») (λ i. boxOf mesh i .«high_y») n (λ i h. box-y i (omega arith)) i h)
 
 -- ---- the cells on an axis
 module _ (lo low high hi s : Float) (o : Ordered lo low high hi) (z : Size s) where
@@ -208,5 +218,11 @@ module _ (lo low high hi s : Float) (o : Ordered lo low high hi) (z : Size s) wh
   pub near-ends : cellsAlong lo hi s ≤ 65536 → Near lo s low × Near lo s high
   near-ends k =
       let a = cells-mono lo low high s lo-c low-c high-c z (o .above) (o .order) in
-      let b = cells-mono lo high hi s lo-c high-c hi-c z lo-high (o .under) in
-      (record { above = rw f0-is (quotient-low lo low s lo-c low-c z (o .above)); few = omega (arith, along) }, record { above = rw f0-is (quotient-low lo high s lo-c high-c z lo-high); few = omega (arith, along) })
+      let b = cells-mono lo high hi s lo-c high-c hi-c z lo-high (o .under) in (
+        record { above = rw f0-is (quotient-low lo low s lo-c low-c z (o .above)); few = omega (arith, along) },
+        record {
+          above =
+              rw f0-is (quotient-low lo high s lo-c high-c z lo-high);
+          few = omega (arith, along);
+        },
+      )

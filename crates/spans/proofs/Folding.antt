@@ -24,6 +24,7 @@ module _ (mesh : List Float) where
   unfolding scaleOf
   scale-none = refl
 
-  pub scale-more : (i : ℕ) (s d w : Float) (t : Triangle) → s ≡ scaleOf mesh i → t ≡ triangleOf mesh i → d ≡ farthestOf t → w ≡ maxOf s d → w ≡ scaleOf mesh (i + 1)
+  pub scale-more : (i : ℕ) (s d w : Float) (t : Triangle) → s ≡ scaleOf mesh i → t ≡ triangleOf mesh i → d ≡ farthestOf t → w ≡ maxOf s d
+      → w ≡ scaleOf mesh (i + 1)
   unfolding scaleOf
   scale-more i s d w t p q f h = rw (add-one i, ← p, ← q, ← f) h

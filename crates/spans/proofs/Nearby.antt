@@ -3,7 +3,8 @@
 use mathlib.Core.Bool.{true, false, _&&_}
 use mathlib.Core.Path.{_≡_, refl, ap, ap₂, sym, _∙_}
 use Prim.Native.Nat.{ℕ, zero, suc, _+_, _-_, _*_, _/_, _%_, _^_, _≤_, _<_, min}
-use native.Mathlib.Nat.{mul-one, mul-assoc, mul-pos, zero-mul, zero-div, add-mul, mul-right-comm, mul-le-mul-right, le-of-mul-le-mul-right, div-mul-le-self, div-lt-iff-lt-mul, le-div-iff-mul-le, pow-suc}
+use native.Mathlib.Nat.{mul-one, mul-assoc, mul-pos, zero-mul, zero-div, add-mul, mul-right-comm, mul-le-mul-right}
+use native.Mathlib.Nat.{le-of-mul-le-mul-right, div-mul-le-self, div-lt-iff-lt-mul, le-div-iff-mul-le, pow-suc}
 use native.Mathlib.Omega.{arith}
 use borrow.Author.Tests.{ltb-true, ltb-false, lt-ltb, le-ltb}
 use lib.Dec.{T, ltb, leb, eqb, ltb→lt, le→leb}
@@ -42,7 +43,8 @@ digits (suc m) e t =
     ltb→lt (suc m) (2 ^ 53) (and-r a b (and-l (a && b) c (and-l (a && b && c) (ltb (suc m * up e) (2 ^ suc (emax binary64) * down e)) t)))
 
 -- from 2 ^ 52 on a float is whole, and taking 2 ^ 52 away is exact
-back : (y : Float) → T (fits binary64 y) → T (positive y) → 4503599627370496 * den y ≤ num y → (k : ℕ) × ((y ⊖ shift ≡ ofInt binary64 (pos k)) × HasValue y false (4503599627370496 + k) 1)
+back : (y : Float) → T (fits binary64 y) → T (positive y) → 4503599627370496 * den y ≤ num y
+    → (k : ℕ) × ((y ⊖ shift ≡ ofInt binary64 (pos k)) × HasValue y false (4503599627370496 + k) 1)
 unfolding sub add neg sum ofInt
 back nan f p h = absurd p
 back (inf s) f p h = absurd p
@@ -55,7 +57,8 @@ back (fin false m (pos e)) f p h =
 back (fin false m (negsuc e)) f p h = absurd (omega (arith, digits m (negsuc e) f, pow-suc 2 e, pow-pos e, mul-one m))
 
 -- a / d + 2 ^ 52, rounded
-module _ (y : Float) (a d : ℕ) (D : 0 < d) (few : a / d + 1 < 4294967296) (is : y ≡ round binary64 false (a + 4503599627370496 * d) d) (f : T (fits binary64 y)) where
+module _ (y : Float) (a d : ℕ) (D : 0 < d) (few : a / d + 1 < 4294967296) (is : y ≡ round binary64 false (a + 4503599627370496 * d) d)
+    (f : T (fits binary64 y)) where
   under : T (le (round binary64 false (4503599627370496 + a / d) 1) y)
   under =
       rw is
@@ -117,7 +120,8 @@ zero-shift m e z =
     let r : 4503599627370496 * down e - 0 ≡ 0 + 4503599627370496 * down e = omega arith in
     rw (q, b) (ap₂ (λ (p d : ℕ). round binary64 false p d) r (mul-one (down e)))
 
-nearby : (x : Float) → T (le (fin false 0 (pos 0)) x) → toUnsigned 64 x + 1 < 4294967296 → (k : ℕ) × (((x ⊕ shift) ⊖ shift ≡ ofInt binary64 (pos k)) × (toUnsigned 64 x ≤ k) × (k ≤ toUnsigned 64 x + 1))
+nearby : (x : Float) → T (le (fin false 0 (pos 0)) x) → toUnsigned 64 x + 1 < 4294967296
+    → (k : ℕ) × (((x ⊕ shift) ⊖ shift ≡ ofInt binary64 (pos k)) × (toUnsigned 64 x ≤ k) × (k ≤ toUnsigned 64 x + 1))
 nearby nan h l = absurd (unfold le in h)
 nearby (inf true) h l = absurd (unfold le in h)
 nearby (inf false) h l = absurd (unfold toUnsigned in omega arith)
@@ -143,7 +147,8 @@ module _ (k : ℕ) where
   past (fin true p q) h m e t = let z : _≡_ {A = ℕ} 0 1 = cc in absurd (omega arith)
   past (fin false p q) h m e t =
       div-lt-iff-lt-mul {k = down e} {x = m * up e} {y = k} (down-pos e) .1
-      (unscaled (m * up e) (k * down e) (down q) (down-pos q) (omega (arith, ltb-true (m * up e * down q) (p * up q * down e) t, scaled (p * up q) k (down q) (down e) (h .1))))
+      (unscaled (m * up e) (k * down e) (down q) (down-pos q)
+      (omega (arith, ltb-true (m * up e * down q) (p * up q * down e) t, scaled (p * up q) k (down q) (down e) (h .1))))
 
   not-past : (v : Float) → HasValue v false k 1 → (m : ℕ) (e : ℤ) → lt (fin false m e) v ≡ false → k ≤ m * up e / down e
   unfolding lt

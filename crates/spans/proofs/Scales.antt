@@ -33,7 +33,8 @@ positive-lt : (x : Float) → T (positive x) → T (lt (fin false 0 (pos 0)) x)
 positive-lt nan p = absurd p
 positive-lt (inf s) p = absurd p
 positive-lt (fin true m e) p = absurd p
-positive-lt (fin false m e) p = parts→lt (fin false 0 (pos 0)) (fin false m e) tt tt (omega (arith, zero-mul (down e), mul-pos (ltb→lt 0 m p) (up-pos e), mul-one (m * up e)))
+positive-lt (fin false m e) p =
+    parts→lt (fin false 0 (pos 0)) (fin false m e) tt tt (omega (arith, zero-mul (down e), mul-pos (ltb→lt 0 m p) (up-pos e), mul-one (m * up e)))
 
 -- finite and not above 1e6
 abbrev Small : Float → Type 0
@@ -61,7 +62,8 @@ module _ (mesh : List Float) (good : (k : ℕ) → k < length mesh → isCoordin
   unfolding farthestOf triangleOf
   small-triangle i h =
       small-corner _ _ _ _
-      (small-corner _ _ _ _ (small-corner f0 _ _ _ small-zero (good _ (omega arith)) (good _ (omega arith)) (good _ (omega arith))) (good _ (omega arith)) (good _ (omega arith)) (good _ (omega arith)))
+      (small-corner _ _ _ _ (small-corner f0 _ _ _ small-zero (good _ (omega arith)) (good _ (omega arith)) (good _ (omega arith))) (good _ (omega arith))
+      (good _ (omega arith)) (good _ (omega arith)))
       (good _ (omega arith)) (good _ (omega arith)) (good _ (omega arith))
 
   small-scale : (n : ℕ) → n * 9 ≤ length mesh → Small (scaleOf mesh n)
@@ -96,7 +98,8 @@ module _ (mesh : List Float) (good : (k : ℕ) → k < length mesh → isCoordin
         between slight _ (slight ⊗ largest) tt (unfold mul round in tt) (rw a at above-slack) under-bound
 
     eps-high : T (le (slight ⊗ scale) (fin false 4722366482869645 (negsuc 70)))
-    eps-high = le-trans-finite (slight ⊗ scale) (slight ⊗ largest) (fin false 4722366482869645 (negsuc 70)) (positive-finite (slight ⊗ scale) eps-low) (unfold mul round in tt) tt under-bound (unfold mul round le in tt)
+    eps-high = le-trans-finite (slight ⊗ scale) (slight ⊗ largest) (fin false 4722366482869645 (negsuc 70)) (positive-finite (slight ⊗ scale) eps-low)
+        (unfold mul round in tt) tt under-bound (unfold mul round le in tt)
 
     pub eps-above : lt f0 (epsOf mesh n) ≡ true
     unfolding epsOf scale

@@ -37,7 +37,8 @@ unfolding badFrom
 from-good j [] e k h = absurd (omega arith)
 from-good j (x ∷ xs) e k h = go (isCoordinate x) refl (λ p. from-good (j + 1) xs ((rw p) ∙ e)) k h
   where
-    go : (t : Bool) → isCoordinate x ≡ t → (isCoordinate x ≡ true → (k : ℕ) → k < length xs → isCoordinate (num xs k) ≡ true) → (k : ℕ) → k < length (x ∷ xs) → isCoordinate (num (x ∷ xs) k) ≡ true
+    go : (t : Bool) → isCoordinate x ≡ t → (isCoordinate x ≡ true → (k : ℕ) → k < length xs → isCoordinate (num xs k) ≡ true) → (k : ℕ) → k < length (x ∷ xs)
+        → isCoordinate (num (x ∷ xs) k) ≡ true
     go true p f zero l = p
     go true p f (suc k) l = f p k (omega arith)
     go false p f k l = let z : At j ≡ Nowhere = (rw p) ∙ e in let y : _≡_ {A = ℕ} 0 1 = cc in absurd (omega arith)

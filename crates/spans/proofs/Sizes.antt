@@ -82,11 +82,13 @@ div-shrinks x s p q h k =
 module _ (n : ℕ) (some : 0 < n) (few : n ≤ 65536) where
   count-low : T (le (fin false 1 (pos 0)) (ofInt binary64 (pos n)))
   unfolding ofInt
-  count-low = let e : round binary64 false 1 1 ≡ fin false 1 (pos 0) = unfold round in refl in rw e at (round-mono binary64 1 1 n 1 (omega arith) (omega arith) (omega arith))
+  count-low = let e : round binary64 false 1 1 ≡ fin false 1 (pos 0) = unfold round in refl in
+      rw e at (round-mono binary64 1 1 n 1 (omega arith) (omega arith) (omega arith))
 
   count-high : T (le (ofInt binary64 (pos n)) (fin false 1 (pos 16)))
   unfolding ofInt
-  count-high = let e : round binary64 false 65536 1 ≡ fin false 1 (pos 16) = unfold round in refl in rw e at (round-mono binary64 n 1 65536 1 (omega arith) (omega arith) (omega arith))
+  count-high = let e : round binary64 false 65536 1 ≡ fin false 1 (pos 16) = unfold round in refl in
+      rw e at (round-mono binary64 n 1 65536 1 (omega arith) (omega arith) (omega arith))
 
   count-positive : T (positive (ofInt binary64 (pos n)))
   count-positive = between (fin false 1 (pos 0)) _ (fin false 1 (pos 16)) tt tt count-low count-high
@@ -103,15 +105,18 @@ module _ (n : ℕ) (some : 0 < n) (few : n ≤ 65536) where
       let q : rootOf (fin false 1 (pos 16)) ≡ fin false 1 (pos 8) = unfold rootOf rootOfUnits nearestRoot wholeRoot size units odd in refl in
       finite-between (fin false 1 (pos 0)) _ (fin false 1 (pos 8)) tt tt (rw p at root-low) (rw q at root-high)
 
-module _ (e : Extent) (r : Float) (a : Coordinate (e .left)) (b : Coordinate (e .right)) (c : Coordinate (e .bottom)) (d : Coordinate (e .top)) (z : Radius r) where
+module _ (e : Extent) (r : Float) (a : Coordinate (e .left)) (b : Coordinate (e .right)) (c : Coordinate (e .bottom))
+    (d : Coordinate (e .top)) (z : Radius r) where
   span-high : T (le (spanOf e r) two)
   unfolding spanOf
   span-high =
-      either-of (λ v. T (le v two)) _ r (either-of (λ v. T (le v two)) _ _ (extent-high (e .right) (e .left) b a) (extent-high (e .top) (e .bottom) d c)) (million-under r (radius-finite r z) (z .high))
+      either-of (λ v. T (le v two)) _ r (either-of (λ v. T (le v two)) _ _ (extent-high (e .right) (e .left) b a) (extent-high (e .top) (e .bottom) d c))
+      (million-under r (radius-finite r z) (z .high))
 
   span-finite : T (finite (spanOf e r))
   unfolding spanOf
-  span-finite = either-of (λ v. T (finite v)) _ r (either-of (λ v. T (finite v)) _ _ (extent-finite (e .right) (e .left) b a) (extent-finite (e .top) (e .bottom) d c)) (radius-finite r z)
+  span-finite = either-of (λ v. T (finite v)) _ r
+      (either-of (λ v. T (finite v)) _ _ (extent-finite (e .right) (e .left) b a) (extent-finite (e .top) (e .bottom) d c)) (radius-finite r z)
 
   span-low : T (le (fin false 0 (pos 0)) (spanOf e r))
   unfolding spanOf
@@ -146,7 +151,8 @@ module _ (e : Extent) (r : Float) (a : Coordinate (e .left)) (b : Coordinate (e 
 
     inner-finite : T (finite (maxOf (spanOf e r ⊘ maxOf root f1) (r ⊘ f4)))
     inner-finite =
-        either-of (λ v. T (finite v)) _ _ (finite-between (fin false 0 (pos 0)) _ two tt tt share-low share-high) (finite-between (fin false 0 (pos 0)) _ two tt tt quarter-low quarter-high)
+        either-of (λ v. T (finite v)) _ _ (finite-between (fin false 0 (pos 0)) _ two tt tt share-low share-high)
+        (finite-between (fin false 0 (pos 0)) _ two tt tt quarter-low quarter-high)
 
     larger-size : Size (maxOf (maxOf (spanOf e r ⊘ maxOf root f1) (r ⊘ f4)) millionth)
     larger-size =

@@ -22,7 +22,8 @@ use Rattle.capsule.specs.declared.Place.{Place}
 use Rattle.capsule.specs.declared.Point.{Point}
 use Rattle.capsule.specs.declared.Edge.{Edge}
 use Rattle.capsule.specs.Region.{inCapsule, offerOf, offeredAll}
-use Rattle.capsule.specs.Candidates.{each, cornerA, cornerB, cornerC, corners, edgeOf, edges, onEdge, pointOn, reached, squared, solved, circled, ends, sided, sides, crossed, places, determinantOf, riseOf, pointOver, raised, planeOver, inner, candidates, highestIn}
+use Rattle.capsule.specs.Candidates.{each, cornerA, cornerB, cornerC, corners, edgeOf, edges, onEdge, pointOn, reached, squared, solved, circled, ends, sided}
+use Rattle.capsule.specs.Candidates.{sides, crossed, places, determinantOf, riseOf, pointOver, raised, planeOver, inner, candidates, highestIn}
 use Rattle.tops.specs.Inside.{deepest, isLow, liesLow}
 use Rattle.tops.proofs.Weights.{S, I}
 use Rattle.tops.proofs.Tops.{deep, first, last, step, corner-under, edge-under, facet-under}
@@ -59,7 +60,8 @@ module _ (f : Float) where
   unfolding offeredAll offerOf
   offered k [] c a l = a
   offered k (v ∷ vs) c a (cons _ _ l m) =
-      offered k vs (offerOf k c v) (either (Topped f) (inCapsule k (v .x) (v .y)) (takeOf c (v .z) (v .touch)) c (λ e. taken c (v .z) (v .touch) a l) (λ e. a)) m
+      offered k vs (offerOf k c v)
+      (either (Topped f) (inCapsule k (v .x) (v .y)) (takeOf c (v .z) (v .touch)) c (λ e. taken c (v .z) (v .touch) a l) (λ e. a)) m
 
   -- ---- an edge of which no point from 0 to 1 is above it
   abbrev Under : Edge → Type 0
@@ -153,7 +155,8 @@ module _ (f : Float) (A : T (le first f)) (B : T (le f last)) (t : Triangle) (h 
       let x = both-true (le minusSlack (f1 ⊖ v ⊖ w)) (le minusSlack v && le minusSlack w) o in
       let y = both-true (le minusSlack v) (le minusSlack w) (x .1) in
       let g : (z : Float) → le minusSlack z ≡ true → T (le S z) = λ z e. rw minusSlack-is at (subst T (sym e) tt) in
-      cons _ [] (rw f1-is (facet-under f A B v w (t .az) (t .bz) (t .cz) (g v (y .0)) (g w (y .1)) (rw f1-is at (g (f1 ⊖ v ⊖ w) (x .0))) (a-low .0) (a-low .1) (b-low .0) (b-low .1) (c-low .0) (c-low .1))) nil)
+      cons _ [] (rw f1-is (facet-under f A B v w (t .az) (t .bz) (t .cz) (g v (y .0)) (g w (y .1)) (rw f1-is at (g (f1 ⊖ v ⊖ w) (x .0))) (a-low .0) (a-low .1)
+      (b-low .0) (b-low .1) (c-low .0) (c-low .1))) nil)
 
   over-all : (p : Place) → All f (planeOver t p)
   unfolding planeOver baryOf
@@ -167,10 +170,12 @@ module _ (f : Float) (A : T (le first f)) (B : T (le f last)) (t : Triangle) (h 
       let det = bx ⊗ cy ⊖ cx ⊗ by in
       let l1 = (dx ⊗ cy ⊖ cx ⊗ dy) ⊘ det in
       let l2 = (bx ⊗ dy ⊖ dx ⊗ by) ⊘ det in
-      either (λ s. All f (raised t p s)) (lt (absOf det) tiny) Nowhere (At (record { u = f1 ⊖ l1 ⊖ l2; v = l1; w = l2 })) (λ e. unfold raised in nil) (λ e. weighed-all p l1 l2)
+      either (λ s. All f (raised t p s)) (lt (absOf det) tiny) Nowhere (At (record { u = f1 ⊖ l1 ⊖ l2; v = l1; w = l2 })) (λ e. unfold raised in nil)
+      (λ e. weighed-all p l1 l2)
 
   pub peak : (k : Capsule) → Topped f (highestIn k t)
   unfolding highestIn candidates inner
   peak k =
       offered f k (candidates k t) Nothing none
-      (all-append f _ _ corners-all (all-append f _ _ (edges-all k) (all-if f (lt tiny (absOf (determinantOf t))) _ (λ o. all-each f (planeOver t) over-all (places k (riseOf t (k .r)))))))
+      (all-append f _ _ corners-all (all-append f _ _ (edges-all k)
+      (all-if f (lt tiny (absOf (determinantOf t))) _ (λ o. all-each f (planeOver t) over-all (places k (riseOf t (k .r)))))))

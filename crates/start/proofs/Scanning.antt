@@ -22,7 +22,8 @@ module _ (mesh boxes : List Float) (from : Float) where
   pub apart-high : (i : ℕ) (b : Bounds) → b ≡ boxAt boxes i → le (b .top) from ≡ false → Apart mesh boxes from i
   apart-high i b e l = inl (ap (λ (v : Bounds). le (v .top) from) (sym e) ∙ l)
 
-  pub apart-low : (i : ℕ) (low : Float) (t : Triangle) (r : Bool) → low ≡ from ⊖ margin → t ≡ triangleOf mesh i → r ≡ liesLow low t → r ≡ true → Apart mesh boxes from i
+  pub apart-low : (i : ℕ) (low : Float) (t : Triangle) (r : Bool) → low ≡ from ⊖ margin → t ≡ triangleOf mesh i → r ≡ liesLow low t → r ≡ true
+      → Apart mesh boxes from i
   apart-low i low t r d e f g = inr (ap (λ (v : Float). liesLow v (triangleOf mesh i)) (sym d) ∙ ap (liesLow low) (sym e) ∙ sym f ∙ g)
 
   -- the first k

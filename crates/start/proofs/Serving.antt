@@ -36,7 +36,8 @@ off-at (fin s m e) d t f p h =
     let g : T (finite d) = subst (λ (v : Float). T (finite v)) (neg-neg d) (neg-finite (neg d) f) in
     ap (λ (v : Float). le v t) (sym (abs-neg (fin s m e))) ∙ far-off t (neg d) (neg (fin s m e)) f p (neg-turns (fin s m e) d tt g h)
 
-under-at : (level t from v : Float) → T (finite level) → T (finite from) → T (finite (neg (from ⊖ level))) → lt t (neg (from ⊖ level)) ≡ true → le v from ≡ true → le (absOf (v ⊖ level)) t ≡ false
+under-at : (level t from v : Float) → T (finite level) → T (finite from) → T (finite (neg (from ⊖ level))) → lt t (neg (from ⊖ level)) ≡ true → le v from ≡ true
+    → le (absOf (v ⊖ level)) t ≡ false
 under-at nan t from v f g i p h = absurd f
 under-at (inf s) t from v f g i p h = absurd f
 under-at (fin s m e) t from nan f g i p h = absurd (no (unfold le lt eq in h))
@@ -51,7 +52,8 @@ under-is level t from p q v h =
     under-at level t from v (g .1) (g .0) f p h
 
 -- ---- what is decided
-module _ (mesh : List Float) (h : Header) (starts members : List ℕ) (boxes : List Float) (a : Aim) (z from : Float) (b : Begins (h .floor) a z from) (apart : (i : ℕ) → Apart mesh boxes from i) where
+module _ (mesh : List Float) (h : Header) (starts members : List ℕ) (boxes : List Float) (a : Aim) (z from : Float) (b : Begins (h .floor) a z from)
+    (apart : (i : ℕ) → Apart mesh boxes from i) where
   abbrev under : Run → Float
   under = heightUnder (indexOf mesh h starts members boxes)
 
@@ -72,8 +74,10 @@ module _ (mesh : List Float) (h : Header) (starts members : List ℕ) (boxes : L
   unfolding clear
   serves =
       record {
-        on = λ r. ⊎-elim (λ e. ap (λ (x : Float). le (absOf (x ⊖ a .level)) (a .«level_tolerance»)) e) (λ p. b .off (other r) (p .0) ∙ sym (b .off (under r) (p .1))) (agree r);
-        clears = λ r e. ⊎-elim (λ q. ap (λ (x : Float). le x (r .z ⊕ a .tolerance)) q) (λ p. cleared (other r) r e (p .0) ∙ sym (cleared (under r) r e (p .1))) (agree r);
+        on = λ r. ⊎-elim (λ e. ap (λ (x : Float). le (absOf (x ⊖ a .level)) (a .«level_tolerance»)) e) (λ p. b .off (other r) (p .0)
+            ∙ sym (b .off (under r) (p .1))) (agree r);
+        clears = λ r e. ⊎-elim (λ q. ap (λ (x : Float). le x (r .z ⊕ a .tolerance)) q) (λ p. cleared (other r) r e (p .0)
+            ∙ sym (cleared (under r) r e (p .1))) (agree r);
       }
 
 pub serves-itself : (under : Run → Float) (a : Aim) (z : Float) → Serves under under a z

@@ -70,7 +70,8 @@ le-lt x y z p q =
     (λ e. absurd (le-not-lt z y (le-goes-on z x y (is-true _ (not-lt x z (le-numbers x y p .0) (lt-number y z q) e)) p) q))
 
 -- ---- one triangle
-module _ (mesh boxes : List Float) (q : Capsule) (from : Float) (F : T (le lowestStart from)) (L : T (le from highestStart)) (apart : (i : ℕ) → Apart mesh boxes from i) where
+module _ (mesh boxes : List Float) (q : Capsule) (from : Float) (F : T (le lowestStart from)) (L : T (le from highestStart)) (apart : (i : ℕ)
+    → Apart mesh boxes from i) where
   -- the same best, or two that are at most `from`
   abbrev Agree : Best → Best → Type 0
   Agree b c = (b ≡ c) ⊎ ((le (b .height) from ≡ true) × (le (c .height) from ≡ true))
@@ -79,7 +80,8 @@ module _ (mesh boxes : List Float) (q : Capsule) (from : Float) (F : T (le lowes
   unfolding raisedBy raisedTo
   raised-low Nothing i b t l = l
   raised-low (Height z s) i b (met _ _ m) l =
-      either (λ (v : Best). le (v .height) from ≡ true) (exceedsOf z (b .height)) (record { height = z; triangle = i; kind = s .kind; which = s .which }) b (λ e. is-true _ m) (λ e. l)
+      either (λ (v : Best). le (v .height) from ≡ true) (exceedsOf z (b .height)) (record { height = z; triangle = i; kind = s .kind; which = s .which }) b
+      (λ e. is-true _ m) (λ e. l)
 
   stays : (z : Float) (s : Touch) (i : ℕ) (b : Best) → le (b .height) from ≡ true → lt from z ≡ false → le (raisedBy (Height z s) i b .height) from ≡ true
   unfolding raisedBy raisedTo exceedsOf
@@ -88,7 +90,8 @@ module _ (mesh boxes : List Float) (q : Capsule) (from : Float) (F : T (le lowes
       (λ g. rw (le-numbers (b .height) from l .0, g) (is-true _ (not-lt from z (le-numbers (b .height) from l .1) (lt-number (b .height) z g) e)))
       (λ g. rw (le-numbers (b .height) from l .0, g) l)
 
-  rises : (z : Float) (s : Touch) (i : ℕ) (b : Best) → le (b .height) from ≡ true → lt from z ≡ true → raisedBy (Height z s) i b ≡ record { height = z; triangle = i; kind = s .kind; which = s .which }
+  rises : (z : Float) (s : Touch) (i : ℕ) (b : Best) → le (b .height) from ≡ true → lt from z ≡ true
+      → raisedBy (Height z s) i b ≡ record { height = z; triangle = i; kind = s .kind; which = s .which }
   unfolding raisedBy raisedTo exceedsOf
   rises z s i b l e = rw (le-numbers (b .height) from l .0, le-lt (b .height) from z l e)
 
@@ -107,9 +110,11 @@ module _ (mesh boxes : List Float) (q : Capsule) (from : Float) (F : T (le lowes
   step-low : (i : ℕ) (b : Best) → Topped from (heightOf mesh q i) → le (b .height) from ≡ true → le (diskStep mesh boxes q b i .height) from ≡ true
   unfolding diskStep
   step-low i b t l =
-      either (λ (v : Best). le (v .height) from ≡ true) (le (boxAt boxes i .top) (b .height)) b (raisedBy (heightOf mesh q i) i b) (λ e. l) (λ e. raised-low (heightOf mesh q i) i b t l)
+      either (λ (v : Best). le (v .height) from ≡ true) (le (boxAt boxes i .top) (b .height)) b (raisedBy (heightOf mesh q i) i b) (λ e. l)
+      (λ e. raised-low (heightOf mesh q i) i b t l)
 
-  step-looks : (i : ℕ) (b : Best) → le (boxAt boxes i .top) from ≡ false → le (b .height) from ≡ true → diskStep mesh boxes q b i ≡ raisedBy (heightOf mesh q i) i b
+  step-looks : (i : ℕ) (b : Best) → le (boxAt boxes i .top) from ≡ false → le (b .height) from ≡ true
+      → diskStep mesh boxes q b i ≡ raisedBy (heightOf mesh q i) i b
   unfolding diskStep
   step-looks i b t l =
       by-test (le (boxAt boxes i .top) (b .height))
@@ -140,7 +145,8 @@ same x f l = is-true _ (le-self x (finite-between lowestStart x highestStart tt 
 module _ (mesh : List Float) (h : Header) (starts members : List ℕ) (boxes : List Float) where
   -- what a walk looks at does not turn on where it begins
   abbrev seen : Run → List ℕ
-  seen r = looked (nextStamp 0) (readyMarks (replicate (h .n) 0) 0) (within (indexOf mesh h starts members boxes) (patchFor h (sweep (r .ax) (r .ay) (r .bx) (r .by) (h .r))))
+  seen r = looked (nextStamp 0) (readyMarks (replicate (h .n) 0) 0)
+      (within (indexOf mesh h starts members boxes) (patchFor h (sweep (r .ax) (r .ay) (r .bx) (r .by) (h .r))))
 
   abbrev round : Run → Capsule
   round r = capsuleFor h (sweep (r .ax) (r .ay) (r .bx) (r .by) (h .r))
@@ -152,7 +158,8 @@ module _ (mesh : List Float) (h : Header) (starts members : List ℕ) (boxes : L
   unfolding heightUnder sweepWalk capsuleWalk walked patchOf
   walked-from z r = refl
 
-  module _ (from : Float) (F : T (le lowestStart from)) (L : T (le from highestStart)) (apart : (i : ℕ) → Apart mesh boxes from i) (over : le (h .floor) from ≡ true) where
+  module _ (from : Float) (F : T (le lowestStart from)) (L : T (le from highestStart)) (apart : (i : ℕ) → Apart mesh boxes from i)
+      (over : le (h .floor) from ≡ true) where
     pub heights-agree : (r : Run) → (other from r ≡ other (h .floor) r) ⊎ ((le (other from r) from ≡ true) × (le (other (h .floor) r) from ≡ true))
     heights-agree r =
         ⊎-elim

@@ -41,7 +41,8 @@ module _ (bytes : List ℕ) (mesh : List Float) where
       let z : k ≡ 19 = sym (refusal-is xs mesh) ∙ e in
       rw (z)
 
-  same : (xs : List ℕ) → take 84 xs ≡ take 84 bytes → ((y : ℕ) → early room (value count xs) y ≡ early room (value count bytes) y) × (shapeOf xs ≡ shapeOf bytes)
+  same : (xs : List ℕ) → take 84 xs ≡ take 84 bytes → ((y : ℕ) → early room (value count xs) y ≡ early room (value count bytes) y)
+      × (shapeOf xs ≡ shapeOf bytes)
   same xs e = let p = value-head count 84 xs bytes (omega arith) e in (λ y. ap (λ (n : ℕ). early room n y) p, ap shape p)
 
   pub never-taken : (o : Outcome) → o ≡ readOf bytes mesh → o .answer .refusal ≡ 0 → NeverTakenForAPart bytes mesh
@@ -49,7 +50,8 @@ module _ (bytes : List ℕ) (mesh : List Float) where
   never-taken o p z =
       let s = sound bytes (length mesh / 9) (sym (ap (λ (a : Outcome). a .answer .refusal) p ∙ refusal-is bytes mesh) ∙ z) in
       told-apart (rungs room) _ _ bytes is tells same
-      (λ y. sym (refuse-next _ 18 _ y (ne-eqb _ 0 (λ (n : value count bytes ≡ 0). omega (arith, s .some))) (refuse-next _ 18 _ y (room-enough _ _ (s .few .0) (s .few .1)) refl)))
+      (λ y. sym (refuse-next _ 18 _ y (ne-eqb _ 0 (λ (n : value count bytes ≡ 0). omega (arith, s .some)))
+      (refuse-next _ 18 _ y (room-enough _ _ (s .few .0) (s .few .1)) refl)))
       refl
       (lit< tt)
       (omega (arith, s .whole))

@@ -30,7 +30,8 @@ module _ (a b : List ℕ) (e : Alike a b) where
   same-value : (f : Field) → ((i : ℕ) → i < f .size → matters (f .at + i) ≡ true) → value f a ≡ value f b
   unfolding value
   same-value f m =
-      let l : length (take (f .size) (drop (f .at) a)) ≡ length (take (f .size) (drop (f .at) b)) = rw (length-take, length-take, length-drop, length-drop, e .as-long) in
+      let l : length (take (f .size) (drop (f .at) a)) ≡ length (take (f .size) (drop (f .at) b)) =
+      rw (length-take, length-take, length-drop, length-drop, e .as-long) in
       ap little (ext-getD 0 _ _ l
       (λ i h. let s : i < f .size = omega (arith, length-take (f .size) (drop (f .at) a)) in
       getD-take (f .size) _ i 0 s ∙ getD-drop (f .at) a i 0 ∙ e .same (f .at + i) (m i s) ∙ sym (getD-take (f .size) _ i 0 s ∙ getD-drop (f .at) b i 0)))

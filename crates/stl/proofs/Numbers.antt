@@ -46,7 +46,8 @@ module _ (bytes : List ℕ) where
   bad-part k c n h e =
       by-test (badAmong bytes 0 n)
       (λ t. sym t)
-      (λ t. absurd (no (good k c (λ i l. let p : 0 + (k + i) ≡ k + i = omega arith in subst (λ (m : ℕ). finite (numberOf bytes m) ≡ true) p (clean 0 n t (k + i) (omega arith))) ∙ e)))
+      (λ t. absurd (no (good k c (λ i l. let p : 0 + (k + i) ≡ k + i = omega arith in
+      subst (λ (m : ℕ). finite (numberOf bytes m) ≡ true) p (clean 0 n t (k + i) (omega arith))) ∙ e)))
 
   -- two stretches, one behind the other
   pub both : (k c d e : ℕ) → Finite k c → Finite (k + c) d → e ≡ c + d → Finite k e

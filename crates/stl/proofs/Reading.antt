@@ -23,7 +23,8 @@ module _ (bytes : List ℕ) where
   unfolding toldWith
   none-told k h = let e : 0 ≡ toldWith k bytes = left _ _ _ _ (ne-eqb k 19 h) refl in rw (← e)
 
-  pub whole-told : (k n c : ℕ) (s : Shape) → k ≡ 19 → n ≡ value count bytes → s ≡ shape n → c ≡ wholeIn s (length bytes) → _≡_ {A = Read} (record { refusal = k; n = c }) (refusedBy k bytes)
+  pub whole-told : (k n c : ℕ) (s : Shape) → k ≡ 19 → n ≡ value count bytes → s ≡ shape n → c ≡ wholeIn s (length bytes)
+      → _≡_ {A = Read} (record { refusal = k; n = c }) (refusedBy k bytes)
   unfolding toldWith
   whole-told k n c s h p q w =
       let e : c ≡ toldWith k bytes = taken _ _ _ _ (eq-eqb k 19 h) (rw (q, p) at w) in
@@ -61,5 +62,6 @@ module _ (bytes : List ℕ) where
         pub count-within : 84 ≤ length bytes
         count-within = let s = sound bytes _ (sym e ∙ z) in omega (arith, s .whole)
 
-        pub ready : (n : ℕ) → n ≡ value count bytes → ((84 + 50 * n ≤ length bytes) × (9 * n ≤ length mesh)) × ((i : ℕ) → i < 9 * n → finite (numberOf bytes i) ≡ true)
+        pub ready : (n : ℕ) → n ≡ value count bytes → ((84 + 50 * n ≤ length bytes) × (9 * n ≤ length mesh))
+            × ((i : ℕ) → i < 9 * n → finite (numberOf bytes i) ≡ true)
         ready n p = let s = sound bytes _ (sym e ∙ z) in ((omega (arith, s .whole), omega (arith, s .few .1)), λ i h. s .finite-all i (omega arith))

@@ -13,7 +13,8 @@ use Rattle.fields.proofs.Rows.{row-length}
 
 module _ (f : ℕ → Float) where
   -- one entry
-  pub stored : (k m n : ℕ) (x : Float) (out whole : List Float) → k < n → m ≡ k + 1 → x ≡ f k → sets out k (row f k (n - k)) ≡ whole → sets (set out k x) m (row f m (n - m)) ≡ whole
+  pub stored : (k m n : ℕ) (x : Float) (out whole : List Float) → k < n → m ≡ k + 1 → x ≡ f k → sets out k (row f k (n - k)) ≡ whole
+      → sets (set out k x) m (row f m (n - m)) ≡ whole
   unfolding row
   stored k m n x out whole h p q e =
       let s : n - k ≡ suc (n - (k + 1)) = omega arith in
@@ -27,10 +28,12 @@ module _ (f : ℕ → Float) where
       let s : suc c + d ≡ suc (c + d) = omega arith in
       let t : k + suc c ≡ k + 1 + c = omega arith in
       let o : List Float = set out k (f k) in
-      rw (s, t) (subst (λ (i : ℕ). sets o i (row f (k + 1) (c + d)) ≡ sets (sets o i (row f (k + 1) c)) (k + 1 + c) (row f (k + 1 + c) d)) (add-one k) (stores c d (k + 1) o))
+      rw (s, t) (subst (λ (i : ℕ). sets o i (row f (k + 1) (c + d)) ≡ sets (sets o i (row f (k + 1) c)) (k + 1 + c) (row f (k + 1 + c) d))
+      (add-one k) (stores c d (k + 1) o))
 
   -- a whole stretch, as one step does
-  pub stretch : (k c m n : ℕ) (out after whole : List Float) → m ≡ k + c → m ≤ n → after ≡ sets out k (row f k c) → sets out k (row f k (n - k)) ≡ whole → sets after m (row f m (n - m)) ≡ whole
+  pub stretch : (k c m n : ℕ) (out after whole : List Float) → m ≡ k + c → m ≤ n → after ≡ sets out k (row f k c) → sets out k (row f k (n - k)) ≡ whole
+      → sets after m (row f m (n - m)) ≡ whole
   stretch k c m n out after whole p h q e =
       let s : n - k ≡ c + (n - (k + c)) = omega arith in
       rw (p, q, ← stores c (n - (k + c)) k out, ← s) e

@@ -126,7 +126,8 @@ module _ {A : Type 0} (stamp : ℕ) (step : A → ℕ → A) where
   tests : (x : ℕ) (ms m m′ : List ℕ) → x < length m → Stale stamp ms m m′ → eqb (getD m′ x 0) stamp ≡ eqb (getD m x 0) stamp
   tests x ms m m′ h s = ⊎-elim (λ e. ap (λ (n : ℕ). eqb n stamp) e) (λ q. ne-eqb _ _ (q .2) ∙ sym (ne-eqb _ _ (q .1))) (s .each x h)
 
-  pub again : (ms m m′ : List ℕ) (c : ℕ) (v : A) → ((i : ℕ) → 0 < times i ms → i < length m) → Stale stamp ms m m′ → fold (look stamp step) (walk m′ c v) ms ≡ fold (look stamp step) (walk m c v) ms
+  pub again : (ms m m′ : List ℕ) (c : ℕ) (v : A) → ((i : ℕ) → 0 < times i ms → i < length m) → Stale stamp ms m m′
+      → fold (look stamp step) (walk m′ c v) ms ≡ fold (look stamp step) (walk m c v) ms
   unfolding fold look times
   again [] m m′ c v h s =
       ap (λ (l : List ℕ). walk l c v) (same-list m′ m (s .size) (λ i l. ⊎-elim (λ e. e) (λ q. absurd (omega (arith, q .0))) (s .each i l)))
@@ -139,7 +140,10 @@ module _ {A : Type 0} (stamp : ℕ) (step : A → ℕ → A) where
       more : (i : ℕ) → 0 < times i ms → 0 < weight (eqb i x) + times i ms
       more i t = omega arith
 
-      by-head : (b : Bool) → eqb (getD m x 0) stamp ≡ b → (eqb (getD m x 0) stamp ≡ true → fold (look stamp step) (walk m′ c v) ms ≡ fold (look stamp step) (walk m c v) ms) → (eqb (getD m x 0) stamp ≡ false → fold (look stamp step) (struck stamp step (walk m′ c v) x) ms ≡ fold (look stamp step) (struck stamp step (walk m c v) x) ms) → fold (look stamp step) (cond b (walk m′ c v) (struck stamp step (walk m′ c v) x)) ms ≡ fold (look stamp step) (cond b (walk m c v) (struck stamp step (walk m c v) x)) ms
+      by-head : (b : Bool) → eqb (getD m x 0) stamp ≡ b → (eqb (getD m x 0) stamp ≡ true
+          → fold (look stamp step) (walk m′ c v) ms ≡ fold (look stamp step) (walk m c v) ms) → (eqb (getD m x 0) stamp ≡ false → fold (look stamp step)
+          (struck stamp step (walk m′ c v) x) ms ≡ fold (look stamp step) (struck stamp step (walk m c v) x) ms) → fold (look stamp step)
+          (cond b (walk m′ c v) (struck stamp step (walk m′ c v) x)) ms ≡ fold (look stamp step) (cond b (walk m c v) (struck stamp step (walk m c v) x)) ms
       by-head true e p q = p e
       by-head false e p q = q e
 
@@ -151,7 +155,8 @@ pub besides-own : (ms m : List ℕ) → Besides ms m m
 besides-own ms m = record { size = refl; same = λ i t. refl }
 
 -- under another stamp, over marks that are m but for what stands in the list
-module _ (stamp other : ℕ) (apart : other ≡ stamp → ⊥) (ms m : List ℕ) (fresh : Fresh stamp m ms) {A : Type 0} (step : A → ℕ → A) (w : Walk A) (b : Besides ms m (w .marks)) where
+module _ (stamp other : ℕ) (apart : other ≡ stamp → ⊥) (ms m : List ℕ) (fresh : Fresh stamp m ms) {A : Type 0} (step : A → ℕ → A) (w : Walk A)
+    (b : Besides ms m (w .marks)) where
   stale : Stale stamp ms m (fold (look other step) w ms .marks)
   stale =
       record {
@@ -174,7 +179,8 @@ module _ (stamp other : ℕ) (apart : other ≡ stamp → ⊥) (ms m : List ℕ)
       (rw (as-many other step ms w, b .size) l, (λ q. apart (sym (at other step ms w i (rw (b .size) l) t) ∙ q)))
 
 -- ---- as the code has it: a walk under another stamp left the marks m′
-module _ (stamp other : ℕ) (apart : other ≡ stamp → ⊥) (ms m : List ℕ) (fresh : Fresh stamp m ms) (step : Best → ℕ → Best) (w : Walk Best) (b : Besides ms m (w .marks)) (m′ : List ℕ) (s : Seen) (e : seen m′ s ≡ fold (look other step) w ms) where
+module _ (stamp other : ℕ) (apart : other ≡ stamp → ⊥) (ms m : List ℕ) (fresh : Fresh stamp m ms) (step : Best → ℕ → Best) (w : Walk Best)
+    (b : Besides ms m (w .marks)) (m′ : List ℕ) (s : Seen) (e : seen m′ s ≡ fold (look other step) w ms) where
   abbrev marks-are : m′ ≡ fold (look other step) w ms .marks
   marks-are = ap (λ (u : Walk Best). u .marks) e
 
@@ -182,9 +188,11 @@ module _ (stamp other : ℕ) (apart : other ≡ stamp → ⊥) (ms m : List ℕ)
   left-fresh = subst (λ (l : List ℕ). Fresh stamp l ms) (sym marks-are) (fresh-again stamp other apart ms m fresh step w b)
 
   -- a walk from there is one from m
-  pub walked-again : (next : Best → ℕ → Best) (v : Best) (r : Walk Best) → r ≡ fold (look stamp next) (seen m′ (record { count = 0; best = v })) ms → r ≡ fold (look stamp next) (seen m (record { count = 0; best = v })) ms
+  pub walked-again : (next : Best → ℕ → Best) (v : Best) (r : Walk Best) → r ≡ fold (look stamp next) (seen m′ (record { count = 0; best = v })) ms
+      → r ≡ fold (look stamp next) (seen m (record { count = 0; best = v })) ms
   walked-again next v r q =
-      q ∙ again stamp next ms m m′ 0 v (λ i t. fresh i t .0) (subst (λ (l : List ℕ). Stale stamp ms m l) (sym marks-are) (stale stamp other apart ms m fresh step w b))
+      q ∙ again stamp next ms m m′ 0 v (λ i t. fresh i t .0)
+      (subst (λ (l : List ℕ). Stale stamp ms m l) (sym marks-are) (stale stamp other apart ms m fresh step w b))
 
 -- the marks that a walk under the stamp itself left
 pub left-besides : (stamp : ℕ) (ms m m′ : List ℕ) (step : Best → ℕ → Best) (s r : Seen) → seen m′ r ≡ fold (look stamp step) (seen m s) ms → Besides ms m m′

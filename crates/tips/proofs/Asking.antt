@@ -22,11 +22,16 @@ module _ (ix : Index) (marks : List ℕ) (stamp : ℕ) (a : Answer) (m : List �
 
   -- the answer, and what is promised beside it
   module _ (p : Patch) (numbers tool : Bool) where
-    pub bull-answers : (k : Bull) → p ≡ patchOf (ix .header) (k .x) (k .y) (k .x) (k .y) (k .r) → numbers ≡ isStand (k .x) (k .y) (k .r) → tool ≡ isCorner (k .r) (k .rc) → ended a m ≡ askedHeight numbers tool (bullStep (ix .mesh) (ix .boxes) k) ix marks stamp p → (ended a m ≡ maxBullOf ix marks stamp k) × BullPromise ix marks stamp k a
+    pub bull-answers : (k : Bull) → p ≡ patchOf (ix .header) (k .x) (k .y) (k .x) (k .y) (k .r) → numbers ≡ isStand (k .x) (k .y) (k .r)
+        → tool ≡ isCorner (k .r) (k .rc) → ended a m ≡ askedHeight numbers tool (bullStep (ix .mesh) (ix .boxes) k) ix marks stamp p
+        → (ended a m ≡ maxBullOf ix marks stamp k) × BullPromise ix marks stamp k a
     unfolding maxBullOf
     bull-answers k = height-told _ _ ix marks stamp (k .x) (k .y) (k .x) (k .y) (k .r) m _ a p numbers tool
 
-    pub tool-answers : (x y reach low : Float) (table : List Float) → reach ≡ widestOf table (sectionsIn table) → low ≡ lowestOf table (sectionsIn table) → p ≡ patchOf (ix .header) x y x y reach → numbers ≡ isPlace x y → tool ≡ isTool table → ended a m ≡ askedHeight numbers tool (toolStep (ix .mesh) (ix .boxes) (record { x = x; y = y; low = low }) table) ix marks stamp p → (ended a m ≡ maxSectionsOf ix marks stamp x y table) × SectionsPromise ix marks stamp x y table a
+    pub tool-answers : (x y reach low : Float) (table : List Float) → reach ≡ widestOf table (sectionsIn table)
+        → low ≡ lowestOf table (sectionsIn table) → p ≡ patchOf (ix .header) x y x y reach → numbers ≡ isPlace x y → tool ≡ isTool table
+        → ended a m ≡ askedHeight numbers tool (toolStep (ix .mesh) (ix .boxes) (record { x = x; y = y; low = low }) table) ix marks stamp p
+        → (ended a m ≡ maxSectionsOf ix marks stamp x y table) × SectionsPromise ix marks stamp x y table a
     unfolding maxSectionsOf
     tool-answers x y reach low table r l e f g i =
         height-told _ _ ix marks stamp x y x y _ m _ a p numbers tool (e ∙ ap (patchOf (ix .header) x y x y) r) f g (rw l at i)

@@ -92,7 +92,8 @@ module _ (f : Float) (b : Begun f) where
     abbrev sight : Sight
     sight = record { nose = k; limit = f }
 
-    follows : (t : Triangle) (top : Float) (i : ℕ) (x : Best) → isParted f top t ≡ true → exceedsOf (x .height) f ≡ false → bullRaised t top i k start ≡ lifted (bullRaised t top i k x)
+    follows : (t : Triangle) (top : Float) (i : ℕ) (x : Best) → isParted f top t ≡ true → exceedsOf (x .height) f ≡ false
+        → bullRaised t top i k start ≡ lifted (bullRaised t top i k x)
     unfolding bullRaised
     follows t top i x q h =
         by-test (le top f)
@@ -100,14 +101,16 @@ module _ (f : Float) (b : Begun f) where
         let p = bullContactAbove t k (x .height) in
         either (λ (y : Best). cond (le top f) start (raisedBy (bullContactAbove t k f) i start) ≡ lifted y) (le top (x .height)) x (raisedBy p i x)
         (λ e. rw (u, h))
-        (λ e. rw u (sym (lift-raised p i x h ∙ sym (raised-beside p i start) ∙ ap (λ (c : Contact). raisedBy c i start) (parted-under f b k level fit t top q u (x .height)) ∙ start-waits i))))
+        (λ e. rw u (sym (lift-raised p i x h ∙ sym (raised-beside p i start)
+        ∙ ap (λ (c : Contact). raisedBy c i start) (parted-under f b k level fit t top q u (x .height)) ∙ start-waits i))))
         (λ u.
         let p = bullContactAbove t k (x .height) in
         let c = bullContactAbove t k f in
         let e : le top (x .height) ≡ false =
         by-test (le top (x .height)) (λ l. absurd (no (sym u ∙ under-from f (number f b) top (x .height) h l))) (λ l. l) in
         rw (u, e)
-        (sym (lift-raised p i x h ∙ sym (raised-beside p i start) ∙ ap (λ (d : Contact). raisedBy d i start) (parted-same f b k level fit t top q u (x .height) h) ∙ raised-beside c i start)))
+        (sym (lift-raised p i x h ∙ sym (raised-beside p i start)
+        ∙ ap (λ (d : Contact). raisedBy d i start) (parted-same f b k level fit t top q u (x .height) h) ∙ raised-beside c i start)))
 
     -- once above f a best stays there
     keeps : (t : Triangle) (top : Float) (i : ℕ) (x : Best) → exceedsOf (x .height) f ≡ true → exceedsOf (bullRaised t top i k x .height) f ≡ true
@@ -158,7 +161,8 @@ module _ (f : Float) (b : Begun f) where
       tied-fold [] x c e = e
       tied-fold (i ∷ is) x c e = tied-fold is _ _ (tied-step _ _ i x c e)
 
-      found : (is : List ℕ) (floor : Float) (c : Best) → exceedsOf floor f ≡ false → c ≡ fold (fromStep mesh boxes sight) start is → (c .kind ≡ 0 → ⊥) → fold (fromStep mesh boxes sight) start is ≡ fold (bullStep mesh boxes k) (atFloor floor) is
+      found : (is : List ℕ) (floor : Float) (c : Best) → exceedsOf floor f ≡ false → c ≡ fold (fromStep mesh boxes sight) start is → (c .kind ≡ 0 → ⊥)
+          → fold (fromStep mesh boxes sight) start is ≡ fold (bullStep mesh boxes k) (atFloor floor) is
       found is floor c h e n =
           let v = fold (fromStep mesh boxes sight) start is in
           let x = fold (bullStep mesh boxes k) (atFloor floor) is in
@@ -168,7 +172,9 @@ module _ (f : Float) (b : Begun f) where
           (tied-fold is (atFloor floor) start (inl (sym (lifted-low (atFloor floor) h))))
 
       -- a walk that was raised found what the walk from the floor finds
-      pub found-from : (stamp : ℕ) (ms m m′ : List ℕ) (r : Seen) (floor : Float) → exceedsOf floor f ≡ false → (r .best .kind ≡ 0 → ⊥) → seen m′ r ≡ fold (look stamp (fromStep mesh boxes sight)) (seen m (record { count = 0; best = start })) ms → seen m′ r ≡ fold (look stamp (bullStep mesh boxes k)) (seen m (record { count = 0; best = atFloor floor })) ms
+      pub found-from : (stamp : ℕ) (ms m m′ : List ℕ) (r : Seen) (floor : Float) → exceedsOf floor f ≡ false → (r .best .kind ≡ 0 → ⊥)
+          → seen m′ r ≡ fold (look stamp (fromStep mesh boxes sight)) (seen m (record { count = 0; best = start })) ms
+          → seen m′ r ≡ fold (look stamp (bullStep mesh boxes k)) (seen m (record { count = 0; best = atFloor floor })) ms
       unfolding walked
       found-from stamp ms m m′ r floor h n e =
           let is = looked stamp m ms in

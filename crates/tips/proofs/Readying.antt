@@ -34,13 +34,15 @@ module _ (ix : Index) (marks : List ℕ) (stamp : ℕ) (p : Patch) (u : usable i
       let b = over-in (row (ix .starts) (ix .members) (ix .header .columns) (p .x0) (p .x1)) (p .y0) (p .y1 - p .y0) i t in
       let a = over-in (λ x. cell (ix .starts) (ix .members) (b .at * ix .header .columns + x)) (p .x0) (p .x1 - p .x0) i (b .stands) in
       let k = place-of i (cell (ix .starts) (ix .members) (b .at * ix .header .columns + a .at)) (a .stands) in
-      let m = usable-member ix marks stamp p u (a .at) (b .at) (k .at) (a .from) (omega (arith, a .from, a .past)) (b .from) (omega (arith, b .from, b .past)) (k .inside) in
+      let m = usable-member ix marks stamp p u (a .at) (b .at) (k .at) (a .from) (omega (arith, a .from, a .past)) (b .from)
+      (omega (arith, b .from, b .past)) (k .inside) in
       let n : i < ix .header .n = rw (k .is) at (m .below) in
       let l : i < length marks = omega (arith, n, nine, usable-head ix marks stamp p u .nine) in
       (rw (ready-length marks stamp) l, ready-fresh marks stamp i l (rw (k .is) at (m .mark)))
 
 module _ (numbers tool : Bool) (ix : Index) (marks : List ℕ) (stamp : ℕ) (p : Patch) (n : ℕ) (e : n ≡ refusalOf numbers tool ix marks stamp p) where
-  pub ready-walks : (next : ℕ) (m : List ℕ) → n ≡ 0 → next ≡ nextStamp stamp → m ≡ readyMarks marks stamp → (p .x1 ≤ ix .header .columns) × (p .y1 ≤ ix .header .rows) → Ready (ix .mesh) (ix .boxes) (ix .starts) (ix .members) (ix .header .columns) p m next
+  pub ready-walks : (next : ℕ) (m : List ℕ) → n ≡ 0 → next ≡ nextStamp stamp → m ≡ readyMarks marks stamp
+      → (p .x1 ≤ ix .header .columns) × (p .y1 ≤ ix .header .rows) → Ready (ix .mesh) (ix .boxes) (ix .starts) (ix .members) (ix .header .columns) p m next
   ready-walks next m z f g i =
       let a = passed numbers tool ix marks stamp p (sym e ∙ z) in
       let r = ready numbers tool ix marks stamp p n e {A = Best} next m (atFloor f0) z g i in

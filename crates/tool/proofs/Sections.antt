@@ -31,7 +31,8 @@ module _ (table : List Float) (i : ℕ) (s : Section) (here : s ≡ sectionOf ta
   lower v r e p = rw (add-one i, p, e, here)
 
   -- its candidates go on from the best so far
-  pub higher : (t : Triangle) (n : ℕ) (x y : Float) (best v r : Best) (k o : Contact) → v ≡ raisedOver t n x y table best i → o ≡ soFar (v .height) → k ≡ offerOf o (sectionContact t x y s)
+  pub higher : (t : Triangle) (n : ℕ) (x y : Float) (best v r : Best) (k o : Contact) → v ≡ raisedOver t n x y table best i → o ≡ soFar (v .height)
+      → k ≡ offerOf o (sectionContact t x y s)
       → r ≡ raisedBy k n v → r ≡ raisedOver t n x y table best (i + 1)
   unfolding raisedOver
   higher t n x y best v r k o e f p q =

@@ -4,7 +4,8 @@ use mathlib.Core.Bool.{Bool, true, false}
 use mathlib.Core.Logic.{inl}
 use mathlib.Core.Path.{_≡_, refl, sym, ap, _∙_}
 use Prim.Native.Nat.{ℕ, _+_, _-_, _*_, _/_, _^_, _≤_, _<_}
-use native.Mathlib.Nat.{zero-mul, mul-comm, mul-assoc, mul-left-comm, add-mul, mul-pos, mul-le-mul-right, le-of-mul-le-mul-right, lt-of-lt-of-le, div-mul-le-self, lt-div-mul-add}
+use native.Mathlib.Nat.{zero-mul, mul-comm, mul-assoc, mul-left-comm, add-mul, mul-pos, mul-le-mul-right}
+use native.Mathlib.Nat.{le-of-mul-le-mul-right, lt-of-lt-of-le, div-mul-le-self, lt-div-mul-add}
 use native.Mathlib.Omega.{arith}
 use borrow.Author.Tests.{leb-true, leb-false}
 use lib.Dec.{T, leb}
@@ -27,7 +28,8 @@ pub record Held (h k o i j : ℕ) (x : Float) : Type 0 where
 -- ---- a fraction of few digits
 exact : (s : Bool) (e d : ℕ) → e ≤ 1074 → d < 2 ^ 53 → HasValue (round binary64 s d (2 ^ e)) s d (2 ^ e)
 exact s e d E D =
-    round-exact binary64 s d (2 ^ e) d (1074 - e) (pow-pos e) D (lt-of-lt-of-le (shl-lt 53 (1074 - e) D) (pow-mono {i = 53 + (1074 - e)} {j = 2098} (omega arith))) same
+    round-exact binary64 s d (2 ^ e) d (1074 - e) (pow-pos e) D
+    (lt-of-lt-of-le (shl-lt 53 (1074 - e) D) (pow-mono {i = 53 + (1074 - e)} {j = 2098} (omega arith))) same
   where
     back : 1074 ≡ 1074 - e + e
     back = omega arith
@@ -94,7 +96,8 @@ unscaled-up u l d ug lg dg h k o D a b =
     )))
     D
 
-module _ (v : Float) (p n c e k o i j : ℕ) (C : 0 < c) (E : e ≤ 1074) (K : k < 2 ^ 53) (L : o < 2 ^ 53) (I : i < 2 ^ 53) (J : j < 2 ^ 53) (is : Is binary64 v p n c) where
+module _ (v : Float) (p n c e k o i j : ℕ) (C : 0 < c) (E : e ≤ 1074) (K : k < 2 ^ 53) (L : o < 2 ^ 53) (I : i < 2 ^ 53) (J : j < 2 ^ 53)
+    (is : Is binary64 v p n c) where
   pub held-of : p * 2 ^ e + o * c ≤ k * c + n * 2 ^ e → i * c + n * 2 ^ e ≤ p * 2 ^ e + j * c → Held (2 ^ e) k o i j v
   held-of a b =
       let g = rounded binary64 k o (2 ^ e) in
@@ -139,14 +142,16 @@ added u l d u′ l′ d′ h k o k′ o′ a b =
       simp (add-mul, mul-assoc, mul-comm, mul-left-comm) at (mul-le-mul-right d b),
     ))
 
-module _ (x y : Float) (e k o i j k′ o′ i′ j′ : ℕ) (E : e ≤ 1074) (K : k + k′ < 2 ^ 53) (L : o + o′ < 2 ^ 53) (I : i + i′ < 2 ^ 53) (J : j + j′ < 2 ^ 53) (a : Held (2 ^ e) k o i j x) (b : Held (2 ^ e) k′ o′ i′ j′ y) where
+module _ (x y : Float) (e k o i j k′ o′ i′ j′ : ℕ) (E : e ≤ 1074) (K : k + k′ < 2 ^ 53) (L : o + o′ < 2 ^ 53) (I : i + i′ < 2 ^ 53) (J : j + j′ < 2 ^ 53)
+    (a : Held (2 ^ e) k o i j x) (b : Held (2 ^ e) k′ o′ i′ j′ y) where
   pub held-add : Held (2 ^ e) (k + k′) (o + o′) (i + i′) (j + j′) (add binary64 x y)
   held-add =
       held-of _ _ _ _ e _ _ _ _ (mul-pos (den-pos x) (den-pos y)) E K L I J (is-add x y (a .fine) (b .fine))
       (added (upper x) (lower x) (den x) (upper y) (lower y) (den y) (2 ^ e) k o k′ o′ (a .above) (b .above))
       (omega (arith, added (lower x) (upper x) (den x) (lower y) (upper y) (den y) (2 ^ e) j i j′ i′ (omega (arith, a .below)) (omega (arith, b .below))))
 
-pub held-sub : (x y : Float) (e k o i j k′ o′ i′ j′ : ℕ) → e ≤ 1074 → k + j′ < 2 ^ 53 → o + i′ < 2 ^ 53 → i + o′ < 2 ^ 53 → j + k′ < 2 ^ 53 → Held (2 ^ e) k o i j x → Held (2 ^ e) k′ o′ i′ j′ y → Held (2 ^ e) (k + j′) (o + i′) (i + o′) (j + k′) (sub binary64 x y)
+pub held-sub : (x y : Float) (e k o i j k′ o′ i′ j′ : ℕ) → e ≤ 1074 → k + j′ < 2 ^ 53 → o + i′ < 2 ^ 53 → i + o′ < 2 ^ 53 → j + k′ < 2 ^ 53
+    → Held (2 ^ e) k o i j x → Held (2 ^ e) k′ o′ i′ j′ y → Held (2 ^ e) (k + j′) (o + i′) (i + o′) (j + k′) (sub binary64 x y)
 unfolding sub
 held-sub x y e k o i j k′ o′ i′ j′ E K L I J a b = held-add x (neg y) e k o i j j′ i′ o′ k′ E K L I J a (held-neg y (2 ^ e) k′ o′ i′ j′ b)
 
@@ -174,8 +179,17 @@ parted t d u l c h k a b =
     simp (add-mul, mul-assoc, mul-comm, mul-left-comm, zero-mul)
     (omega (arith, simp (add-mul, mul-assoc, mul-comm, mul-left-comm) at m, simp (add-mul, mul-assoc, mul-comm, mul-left-comm) at n))
 
-pub held-part : (t x : Float) (e k j : ℕ) → e ≤ 1074 → k < 2 ^ 53 → j < 2 ^ 53 → T (finite t) → lower t ≡ 0 → upper t ≤ den t → Held (2 ^ e) k 0 0 j x → Held (2 ^ e) k 0 0 j (mul binary64 t x)
+pub held-part : (t x : Float) (e k j : ℕ) → e ≤ 1074 → k < 2 ^ 53 → j < 2 ^ 53 → T (finite t) → lower t ≡ 0 → upper t ≤ den t → Held (2 ^ e) k 0 0 j x
+    → Held (2 ^ e) k 0 0 j (mul binary64 t x)
 held-part t x e k j E K J f z m g =
     held-of _ _ _ _ e k 0 0 j (mul-pos (den-pos t) (den-pos x)) E K (omega arith) (omega arith) J (is-mul t x f (g .fine))
-    (rw z (omega (arith, zero-mul (den t * den x), parted (upper t) (den t) (upper x) (lower x) (den x) (2 ^ e) k m (omega (arith, g .above, zero-mul (den x))))))
-    (rw z (omega (arith, zero-mul (den t * den x), parted (upper t) (den t) (lower x) (upper x) (den x) (2 ^ e) j m (omega (arith, g .below, zero-mul (den x))))))
+    (rw z (omega (
+      arith,
+      zero-mul (den t * den x),
+      parted (upper t) (den t) (upper x) (lower x) (den x) (2 ^ e) k m (omega (arith, g .above, zero-mul (den x))),
+    )))
+    (rw z (omega (
+      arith,
+      zero-mul (den t * den x),
+      parted (upper t) (den t) (lower x) (upper x) (den x) (2 ^ e) j m (omega (arith, g .below, zero-mul (den x))),
+    )))

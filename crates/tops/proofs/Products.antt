@@ -16,7 +16,8 @@ use Rattle.tops.proofs.Fractions.{Held, held-of, held-add}
 
 -- ---- the product of (r - 2) / g + x and (t - m) / h - y, in whole numbers
 module _ (u l d r x a b c t y g h m : ℕ) (p : g * u + 2 * d ≡ r * d + g * l + x) (q : h * a + m * c + y ≡ t * c + h * b) where
-  same : (u * a + l * b) * h * g + 2 * t * (d * c) + r * m * (d * c) + (x * m * c + (r * d + x) * y) ≡ (u * b + l * a) * h * g + r * t * (d * c) + 2 * m * (d * c) + (x * t * c + 2 * d * y)
+  same : (u * a + l * b) * h * g + 2 * t * (d * c) + r * m * (d * c) + (x * m * c + (r * d + x) * y)
+      ≡ (u * b + l * a) * h * g + r * t * (d * c) + 2 * m * (d * c) + (x * t * c + 2 * d * y)
   same =
       simp (add-mul, mul-add, mul-assoc, mul-comm, mul-left-comm)
       (omega (
@@ -44,13 +45,15 @@ module _ (u l d r x a b c t y g h m : ℕ) (p : g * u + 2 * d ≡ r * d + g * l 
       part =
           let i = mul-le-mul-right (x * c) Z in
           let j = mul-le-mul-right (m * c) X in
-          simp (mul-assoc, mul-comm, mul-left-comm) (omega (arith, simp (mul-assoc, mul-comm, mul-left-comm) at i, simp (mul-assoc, mul-comm, mul-left-comm) at j))
+          simp (mul-assoc, mul-comm, mul-left-comm)
+          (omega (arith, simp (mul-assoc, mul-comm, mul-left-comm) at i, simp (mul-assoc, mul-comm, mul-left-comm) at j))
 
       rest : 2 * d * y ≤ 4 * (m * (d * c))
       rest =
           let i = mul-le-mul-right d Y in
           let j = mul-le-mul-right (c * d) Z in
-          simp (mul-assoc, mul-comm, mul-left-comm) (omega (arith, simp (mul-assoc, mul-comm, mul-left-comm) at i, simp (mul-assoc, mul-comm, mul-left-comm) at j))
+          simp (mul-assoc, mul-comm, mul-left-comm)
+          (omega (arith, simp (mul-assoc, mul-comm, mul-left-comm) at i, simp (mul-assoc, mul-comm, mul-left-comm) at j))
 
 -- ---- the same of floats
 abbrev pub G : ℕ
@@ -102,7 +105,8 @@ crude : (u d a b c : ℕ) → u ≤ 2 * d → H * b ≤ G * c + H * a → (u * b
 crude u d a b c p q =
     let i = mul-le-mul-right u q in
     let j = mul-le-mul-right (G * c) p in
-    simp (add-mul, mul-assoc, mul-comm, mul-left-comm) (omega (arith, simp (add-mul, mul-assoc, mul-comm, mul-left-comm) at i, simp (add-mul, mul-assoc, mul-comm, mul-left-comm) at j))
+    simp (add-mul, mul-assoc, mul-comm, mul-left-comm)
+    (omega (arith, simp (add-mul, mul-assoc, mul-comm, mul-left-comm) at i, simp (add-mul, mul-assoc, mul-comm, mul-left-comm) at j))
 
 module _ (u a : Float) (r t : ℕ) (R : r ≤ G + 6) (S : t ≤ 2 * G) (w : Held G (r + 1) 2 r 2 u) (z : Held H t G 0 G a) where
   abbrev p : ℕ
@@ -145,7 +149,8 @@ module _ (u a : Float) (r t : ℕ) (R : r ≤ G + 6) (S : t ≤ 2 * G) (w : Held
 
   pub weighed : Held H (most r t) (less r t) 0 (4 * G) (mul binary64 u a)
   weighed =
-      held-of _ _ _ _ 20 (most r t) (less r t) 0 (4 * G) (mul-pos (den-pos u) (den-pos a)) (omega arith) (omega (arith, most-few r t R S)) (omega (arith, less-few r t R S)) (omega arith) (omega arith) (is-mul u a (w .fine) (z .fine))
+      held-of _ _ _ _ 20 (most r t) (less r t) 0 (4 * G) (mul-pos (den-pos u) (den-pos a)) (omega arith) (omega (arith, most-few r t R S))
+      (omega (arith, less-few r t R S)) (omega arith) (omega arith) (is-mul u a (w .fine) (z .fine))
       high (omega (arith, zero-mul c, deep))
 
 -- ---- three of them
@@ -163,8 +168,10 @@ module _ (u v w a b c : Float) (i j k t : ℕ) (S : t ≤ 2 * G) (low : G + 3 �
       let I : i ≤ G + 6 = omega arith in
       let J : j ≤ G + 6 = omega arith in
       let N : k ≤ G + 6 = omega arith in
-      held-add _ _ 20 _ _ _ _ _ _ _ _ (omega arith) (omega (arith, most-few i t I S, most-few j t J S, most-few k t N S)) (omega (arith, less-few i t I S, less-few j t J S, less-few k t N S)) (omega arith) (omega arith)
-      (held-add _ _ 20 _ _ _ _ _ _ _ _ (omega arith) (omega (arith, most-few i t I S, most-few j t J S)) (omega (arith, less-few i t I S, less-few j t J S)) (omega arith) (omega arith) (weighed u a i t I S wu za) (weighed v b j t J S wv zb))
+      held-add _ _ 20 _ _ _ _ _ _ _ _ (omega arith) (omega (arith, most-few i t I S, most-few j t J S, most-few k t N S))
+      (omega (arith, less-few i t I S, less-few j t J S, less-few k t N S)) (omega arith) (omega arith)
+      (held-add _ _ 20 _ _ _ _ _ _ _ _ (omega arith) (omega (arith, most-few i t I S, most-few j t J S)) (omega (arith, less-few i t I S, less-few j t J S))
+      (omega arith) (omega arith) (weighed u a i t I S wu za) (weighed v b j t J S wv zb))
       (weighed w c k t N S ww zc)
 
   -- hardly above the highest

@@ -24,7 +24,11 @@ le-above x y h k o i j f g l = cross (upper x) (lower x) (den x) (upper y) (lowe
     cross u l d u′ l′ d′ D a b =
         le-of-mul-le-mul-right {m = h * u + o * d} {n = k * d + h * l} {k = d′}
         (simp (add-mul, mul-assoc, mul-comm, mul-left-comm)
-        (omega (arith, simp (add-mul, mul-assoc, mul-comm, mul-left-comm) at (mul-le-mul-right h a), simp (add-mul, mul-assoc, mul-comm, mul-left-comm) at (mul-le-mul-right d b))))
+        (omega (
+          arith,
+          simp (add-mul, mul-assoc, mul-comm, mul-left-comm) at (mul-le-mul-right h a),
+          simp (add-mul, mul-assoc, mul-comm, mul-left-comm) at (mul-le-mul-right d b),
+        )))
         D
 
 held-le : (x y : Float) (h k o i j k′ o′ i′ j′ : ℕ) → 0 < h → Held h k o i j x → Held h k′ o′ i′ j′ y → k + j′ ≤ i′ + o → T (le x y)
@@ -103,7 +107,16 @@ module _ (from : Float) (A : T (le first from)) (B : T (le from last)) where
     corner-held =
         record {
           fine = fz;
-          above = omega (arith, le-above z low H (n + 1 + 0) (G + 32) (n + 0) (G + 32) fz hl L, add-mul (n + 1) 0 (den z), add-mul n 1 (den z), add-mul t 31 (den z), n-least, zero-mul (den z), split);
+          above = omega (
+            arith,
+            le-above z low H (n + 1 + 0) (G + 32) (n + 0) (G + 32) fz hl L,
+            add-mul (n + 1) 0 (den z),
+            add-mul n 1 (den z),
+            add-mul t 31 (den z),
+            n-least,
+            zero-mul (den z),
+            split,
+          );
           below = omega (arith, le→parts deep z tt fz D, mul-one (upper z), mul-one (lower z), zero-mul (den z));
         }
       where
@@ -114,7 +127,8 @@ module _ (from : Float) (A : T (le first from)) (B : T (le from last)) where
     corner-under = held-le z from H t G 0 G (n + 1) G n G (omega arith) corner-held hf (omega arith)
 
   -- a point of an edge
-  module _ (a b s : Float) (Da : T (le deep a)) (La : T (le a low)) (Db : T (le deep b)) (Lb : T (le b low)) (U : T (le (fin false 0 (pos 0)) s)) (W : T (le s I)) where
+  module _ (a b s : Float) (Da : T (le deep a)) (La : T (le a low)) (Db : T (le deep b)) (Lb : T (le b low))
+      (U : T (le (fin false 0 (pos 0)) s)) (W : T (le s I)) where
     ha : Held H t G 0 G a
     ha = corner-held a Da La
 
@@ -132,7 +146,8 @@ module _ (from : Float) (A : T (le first from)) (B : T (le from last)) where
     k-most = le-of-mul-le-mul-right {m = k} {n = t} {k = den a} (omega (arith, hk .below, ha .above)) (den-pos a)
 
     he : Held H (t - k) 0 0 (k + 1) (b ⊖ a)
-    he = held-more _ _ _ _ _ _ _ _ _ _ (omega (arith, k-most)) (omega arith) (held-sub b a 20 t G 0 G (k + 1) G k G (omega arith) (omega (arith, t-most)) (omega (arith, t-most, k-most)) (omega arith) (omega (arith, t-most, k-most)) hb hk)
+    he = held-more _ _ _ _ _ _ _ _ _ _ (omega (arith, k-most)) (omega arith) (held-sub b a 20 t G 0 G (k + 1) G k G (omega arith) (omega (arith, t-most))
+        (omega (arith, t-most, k-most)) (omega arith) (omega (arith, t-most, k-most)) hb hk)
 
     fs : T (finite s)
     fs = finite-between (fin false 0 (pos 0)) s I tt tt U W
@@ -151,13 +166,16 @@ module _ (from : Float) (A : T (le first from)) (B : T (le from last)) where
 
     edge-held : Held H (k + 1 + (t - k)) (G + 0) (k + 0) (G + (k + 1)) (a ⊕ s ⊗ (b ⊖ a))
     edge-held =
-        held-add a (s ⊗ (b ⊖ a)) 20 (k + 1) G k G (t - k) 0 0 (k + 1) (omega arith) (omega (arith, k-most, t-most)) (omega arith) (omega (arith, k-most, t-most)) (omega (arith, k-most, t-most)) hk
+        held-add a (s ⊗ (b ⊖ a)) 20 (k + 1) G k G (t - k) 0 0 (k + 1) (omega arith) (omega (arith, k-most, t-most)) (omega arith)
+        (omega (arith, k-most, t-most)) (omega (arith, k-most, t-most)) hk
         (held-part s (b ⊖ a) 20 (t - k) (k + 1) (omega arith) (omega (arith, t-most)) (omega (arith, k-most, t-most)) fs s-least s-most he)
 
     pub edge-under : T (le (a ⊕ s ⊗ (b ⊖ a)) from)
     edge-under = held-le _ from H _ _ _ _ (n + 1) G n G (omega arith) edge-held hf (omega (arith, k-most, n-least))
 
   -- a point of the facet
-  pub facet-under : (v w a b c : Float) → T (le S v) → T (le S w) → T (le S (I ⊖ v ⊖ w)) → T (le deep a) → T (le a low) → T (le deep b) → T (le b low) → T (le deep c) → T (le c low) → T (le ((I ⊖ v ⊖ w) ⊗ a ⊕ v ⊗ b ⊕ w ⊗ c) from)
+  pub facet-under : (v w a b c : Float) → T (le S v) → T (le S w) → T (le S (I ⊖ v ⊖ w)) → T (le deep a) → T (le a low) → T (le deep b) → T (le b low)
+      → T (le deep c) → T (le c low) → T (le ((I ⊖ v ⊖ w) ⊗ a ⊕ v ⊗ b ⊕ w ⊗ c) from)
   facet-under v w a b c p q r Da La Db Lb Dc Lc =
-      held-le _ from H _ _ _ _ (n + 1) G n G (omega arith) (facet v w p q r a b c t t-most (corner-held a Da La) (corner-held b Db Lb) (corner-held c Dc Lc)) hf (omega (arith, n-least))
+      held-le _ from H _ _ _ _ (n + 1) G n G (omega arith)
+      (facet v w p q r a b c t t-most (corner-held a Da La) (corner-held b Db Lb) (corner-held c Dc Lc)) hf (omega (arith, n-least))

@@ -175,18 +175,43 @@ module _ (v w : Float) (p : T (le S v)) (q : T (le S w)) (r : T (le S (I ⊖ v �
   hy = held-sub I v 40 G 0 G 0 (j + 1) 2 j 2 (omega arith) (omega arith) (omega (arith, jn)) (omega arith) (omega (arith, jn)) one-held hv
 
   hu′ : Held G (G + 2 + 2) (0 + j + k) (G + 2 + 2) (0 + (j + 1) + (k + 1)) u
-  hu′ = held-sub (I ⊖ v) w 40 (G + 2) (0 + j) (G + 2) (0 + (j + 1)) (k + 1) 2 k 2 (omega arith) (omega arith) (omega (arith, jn, kn)) (omega arith) (omega (arith, jn, kn)) hy hw
+  hu′ = held-sub (I ⊖ v) w 40 (G + 2) (0 + j) (G + 2) (0 + (j + 1)) (k + 1) 2 k 2 (omega arith) (omega arith) (omega (arith, jn, kn)) (omega arith)
+      (omega (arith, jn, kn)) hy hw
 
   sum-high : i + j + k ≤ G + 6
   sum-high =
       le-of-mul-le-mul-right {m = i + j + k} {n = G + 6} {k = den u}
-      (omega (arith, hu′ .above, hu .below, add-mul (0 + j) k (den u), add-mul 0 j (den u), zero-mul (den u), add-mul (i + j) k (den u), add-mul i j (den u), add-mul G 6 (den u))) (den-pos u)
+      (omega (
+        arith,
+        hu′ .above,
+        hu .below,
+        add-mul (0 + j) k (den u),
+        add-mul 0 j (den u),
+        zero-mul (den u),
+        add-mul (i + j) k (den u),
+        add-mul i j (den u),
+        add-mul G 6 (den u),
+      )) (den-pos u)
 
   sum-low : G + 3 ≤ i + j + k
   sum-low =
       le-of-mul-le-mul-right {m = G + 3} {n = i + j + k} {k = den u}
-      (omega (arith, hu′ .below, hu .above, add-mul (0 + (j + 1)) (k + 1) (den u), add-mul 0 (j + 1) (den u), zero-mul (den u), add-mul j 1 (den u), add-mul k 1 (den u), add-mul i 1 (den u), add-mul (i + j) k (den u), add-mul i j (den u))) (den-pos u)
+      (omega (
+        arith,
+        hu′ .below,
+        hu .above,
+        add-mul (0 + (j + 1)) (k + 1) (den u),
+        add-mul 0 (j + 1) (den u),
+        zero-mul (den u),
+        add-mul j 1 (den u),
+        add-mul k 1 (den u),
+        add-mul i 1 (den u),
+        add-mul (i + j) k (den u),
+        add-mul i j (den u),
+      )) (den-pos u)
 
-  pub facet : (a b c : Float) (t : ℕ) → t ≤ 2 * G → Held H t G 0 G a → Held H t G 0 G b → Held H t G 0 G c → Held H (t + 24) G 0 (12 * G) (u ⊗ a ⊕ v ⊗ b ⊕ w ⊗ c)
+  pub facet : (a b c : Float) (t : ℕ) → t ≤ 2 * G → Held H t G 0 G a → Held H t G 0 G b → Held H t G 0 G c
+      → Held H (t + 24) G 0 (12 * G) (u ⊗ a ⊕ v ⊗ b ⊕ w ⊗ c)
   facet a b c t s za zb zc =
-      held-more _ _ _ _ _ _ _ _ _ _ (omega (arith, hardly u v w a b c i j k t s sum-low sum-high hu hv hw za zb zc)) (omega arith) (summed u v w a b c i j k t s sum-low sum-high hu hv hw za zb zc)
+      held-more _ _ _ _ _ _ _ _ _ _ (omega (arith, hardly u v w a b c i j k t s sum-low sum-high hu hv hw za zb zc)) (omega arith)
+      (summed u v w a b c i j k t s sum-low sum-high hu hv hw za zb zc)

@@ -22,7 +22,8 @@ use Rattle.um.specs.declared.Extent.{Extent}
 use Rattle.um.specs.declared.Grid.{Grid}
 use Rattle.um.specs.declared.Built.{Built}
 use Rattle.um.specs.Grid.{trianglesIn, extentOf, gridOf, fits, powerAt, sizeOf, cellsIn, coverOf, totalOf}
-use Rattle.um.specs.Build.{headerOf, firstBad, toldWith, refusalOfNumbers, refusalOfMesh, refusalOfSize, Outcome, outcome, refusedBy, acceptedWith, unless, filledOf, gridded, buildOf}
+use Rattle.um.specs.Build.{headerOf, firstBad, toldWith, refusalOfNumbers, refusalOfMesh, refusalOfSize, Outcome}
+use Rattle.um.specs.Build.{outcome, refusedBy, acceptedWith, unless, filledOf, gridded, buildOf}
 use Rattle.um.specs.Inside.{Gridded}
 use Rattle.um.proofs.Places.{found, none}
 use Rattle.um.proofs.Gridding.{counted}
@@ -101,7 +102,8 @@ module _ (k p : ℕ) (s m : List ℕ) (next : Outcome) where
   unless-next o h e = taken _ _ _ _ (eq-eqb k 0 h) e
 
 -- ---- the tables, or refusal 6
-module _ (mesh : List ℤ) (n : ℕ) (g : Grid) (floor r : ℕ) (s m : List ℕ) (z : Gridded mesh n g) (t k : ℕ) (p : t ≡ totalOf mesh g n) (q : k ≡ refusalOfMembers t (length m)) where
+module _ (mesh : List ℤ) (n : ℕ) (g : Grid) (floor r : ℕ) (s m : List ℕ) (z : Gridded mesh n g) (t k : ℕ) (p : t ≡ totalOf mesh g n)
+    (q : k ≡ refusalOfMembers t (length m)) where
   asked : k ≡ refusalOfMembers (startOf (coverOf mesh g) n (cellsIn g)) (length m)
   asked = q ∙ ap (λ (x : ℕ). refusalOfMembers x (length m)) (p ∙ counted mesh g n z)
 
@@ -110,7 +112,13 @@ module _ (mesh : List ℤ) (n : ℕ) (g : Grid) (floor r : ℕ) (s m : List ℕ)
   filled-refused b e h = unless-refused _ 0 s m _ b (e ∙ ap (λ (x : ℕ). refusedBy x 0) asked) (λ z. h (asked ∙ z))
 
   pub filled-accepted : (s′ m′ : List ℕ) → k ≡ 0 → s′ ≡ startsOf (coverOf mesh g) n (cellsIn g) s → m′ ≡ membersTable (coverOf mesh g) n (cellsIn g) m
-      → outcome (record { refusal = 0; triangle = 0; number = 0; header = record { n = n; x = g .x; y = g .y; floor = floor; r = r; columns = g .columns; rows = g .rows; cell = g .cell } }) s′ m′ ≡ filledOf mesh n g floor r s m
+      → outcome (record {
+        refusal = 0;
+        triangle = 0;
+        number = 0;
+        header = record { n = n; x = g .x; y = g .y; floor = floor; r = r; columns = g .columns; rows = g .rows; cell = g .cell };
+      }) s′ m′
+      ≡ filledOf mesh n g floor r s m
   unfolding filledOf acceptedWith headerOf
   filled-accepted s′ m′ e b c = unless-next _ 0 s m _ _ (sym asked ∙ e) (rw (b, c) refl)
 

@@ -24,7 +24,8 @@ abbrev joined : Stretch → Stretch → Cells
 joined x y = record { left = x .first; right = x .last; bottom = y .first; top = y .last }
 
 pub cells-are : (mesh : List ℤ) (g : Grid) (i : ℕ) (b : Box) (x y : Stretch) → b ≡ boxOf mesh i
-    → x ≡ stretchOf (g .x) (g .cell) (g .columns) (b .«low_x») (b .«high_x») → y ≡ stretchOf (g .y) (g .cell) (g .rows) (b .«low_y») (b .«high_y») → joined x y ≡ cellsOf mesh g i
+    → x ≡ stretchOf (g .x) (g .cell) (g .columns) (b .«low_x») (b .«high_x») → y ≡ stretchOf (g .y) (g .cell) (g .rows) (b .«low_y») (b .«high_y»)
+    → joined x y ≡ cellsOf mesh g i
 unfolding cellsOf
 cells-are mesh g i b x y p q r =
     ap₂ joined
@@ -55,7 +56,8 @@ module _ (mesh : List ℤ) (g : Grid) where
     pub counted : totalOf mesh g n ≡ startOf (coverOf mesh g) n (cellsIn g)
     unfolding totalOf
     counted =
-        total-is (coverOf mesh g) (g .columns) (g .rows) (cellsOf mesh g) (λ i c. refl) (λ i. within i (z .some .0) (z .some .1) .0) (λ i. within i (z .some .0) (z .some .1) .1) n
+        total-is (coverOf mesh g) (g .columns) (g .rows) (cellsOf mesh g) (λ i c. refl) (λ i. within i (z .some .0) (z .some .1) .0)
+        (λ i. within i (z .some .0) (z .some .1) .1) n
 
     pub fits : (s m : List ℕ) → cellsIn g + 1 ≤ length s → totalOf mesh g n ≤ 16777216 → totalOf mesh g n ≤ length m → Fits (coverOf mesh g) n (cellsIn g) s m
     fits s m t h l =

@@ -114,7 +114,8 @@ module _ (mesh : List ℤ) (floor r : ℕ) (a : Accepted mesh floor r) where
         }
 
 -- ---- back from an answer that is no refusal
-unless-then : (k p : ℕ) (s m : List ℕ) (next : Outcome) (Q : Outcome → Type 0) → (k ≡ 0 → next .built .refusal ≡ 0 → Q next) → unless k p s m next .built .refusal ≡ 0 → Q (unless k p s m next)
+unless-then : (k p : ℕ) (s m : List ℕ) (next : Outcome) (Q : Outcome → Type 0) → (k ≡ 0 → next .built .refusal ≡ 0 → Q next)
+    → unless k p s m next .built .refusal ≡ 0 → Q (unless k p s m next)
 unfolding unless refusedBy
 unless-then k p s m next Q f e =
     by-test (eqb k 0)
@@ -142,7 +143,14 @@ module _ (mesh : List ℤ) (floor r : ℕ) (s m : List ℕ) where
   build-promise b s′ m′ e =
       record {
         built = λ z.
-            record { floor = floor; r = r; oldStarts = s; oldMembers = m; built = sym e ∙ ap (λ (x : Built). outcome x s′ m′) (built-left (outcome b s′ m′) e z .1) };
+            record {
+              floor = floor;
+              r = r;
+              oldStarts = s;
+              oldMembers = m;
+              built = sym e
+                  ∙ ap (λ (x : Built). outcome x s′ m′) (built-left (outcome b s′ m′) e z .1);
+            };
         sound = λ z. built-left (outcome b s′ m′) e z .0;
       }
 
@@ -150,4 +158,5 @@ module _ (mesh : List ℤ) (floor r : ℕ) (s m : List ℕ) where
 pub index-sound : (ix : Index) → BuiltFrom ix → SoundIndex ix
 unfolding acceptedWith
 index-sound ix b =
-    built-left (ix .mesh) (b .floor) (b .r) (b .oldStarts) (b .oldMembers) (outcome (acceptedWith (ix .header)) (ix .starts) (ix .members)) (sym (b .built)) refl .0
+    built-left (ix .mesh) (b .floor) (b .r) (b .oldStarts) (b .oldMembers)
+    (outcome (acceptedWith (ix .header)) (ix .starts) (ix .members)) (sym (b .built)) refl .0

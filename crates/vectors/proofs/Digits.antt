@@ -13,7 +13,8 @@ unfolding digitOf
 digit-below b =
     either (λ (n : ℕ). n < 16) (leb b 57) _ _
     (λ e. either (λ (n : ℕ). n < 16) (leb 48 b) _ _ (λ f. omega (arith, leb-true b 57 e)) (λ f. lit< tt))
-    (λ e. either (λ (n : ℕ). n < 16) (leb b 102) _ _ (λ f. either (λ (n : ℕ). n < 16) (leb 97 b) _ _ (λ g. omega (arith, leb-true b 102 f)) (λ g. lit< tt)) (λ f. lit< tt))
+    (λ e. either (λ (n : ℕ). n < 16) (leb b 102) _ _
+    (λ f. either (λ (n : ℕ). n < 16) (leb 97 b) _ _ (λ g. omega (arith, leb-true b 102 f)) (λ g. lit< tt)) (λ f. lit< tt))
 
 -- one digit more
 pub more-fits : (n d i : ℕ) → n < 16 ^ i → d < 16 → n * 16 + d < 16 ^ (i + 1)

@@ -26,7 +26,9 @@ module _ {A : Type 0} (stamp : ℕ) (step : A → ℕ → A) where
   walk-is (i ∷ ms) w =
       by-test (eqb (getD (w .marks) i 0) stamp) (walk-is ms w) (walk-is ms (struck stamp step w i))
     where
-      by-test : (b : Bool) → fold (look stamp step) w ms ≡ gathered stamp step w (looked stamp (w .marks) ms) → fold (look stamp step) (struck stamp step w i) ms ≡ gathered stamp step (struck stamp step w i) (looked stamp (set (w .marks) i stamp) ms) → fold (look stamp step) (cond b w (struck stamp step w i)) ms ≡ gathered stamp step w (cond b (looked stamp (w .marks) ms) (i ∷ looked stamp (set (w .marks) i stamp) ms))
+      by-test : (b : Bool) → fold (look stamp step) w ms ≡ gathered stamp step w (looked stamp (w .marks) ms) → fold (look stamp step)
+          (struck stamp step w i) ms ≡ gathered stamp step (struck stamp step w i) (looked stamp (set (w .marks) i stamp) ms) → fold (look stamp step)
+          (cond b w (struck stamp step w i)) ms ≡ gathered stamp step w (cond b (looked stamp (w .marks) ms) (i ∷ looked stamp (set (w .marks) i stamp) ms))
       by-test true p q = p
       by-test false p q = q ∙ gathered-cons w i (looked stamp (set (w .marks) i stamp) ms)
 
@@ -49,7 +51,8 @@ module _ (stamp : ℕ) (blocks : ℕ → Bool) where
   caught-last w i e = rw e
 
   -- member i is looked at: it blocks, or the walk goes on
-  hit-is : (w : Walk Bool) (i : ℕ) (ms is : List ℕ) → (not (blocks i) ≡ true → fold (strike stamp blocks) (hit w i) ms ≡ caught (hit w i) is) → fold (strike stamp blocks) (hit w i) ms ≡ caught w (i ∷ cond (blocks i) [] is)
+  hit-is : (w : Walk Bool) (i : ℕ) (ms is : List ℕ) → (not (blocks i) ≡ true → fold (strike stamp blocks) (hit w i) ms ≡ caught (hit w i) is)
+      → fold (strike stamp blocks) (hit w i) ms ≡ caught w (i ∷ cond (blocks i) [] is)
   hit-is w i ms is more = by-test (blocks i) refl
     where
       by-test : (b : Bool) → blocks i ≡ b → fold (strike stamp blocks) (hit w i) ms ≡ caught w (i ∷ cond (blocks i) [] is)
@@ -61,10 +64,14 @@ module _ (stamp : ℕ) (blocks : ℕ → Bool) where
   unfolding chased fold strike look looked upTo marked clearOf
   chase-is [] w c =
       let e : w .count ≡ w .count + 0 = omega arith in
-      ap (λ (n : ℕ). record { marks = w .marks; count = n; value = w .value }) e ∙ ap (λ (b : Bool). record { marks = w .marks; count = w .count + 0; value = b }) c
+      ap (λ (n : ℕ). record { marks = w .marks; count = n; value = w .value }) e
+      ∙ ap (λ (b : Bool). record { marks = w .marks; count = w .count + 0; value = b }) c
   chase-is (i ∷ ms) w c =
-      ap (λ (u : Walk Bool). fold (strike stamp blocks) u ms) (sym (taken (w .value) _ _ w c refl)) ∙ by-test (eqb (getD (w .marks) i 0) stamp) (chase-is ms w c) (hit-is w i ms _ (chase-is ms (hit w i)))
+      ap (λ (u : Walk Bool). fold (strike stamp blocks) u ms) (sym (taken (w .value) _ _ w c refl))
+      ∙ by-test (eqb (getD (w .marks) i 0) stamp) (chase-is ms w c) (hit-is w i ms _ (chase-is ms (hit w i)))
     where
-      by-test : (b : Bool) → fold (strike stamp blocks) w ms ≡ caught w (upTo blocks (looked stamp (w .marks) ms)) → fold (strike stamp blocks) (hit w i) ms ≡ caught w (upTo blocks (i ∷ looked stamp (set (w .marks) i stamp) ms)) → fold (strike stamp blocks) (cond b w (hit w i)) ms ≡ caught w (upTo blocks (cond b (looked stamp (w .marks) ms) (i ∷ looked stamp (set (w .marks) i stamp) ms)))
+      by-test : (b : Bool) → fold (strike stamp blocks) w ms ≡ caught w (upTo blocks (looked stamp (w .marks) ms))
+          → fold (strike stamp blocks) (hit w i) ms ≡ caught w (upTo blocks (i ∷ looked stamp (set (w .marks) i stamp) ms)) → fold (strike stamp blocks)
+          (cond b w (hit w i)) ms ≡ caught w (upTo blocks (cond b (looked stamp (w .marks) ms) (i ∷ looked stamp (set (w .marks) i stamp) ms)))
       by-test true p q = p
       by-test false p q = q

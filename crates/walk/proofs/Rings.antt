@@ -37,7 +37,8 @@ module _ {W : Type 0} (s : W → ℕ → W) where
   unfolding over
   over-end f a b h = let e : b - a ≡ 0 = omega arith in rw e
 
-  ring-next : (f : ℕ → List ℕ) (a b : ℕ) (w w′ r : W) → a < b → fold s w (over f a (b - a)) ≡ r → w′ ≡ fold s w (f a) → fold s w′ (over f (a + 1) (b - (a + 1))) ≡ r
+  ring-next : (f : ℕ → List ℕ) (a b : ℕ) (w w′ r : W) → a < b → fold s w (over f a (b - a)) ≡ r → w′ ≡ fold s w (f a)
+      → fold s w′ (over f (a + 1) (b - (a + 1))) ≡ r
   ring-next f a b w w′ r h i e =
       ap (λ (u : W). fold s u (over f (a + 1) (b - (a + 1)))) e ∙ sym (fold-append (f a) _ w) ∙ (rw (over-next f a b h) at i)
 
@@ -92,7 +93,8 @@ module _ {A : Type 0} (stamp : ℕ) (step : A → ℕ → A) (w : Walk A) (i : �
       let m = set-same (w .marks) i stamp (eqb-true (getD (w .marks) i 0) stamp e) in
       taken _ _ _ _ e (ap (λ (l : List ℕ). record { marks = l; count = w .count; value = w .value }) (sym m))
 
-  pub look-first : eqb (getD (w .marks) i 0) stamp ≡ false → (v : A) → v ≡ step (w .value) i → record { marks = set (w .marks) i stamp; count = w .count + 1; value = v } ≡ look stamp step w i
+  pub look-first : eqb (getD (w .marks) i 0) stamp ≡ false → (v : A) → v ≡ step (w .value) i
+      → record { marks = set (w .marks) i stamp; count = w .count + 1; value = v } ≡ look stamp step w i
   unfolding look
   look-first e v p = left _ _ _ _ e (ap (λ (u : A). record { marks = set (w .marks) i stamp; count = w .count + 1; value = u }) p)
 
@@ -100,12 +102,14 @@ fresh-new : (stamp : ℕ) (marks : List ℕ) (i : ℕ) (f : Bool) → f ≡ not 
 fresh-new stamp marks i f a n = not-true _ (sym a ∙ not-false f n)
 
 -- a triangle that is fresh has room in the count
-pub fresh-room : (stamp : ℕ) (marks : List ℕ) (count i : ℕ) (f : Bool) → f ≡ not (eqb (getD marks i 0) stamp) → not f ≡ false → i < length marks → count + unmarked stamp marks < 2 ^ 32 → count + 1 < 2 ^ 32
+pub fresh-room : (stamp : ℕ) (marks : List ℕ) (count i : ℕ) (f : Bool) → f ≡ not (eqb (getD marks i 0) stamp) → not f ≡ false → i < length marks
+    → count + unmarked stamp marks < 2 ^ 32 → count + 1 < 2 ^ 32
 fresh-room stamp marks count i f a n h r =
     let u = unmarked-set stamp marks i h (fresh-new stamp marks i f a n) in omega arith
 
 -- the same from what a call of `fresh` ensures: f is its answer, m′ the marks that it left
-module _ {A : Type 0} (stamp : ℕ) (step : A → ℕ → A) (w : Walk A) (i : ℕ) (f : Bool) (m′ : List ℕ) (a : f ≡ not (eqb (getD (w .marks) i 0) stamp)) (b : m′ ≡ set (w .marks) i stamp) where
+module _ {A : Type 0} (stamp : ℕ) (step : A → ℕ → A) (w : Walk A) (i : ℕ) (f : Bool) (m′ : List ℕ) (a : f ≡ not (eqb (getD (w .marks) i 0) stamp))
+    (b : m′ ≡ set (w .marks) i stamp) where
   pub fresh-again : not f ≡ true → record { marks = m′; count = w .count; value = w .value } ≡ look stamp step w i
   fresh-again n =
       ap (λ (l : List ℕ). record { marks = l; count = w .count; value = w .value }) b ∙ look-again stamp step w i (not-false _ (sym a ∙ not-true f n))
@@ -132,7 +136,8 @@ module _ (stamp : ℕ) (blocks : ℕ → Bool) where
       stopped ms w r p (ap (λ (u : Walk Bool). fold (strike stamp blocks) u ms) (left (w .value) w _ w p refl) ∙ i)
 
 -- what every member keeps a list keeps
-pub fold-keeps : {A : Type 0} (stamp : ℕ) (s : Walk A → ℕ → Walk A) → ((w : Walk A) (i : ℕ) → i < length (w .marks) → Kept stamp w (s w i)) → (ms : List ℕ) (w : Walk A) → Below (length (w .marks)) ms → Kept stamp w (fold s w ms)
+pub fold-keeps : {A : Type 0} (stamp : ℕ) (s : Walk A → ℕ → Walk A) → ((w : Walk A) (i : ℕ) → i < length (w .marks) → Kept stamp w (s w i))
+    → (ms : List ℕ) (w : Walk A) → Below (length (w .marks)) ms → Kept stamp w (fold s w ms)
 unfolding fold
 fold-keeps stamp s one [] w b = kept-same stamp w
 fold-keeps stamp s one (m ∷ ms) w b =
@@ -149,7 +154,8 @@ module _ {A : Type 0} {stamp : ℕ} {s : Walk A → ℕ → Walk A} {w₀ : Walk
   going-starts = record { same = refl; kept = kept-same stamp w₀ }
 
   -- the ring over the members, at member j: a turn, and the end
-  pub member-turns : (j : ℕ) {w w′ : Walk A} → j < length all → Kept stamp w (s w (getD all j 0)) → Going stamp s w₀ all w (drop j all) → w′ ≡ s w (getD all j 0) → Going stamp s w₀ all w′ (drop (j + 1) all)
+  pub member-turns : (j : ℕ) {w w′ : Walk A} → j < length all → Kept stamp w (s w (getD all j 0)) → Going stamp s w₀ all w (drop j all)
+      → w′ ≡ s w (getD all j 0) → Going stamp s w₀ all w′ (drop (j + 1) all)
   member-turns j {w} {w′} h k g e =
       record { same = fold-next s all j w w′ _ h (g .same) e; kept = kept-trans (g .kept) (rw e k) }
 
@@ -158,7 +164,8 @@ module _ {A : Type 0} {stamp : ℕ} {s : Walk A → ℕ → Walk A} {w₀ : Walk
 
   -- a ring over a .. b, with the numbers f a at a: a turn, in which the ring inside went to its end, and the end
   module _ (f : ℕ → List ℕ) (a b : ℕ) {w : Walk A} where
-    pub ring-turns : {w′ : Walk A} → a < b → Kept stamp w w′ → Going stamp s w₀ all w (over f a (b - a)) → w′ ≡ fold s w (f a) → Going stamp s w₀ all w′ (over f (a + 1) (b - (a + 1)))
+    pub ring-turns : {w′ : Walk A} → a < b → Kept stamp w w′ → Going stamp s w₀ all w (over f a (b - a)) → w′ ≡ fold s w (f a)
+        → Going stamp s w₀ all w′ (over f (a + 1) (b - (a + 1)))
     ring-turns {w′} h k g e = record { same = ring-next s f a b w w′ _ h (g .same) e; kept = kept-trans (g .kept) k }
 
     pub ring-ends : b ≤ a → Going stamp s w₀ all w (over f a (b - a)) → w ≡ fold s w₀ all
@@ -166,10 +173,12 @@ module _ {A : Type 0} {stamp : ℕ} {s : Walk A → ℕ → Walk A} {w₀ : Walk
 
 -- ---- the way out of all three rings: a blocker at member j, and inside a ring
 module _ {stamp : ℕ} (blocks : ℕ → Bool) {w₀ : Walk Bool} {all : List ℕ} where
-  pub member-blocks : (j : ℕ) {w w′ : Walk Bool} → j < length all → Going stamp (strike stamp blocks) w₀ all w (drop j all) → w′ ≡ strike stamp blocks w (getD all j 0) → w′ .value ≡ false → w′ ≡ fold (strike stamp blocks) w₀ all
+  pub member-blocks : (j : ℕ) {w w′ : Walk Bool} → j < length all → Going stamp (strike stamp blocks) w₀ all w (drop j all)
+      → w′ ≡ strike stamp blocks w (getD all j 0) → w′ .value ≡ false → w′ ≡ fold (strike stamp blocks) w₀ all
   member-blocks j {w} {w′} h g e c =
       stopped stamp blocks (drop (j + 1) all) w′ _ c (fold-next (strike stamp blocks) all j w w′ _ h (g .same) e)
 
-  pub ring-blocks : (f : ℕ → List ℕ) (a b : ℕ) {w w′ : Walk Bool} → a < b → Going stamp (strike stamp blocks) w₀ all w (over f a (b - a)) → w′ ≡ fold (strike stamp blocks) w (f a) → w′ .value ≡ false → w′ ≡ fold (strike stamp blocks) w₀ all
+  pub ring-blocks : (f : ℕ → List ℕ) (a b : ℕ) {w w′ : Walk Bool} → a < b → Going stamp (strike stamp blocks) w₀ all w (over f a (b - a))
+      → w′ ≡ fold (strike stamp blocks) w (f a) → w′ .value ≡ false → w′ ≡ fold (strike stamp blocks) w₀ all
   ring-blocks f a b {w} {w′} h g e c =
       stopped stamp blocks _ w′ _ c (ring-next (strike stamp blocks) f a b w w′ _ h (g .same) e)

@@ -32,18 +32,21 @@ module _ (ix : Index) (e : usableWhole ix ≡ true) where
   whole-head = headed-is (ix .mesh) (ix .header) (ix .starts) (parts .0)
 
   -- the cells of any patch of the grid can be walked
-  pub whole-walkable : (x0 x1 y0 y1 : ℕ) → x1 ≤ ix .header .columns → y1 ≤ ix .header .rows → Walkable (ix .starts) (ix .members) (ix .header .n) (ix .header .columns) x0 x1 y0 y1
+  pub whole-walkable : (x0 x1 y0 y1 : ℕ) → x1 ≤ ix .header .columns → y1 ≤ ix .header .rows
+      → Walkable (ix .starts) (ix .members) (ix .header .n) (ix .header .columns) x0 x1 y0 y1
   unfolding cellUsable
   whole-walkable x0 x1 y0 y1 right top =
       record {
         stretch = λ x y a b c d.
             let i : ℕ = y * ix .header .columns + x in
-            let u = both-true (leb (getD (ix .starts) i 0) (getD (ix .starts) (i + 1) 0)) (leb (getD (ix .starts) (i + 1) 0) (length (ix .members)) && each test (cell (ix .starts) (ix .members) i)) (at x y b d) in
+            let u = both-true (leb (getD (ix .starts) i 0) (getD (ix .starts) (i + 1) 0))
+            (leb (getD (ix .starts) (i + 1) 0) (length (ix .members)) && each test (cell (ix .starts) (ix .members) i)) (at x y b d) in
             let v = both-true (leb (getD (ix .starts) (i + 1) 0) (length (ix .members))) (each test (cell (ix .starts) (ix .members) i)) (u .1) in
             record { inside = omega (arith, below x y b d, whole-head .room); rises = leb-true _ _ (u .0); within = leb-true _ _ (v .0) };
         below = λ x y a b c d k l.
             let i : ℕ = y * ix .header .columns + x in
-            let u = both-true (leb (getD (ix .starts) i 0) (getD (ix .starts) (i + 1) 0)) (leb (getD (ix .starts) (i + 1) 0) (length (ix .members)) && each test (cell (ix .starts) (ix .members) i)) (at x y b d) in
+            let u = both-true (leb (getD (ix .starts) i 0) (getD (ix .starts) (i + 1) 0))
+            (leb (getD (ix .starts) (i + 1) 0) (length (ix .members)) && each test (cell (ix .starts) (ix .members) i)) (at x y b d) in
             let v = both-true (leb (getD (ix .starts) (i + 1) 0) (length (ix .members))) (each test (cell (ix .starts) (ix .members) i)) (u .1) in
             ltb-true _ _ (each-at test (cell (ix .starts) (ix .members) i) k (v .1) l);
       }
@@ -53,7 +56,8 @@ module _ (ix : Index) (e : usableWhole ix ≡ true) where
 
       at : (x y : ℕ) → x < x1 → y < y1 → cellUsable test (ix .starts) (ix .members) (y * ix .header .columns + x) ≡ true
       at x y b d =
-          every-at (cellUsable test (ix .starts) (ix .members)) 0 (ix .header .rows * ix .header .columns) (y * ix .header .columns + x) (both-true (every (triangleUsable (ix .mesh) (ix .boxes)) 0 (ix .header .n)) tables (parts .1) .1) (omega arith) (omega (arith, below x y b d))
+          every-at (cellUsable test (ix .starts) (ix .members)) 0 (ix .header .rows * ix .header .columns) (y * ix .header .columns + x)
+          (both-true (every (triangleUsable (ix .mesh) (ix .boxes)) 0 (ix .header .n)) tables (parts .1) .1) (omega arith) (omega (arith, below x y b d))
 
 -- a sound index passes
 pub sound-whole : (ix : Index) → SoundIndex ix → usableWhole ix ≡ true

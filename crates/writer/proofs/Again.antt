@@ -49,7 +49,8 @@ module _ (file : List ℕ) (small : (i : ℕ) → getD file i 0 < 256) where
 
     field-again : digits (f .size) (value f file) ≡ take (f .size) (drop (f .at) file)
     unfolding value
-    field-again = ap (λ (k : ℕ). digits k (little (take (f .size) (drop (f .at) file)))) (sym part-length) ∙ digits-little (take (f .size) (drop (f .at) file)) (part-small (f .at) (f .size))
+    field-again = ap (λ (k : ℕ). digits k (little (take (f .size) (drop (f .at) file)))) (sym part-length)
+        ∙ digits-little (take (f .size) (drop (f .at) file)) (part-small (f .at) (f .size))
 
     value-lt : value f file < 256 ^ f .size
     unfolding value
@@ -59,7 +60,8 @@ module _ (file : List ℕ) (small : (i : ℕ) → getD file i 0 < 256) where
   glue : (a b : ℕ) (x y : List ℕ) → x ≡ take a file → y ≡ take b (drop a file) → x ++ y ≡ take (a + b) file
   glue a b x y p q = rw (p, q) (sym (take-add a b file))
 
-  head-again : 14 ≤ length file → value mark file ≡ letters → value version file ≡ 1 → value zeroByte file ≡ 0 → headOf (value triangles file) (value questions file) ≡ take 14 file
+  head-again : 14 ≤ length file → value mark file ≡ letters → value version file ≡ 1 → value zeroByte file ≡ 0
+      → headOf (value triangles file) (value questions file) ≡ take 14 file
   unfolding headOf
   head-again h p q r =
       let a : digits 3 letters ≡ take 3 file = ap (digits 3) (sym p) ∙ field-again mark (omega arith) in
@@ -67,19 +69,28 @@ module _ (file : List ℕ) (small : (i : ℕ) → getD file i 0 < 256) where
       let c : digits 1 0 ≡ take 1 (drop 5 file) = ap (digits 1) (sym r) ∙ field-again zeroByte (omega arith) in
       glue 10 4 _ _ (glue 6 4 _ _ (glue 5 1 _ _ (glue 3 2 _ _ a b) c) (field-again triangles (omega arith))) (field-again questions (omega arith))
 
-  number-again : (k : ℕ) → 14 + 8 * k + 8 ≤ length file → finite (numberOf file k) ≡ true → digits 8 (toBits binary64 (numberOf file k)) ≡ take 8 (drop (14 + 8 * k) file)
+  number-again : (k : ℕ) → 14 + 8 * k + 8 ≤ length file → finite (numberOf file k) ≡ true
+      → digits 8 (toBits binary64 (numberOf file k)) ≡ take 8 (drop (14 + 8 * k) file)
   unfolding numberOf
   number-again k h e =
       let f = number wide k in
       ap (digits 8) (toBits-ofBits binary64 (value f file) (value-lt f h) (finite-no-nan (ofBits binary64 (value f file)) e)) ∙ field-again f h
 
-  numbers-again : (k c : ℕ) → 14 + 8 * (k + c) ≤ length file → ((i : ℕ) → i < k + c → finite (numberOf file i) ≡ true) → laidAll (row (numberOf file) k c) ≡ take (8 * c) (drop (14 + 8 * k) file)
+  numbers-again : (k c : ℕ) → 14 + 8 * (k + c) ≤ length file → ((i : ℕ) → i < k + c → finite (numberOf file i) ≡ true)
+      → laidAll (row (numberOf file) k c) ≡ take (8 * c) (drop (14 + 8 * k) file)
   unfolding laidAll row
   numbers-again k zero h g = refl
   numbers-again k (suc c) h g =
       let e : 8 * suc c ≡ 8 + 8 * c = omega arith in
       let d : 14 + 8 * k + 8 ≡ 14 + 8 * (k + 1) = omega arith in
-      rw (e, take-add 8 (8 * c) (drop (14 + 8 * k) file), drop-drop 8 (14 + 8 * k) file, d, number-again k (omega arith) (g k (omega arith)), numbers-again (k + 1) c (omega arith) (λ i l. g i (omega arith)))
+      rw (
+        e,
+        take-add 8 (8 * c) (drop (14 + 8 * k) file),
+        drop-drop 8 (14 + 8 * k) file,
+        d,
+        number-again k (omega arith) (g k (omega arith)),
+        numbers-again (k + 1) c (omega arith) (λ i l. g i (omega arith)),
+      )
 
   rows-finite : (k c : ℕ) → ((i : ℕ) → i < k + c → finite (numberOf file i) ≡ true) → allFinite (row (numberOf file) k c) ≡ true
   unfolding allFinite row
@@ -167,7 +178,8 @@ module _ (file : List ℕ) (small : (i : ℕ) → getD file i 0 < 256) where
           }
 
 -- so a file that was read is written again
-pub writes-again : (mesh : List Float) (floor radius : Float) (qs : List Float) (bytes : List ℕ) (o : Outcome) → o ≡ writeOf mesh floor radius qs bytes → WritesAgain mesh floor radius qs (length bytes) o
+pub writes-again : (mesh : List Float) (floor radius : Float) (qs : List Float) (bytes : List ℕ) (o : Outcome) → o ≡ writeOf mesh floor radius qs bytes
+    → WritesAgain mesh floor radius qs (length bytes) o
 unfolding acceptedOf
 writes-again mesh floor radius qs bytes o p file small ms ns r room =
     let s = reading.exactly file ms ns (readOf file ms ns) refl .0 (r .accepted) in
@@ -177,5 +189,6 @@ writes-again mesh floor radius qs bytes o p file small ms ns r room =
     let l : sizeOf mesh qs ≡ length file = sym (job-length mesh floor radius qs (length bytes) a) ∙ ap length j in (
       ap (λ (u : Outcome). u .answer .refusal) e,
       ap (λ (u : Outcome). u .answer .length) e ∙ l,
-      ap (λ (u : Outcome). take (length file) (u .bytes)) e ∙ take-at (jobIn mesh floor radius qs) (drop (sizeOf mesh qs) bytes) (length file) (ap length j) ∙ j,
+      ap (λ (u : Outcome). take (length file) (u .bytes)) e
+          ∙ take-at (jobIn mesh floor radius qs) (drop (sizeOf mesh qs) bytes) (length file) (ap length j) ∙ j,
     )

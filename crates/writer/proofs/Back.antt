@@ -59,14 +59,16 @@ module _ (n m : ℕ) (xs : List Float) where
     number-back k h =
         let x = getD xs k nan in
         let g = good k h in
-        let d : drop (14 + 8 * k) (headOf n m ++ laidAll xs) ≡ drop (8 * k) (laidAll xs) = sym (drop-drop (8 * k) 14 (headOf n m ++ laidAll xs)) ∙ ap (drop (8 * k)) (drop-at (headOf n m) (laidAll xs) 14 (head-length n m)) in
+        let d : drop (14 + 8 * k) (headOf n m ++ laidAll xs) ≡ drop (8 * k) (laidAll xs) = sym (drop-drop (8 * k) 14 (headOf n m ++ laidAll xs))
+        ∙ ap (drop (8 * k)) (drop-at (headOf n m) (laidAll xs) 14 (head-length n m)) in
         rw (d, laid-at xs k h, little-digits 8 (toBits binary64 x) (toBits-lt binary64 x g)) (ofBits-toBits binary64 x g)
 
     numbers-back : (k c : ℕ) → k + c ≤ length xs → row (numberOf (jobOf n m xs)) k c ≡ take c (drop k xs)
     unfolding row
     numbers-back k zero h = refl
     numbers-back k (suc c) h =
-        rw (drop-cons xs k nan (omega arith), number-back k (omega arith), ← add-one k) (ap (λ (l : List Float). getD xs k nan ∷ l) (numbers-back (k + 1) c (omega arith)))
+        rw (drop-cons xs k nan (omega arith), number-back k (omega arith), ← add-one k)
+        (ap (λ (l : List Float). getD xs k nan ∷ l) (numbers-back (k + 1) c (omega arith)))
 
 module _ (mesh : List Float) (floor radius : Float) (qs : List Float) (room : ℕ) (a : Accepted mesh floor radius qs room) where
   -- the job, its numbers and their number
@@ -80,7 +82,8 @@ module _ (mesh : List Float) (floor radius : Float) (qs : List Float) (room : �
   unfolding xs
   count = omega (arith, length-append mesh qs, a .nine, a .five)
 
-  module _ (good : (i : ℕ) → i < length xs → T (fits binary64 (getD xs i nan))) (ms ns : List Float) (h : length mesh ≤ length ms) (l : length qs ≤ length ns) where
+  module _ (good : (i : ℕ) → i < length xs → T (fits binary64 (getD xs i nan))) (ms ns : List Float) (h : length mesh ≤ length ms)
+      (l : length qs ≤ length ns) where
     sound : Sound job (length ms / 9) (length ns / 5)
     unfolding xs job
     sound =
@@ -114,21 +117,26 @@ module _ (mesh : List Float) (floor radius : Float) (qs : List Float) (room : �
         ∙ ap (take (5 * (length qs / 5))) (sym (drop-drop (9 * (length mesh / 9)) 2 xs) ∙ drop-at mesh qs (9 * (length mesh / 9)) (a .nine))
         ∙ take-all (5 * (length qs / 5)) qs (omega (arith, a .five))
 
-    job-back : readOf job ms ns ≡ reader.ended (record { refusal = 0; n = length mesh / 9; m = length qs / 5; floor = floor; radius = radius }) (mesh ++ drop (length mesh) ms) (qs ++ drop (length qs) ns)
+    job-back : readOf job ms ns ≡ reader.ended (record { refusal = 0; n = length mesh / 9; m = length qs / 5; floor = floor; radius = radius })
+        (mesh ++ drop (length mesh) ms) (qs ++ drop (length qs) ns)
     unfolding xs job
     job-back =
         let n = length mesh / 9 in
         let m = length qs / 5 in
         sym
-        (reading.accepted-is job ms ns 0 (ladder.accepted job (length ms / 9) (length ns / 5) sound) refl n m _ (sym (triangles-back n m xs (a .few))) (sym (questions-back n m xs (a .few-questions)))
+        (reading.accepted-is job ms ns 0 (ladder.accepted job (length ms / 9) (length ns / 5) sound) refl n m _ (sym (triangles-back n m xs (a .few)))
+        (sym (questions-back n m xs (a .few-questions)))
         (reading.decoded-is job ms ns n m floor radius (mesh ++ drop (length mesh) ms) (qs ++ drop (length qs) ns)
         (sym (number-back n m xs good 0 (omega (arith, count))))
         (sym (number-back n m xs good 1 (omega (arith, count))))
         (ap (λ (y : List Float). y ++ drop (length mesh) ms) (sym mesh-back) ∙ ap (λ (k : ℕ). row (numberOf job) 2 (9 * n) ++ drop k ms) (a .nine))
-        (ap (λ (y : List Float). y ++ drop (length qs) ns) (sym questions-same) ∙ ap (λ (k : ℕ). row (numberOf job) (2 + 9 * n) (5 * m) ++ drop k ns) (a .five))))
+        (ap (λ (y : List Float). y ++ drop (length qs) ns) (sym questions-same)
+        ∙ ap (λ (k : ℕ). row (numberOf job) (2 + 9 * n) (5 * m) ++ drop k ns) (a .five))))
 
 -- all numbers of the job are f64s where the parts' are
-pub all-fit : (mesh : List Float) (floor radius : Float) (qs : List Float) → T (fits binary64 floor) → T (fits binary64 radius) → ((i : ℕ) → T (fits binary64 (getD mesh i nan))) → ((i : ℕ) → T (fits binary64 (getD qs i nan))) → (i : ℕ) → i < length (numbersIn mesh floor radius qs) → T (fits binary64 (getD (numbersIn mesh floor radius qs) i nan))
+pub all-fit : (mesh : List Float) (floor radius : Float) (qs : List Float) → T (fits binary64 floor) → T (fits binary64 radius)
+    → ((i : ℕ) → T (fits binary64 (getD mesh i nan))) → ((i : ℕ) → T (fits binary64 (getD qs i nan))) → (i : ℕ) → i < length (numbersIn mesh floor radius qs)
+    → T (fits binary64 (getD (numbersIn mesh floor radius qs) i nan))
 all-fit mesh floor radius qs f r g q zero h = f
 all-fit mesh floor radius qs f r g q (suc zero) h = r
 all-fit mesh floor radius qs f r g q (suc (suc i)) h = both mesh g i
@@ -139,10 +147,13 @@ all-fit mesh floor radius qs f r g q (suc (suc i)) h = both mesh g i
     both (x ∷ xs) g (suc i) = both xs (λ k. g (suc k)) i
 
 -- so a job that was written is read to its numbers
-pub reads-back : (mesh : List Float) (floor radius : Float) (qs : List Float) (bytes : List ℕ) → ((i : ℕ) → i < length (numbersIn mesh floor radius qs) → T (fits binary64 (getD (numbersIn mesh floor radius qs) i nan))) → (o : Outcome) → o ≡ writeOf mesh floor radius qs bytes → ReadsBack mesh floor radius qs o
+pub reads-back : (mesh : List Float) (floor radius : Float) (qs : List Float) (bytes : List ℕ)
+    → ((i : ℕ) → i < length (numbersIn mesh floor radius qs) → T (fits binary64 (getD (numbersIn mesh floor radius qs) i nan))) → (o : Outcome)
+    → o ≡ writeOf mesh floor radius qs bytes → ReadsBack mesh floor radius qs o
 unfolding acceptedOf xs job
 reads-back mesh floor radius qs bytes good o p z ms ns h l =
     let w = written-is mesh floor radius qs bytes o p z in
     let a = w .0 in
-    let t : take (o .answer .length) (o .bytes) ≡ jobIn mesh floor radius qs = ap (λ (u : Outcome). take (u .answer .length) (u .bytes)) (w .1) ∙ take-at (jobIn mesh floor radius qs) (drop (sizeOf mesh qs) bytes) (sizeOf mesh qs) (job-length mesh floor radius qs (length bytes) a) in
+    let t : take (o .answer .length) (o .bytes) ≡ jobIn mesh floor radius qs = ap (λ (u : Outcome). take (u .answer .length) (u .bytes)) (w .1)
+    ∙ take-at (jobIn mesh floor radius qs) (drop (sizeOf mesh qs) bytes) (sizeOf mesh qs) (job-length mesh floor radius qs (length bytes) a) in
     ap (λ (b : List ℕ). readOf b ms ns) t ∙ job-back mesh floor radius qs (length bytes) a good ms ns h l

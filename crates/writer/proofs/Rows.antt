@@ -31,7 +31,8 @@ all-at (x ∷ xs) e (suc i) h = all-at xs (both-true (finite x) (allFinite xs) e
 all-at [] e i h = absurd (omega arith)
 
 -- all numbers of a job
-pub finite-parts : (mesh : List Float) (floor radius : Float) (qs : List Float) → allFinite (numbersIn mesh floor radius qs) ≡ true → (finite floor ≡ true) × (finite radius ≡ true) × (allFinite mesh ≡ true) × (allFinite qs ≡ true)
+pub finite-parts : (mesh : List Float) (floor radius : Float) (qs : List Float) → allFinite (numbersIn mesh floor radius qs) ≡ true
+    → (finite floor ≡ true) × (finite radius ≡ true) × (allFinite mesh ≡ true) × (allFinite qs ≡ true)
 unfolding allFinite
 finite-parts mesh floor radius qs e =
     let a = both-true (finite floor) (finite radius && allFinite (mesh ++ qs)) e in
@@ -40,7 +41,8 @@ finite-parts mesh floor radius qs e =
     (a .0, b .0, c .0, c .1)
 
 -- what the tests of a job's parts say of all its numbers
-pub told : (mesh : List Float) (floor radius : Float) (qs : List Float) (b : Bool) → b ≡ (finite floor && (finite radius && (allFinite mesh && allFinite qs))) → b ≡ allFinite (numbersIn mesh floor radius qs)
+pub told : (mesh : List Float) (floor radius : Float) (qs : List Float) (b : Bool) → b ≡ (finite floor && (finite radius && (allFinite mesh && allFinite qs)))
+    → b ≡ allFinite (numbersIn mesh floor radius qs)
 unfolding allFinite
 told mesh floor radius qs b p = p ∙ ap (λ (t : Bool). finite floor && (finite radius && t)) (sym (all-append mesh qs))
 
@@ -57,7 +59,8 @@ laid-append (x ∷ xs) ys = rw (laid-append xs ys) (sym (append-assoc (digits 8 
 
 -- number i is laid down where those before it end: what is left, laid down from there, gives the whole
 module _ (xs : List Float) (k i : ℕ) (bytes whole : List ℕ) where
-  pub laid-more : i < length xs → sets bytes (14 + 8 * (k + i)) (laidAll (drop i xs)) ≡ whole → sets (sets bytes (14 + 8 * (k + i)) (digits 8 (toBits binary64 (getD xs i nan)))) (14 + 8 * (k + (i + 1))) (laidAll (drop (i + 1) xs)) ≡ whole
+  pub laid-more : i < length xs → sets bytes (14 + 8 * (k + i)) (laidAll (drop i xs)) ≡ whole
+      → sets (sets bytes (14 + 8 * (k + i)) (digits 8 (toBits binary64 (getD xs i nan)))) (14 + 8 * (k + (i + 1))) (laidAll (drop (i + 1) xs)) ≡ whole
   unfolding laidAll
   laid-more h p =
       let x = toBits binary64 (getD xs i nan) in
@@ -74,19 +77,22 @@ unfolding headOf digits
 head-length n m = refl
 
 -- numbers behind a job that ends before them
-job-more : (l : List ℕ) (n m : ℕ) (xs ys : List Float) (j : ℕ) → j ≡ 14 + 8 * length xs → sets (sets l 0 (jobOf n m xs)) j (laidAll ys) ≡ sets l 0 (jobOf n m (xs ++ ys))
+job-more : (l : List ℕ) (n m : ℕ) (xs ys : List Float) (j : ℕ) → j ≡ 14 + 8 * length xs
+    → sets (sets l 0 (jobOf n m xs)) j (laidAll ys) ≡ sets l 0 (jobOf n m (xs ++ ys))
 unfolding jobOf
 job-more l n m xs ys j e =
     sets-more l 0 (headOf n m ++ laidAll xs) j (laidAll ys) (omega (arith, length-append (headOf n m) (laidAll xs), head-length n m, laid-length xs))
     ∙ ap (λ (x : List ℕ). sets l 0 x) (append-assoc (headOf n m) (laidAll xs) (laidAll ys) ∙ ap (λ (x : List ℕ). headOf n m ++ x) (sym (laid-append xs ys)))
 
 -- the head, the floor and the radius
-pub front-laid : (l : List ℕ) (n m : ℕ) (f r : Float) → sets (sets (sets l 0 (headOf n m)) 14 (digits 8 (toBits binary64 f))) 22 (digits 8 (toBits binary64 r)) ≡ sets l 0 (jobOf n m (f ∷ r ∷ []))
+pub front-laid : (l : List ℕ) (n m : ℕ) (f r : Float)
+    → sets (sets (sets l 0 (headOf n m)) 14 (digits 8 (toBits binary64 f))) 22 (digits 8 (toBits binary64 r)) ≡ sets l 0 (jobOf n m (f ∷ r ∷ []))
 unfolding jobOf headOf laidAll digits
 front-laid l n m f r = refl
 
 -- then the mesh and the questions
-pub job-all : (l : List ℕ) (n m : ℕ) (mesh : List Float) (f r : Float) (qs : List Float) → sets (sets (sets l 0 (jobOf n m (f ∷ r ∷ []))) 30 (laidAll mesh)) (14 + 8 * (2 + length mesh)) (laidAll qs) ≡ sets l 0 (jobOf n m (numbersIn mesh f r qs))
+pub job-all : (l : List ℕ) (n m : ℕ) (mesh : List Float) (f r : Float) (qs : List Float) → sets (sets (sets l 0 (jobOf n m (f ∷ r ∷ []))) 30 (laidAll mesh))
+    (14 + 8 * (2 + length mesh)) (laidAll qs) ≡ sets l 0 (jobOf n m (numbersIn mesh f r qs))
 job-all l n m mesh f r qs =
     ap (λ (x : List ℕ). sets x (14 + 8 * (2 + length mesh)) (laidAll qs)) (job-more l n m (f ∷ r ∷ []) mesh 30 refl)
     ∙ job-more l n m (f ∷ r ∷ mesh) qs (14 + 8 * (2 + length mesh)) (omega arith)

@@ -12,7 +12,8 @@ use lib.Seq.{sets, sets-eq}
 use Rattle.rules.proofs.Branches.{taken, left, either}
 use Rattle.fields.specs.Rows.{allFinite}
 use Rattle.rules.proofs.Ladder.{refuse-next, refused-not}
-use Rattle.writer.specs.Writer.{numbersIn, jobOf, jobIn, sizeOf, refusalOfNumbers, refusalOfCounts, refusalOf, Outcome, ended, refusedBy, acceptedOf, writeOf}
+use Rattle.writer.specs.Writer.{numbersIn, jobOf, jobIn, sizeOf, refusalOfNumbers, refusalOfCounts}
+use Rattle.writer.specs.Writer.{refusalOf, Outcome, ended, refusedBy, acceptedOf, writeOf}
 use Rattle.writer.proofs.Rows.{laid-length, head-length}
 
 module _ (mesh : List Float) (floor radius : Float) (qs : List Float) (room : ℕ) where
@@ -79,7 +80,8 @@ module _ (mesh : List Float) (floor radius : Float) (qs : List Float) (bytes : L
       (λ t. refl)
 
   -- a writing that answers 0 is an accepted one
-  pub written-is : (o : Outcome) → o ≡ writeOf mesh floor radius qs bytes → o .answer .refusal ≡ 0 → Accepted mesh floor radius qs (length bytes) × (o ≡ acceptedOf mesh floor radius qs bytes)
+  pub written-is : (o : Outcome) → o ≡ writeOf mesh floor radius qs bytes → o .answer .refusal ≡ 0
+      → Accepted mesh floor radius qs (length bytes) × (o ≡ acceptedOf mesh floor radius qs bytes)
   unfolding writeOf
   written-is o p z =
       let e : refusalOf mesh floor radius qs (length bytes) ≡ 0 = sym (ap (λ (a : Outcome). a .answer .refusal) p ∙ refusal-is) ∙ z in
@@ -98,11 +100,13 @@ module _ (mesh : List Float) (floor radius : Float) (qs : List Float) (bytes : L
       pub ready : Accepted mesh floor radius qs (length bytes)
       ready = accepted mesh floor radius qs (length bytes) (sym e ∙ z)
 
-      pub accepted-is : (size : ℕ) (bytes′ : List ℕ) → size ≡ sizeOf mesh qs → bytes′ ≡ sets bytes 0 (jobIn mesh floor radius qs) → ended (record { refusal = 0; length = size }) bytes′ ≡ writeOf mesh floor radius qs bytes
+      pub accepted-is : (size : ℕ) (bytes′ : List ℕ) → size ≡ sizeOf mesh qs → bytes′ ≡ sets bytes 0 (jobIn mesh floor radius qs)
+          → ended (record { refusal = 0; length = size }) bytes′ ≡ writeOf mesh floor radius qs bytes
       unfolding writeOf acceptedOf
       accepted-is size bytes′ p q =
           let l = job-length mesh floor radius qs (length bytes) ready in
           let job = jobIn mesh floor radius qs in
           let w : 0 + length job ≡ sizeOf mesh qs = omega (arith, l) in
-          let s : sets bytes 0 job ≡ job ++ drop (sizeOf mesh qs) bytes = sets-eq job bytes 0 (omega (arith, w, ready .fits)) ∙ ap (λ (n : ℕ). job ++ drop n bytes) w in
+          let s : sets bytes 0 job ≡ job ++ drop (sizeOf mesh qs) bytes = sets-eq job bytes 0 (omega (arith, w, ready .fits))
+          ∙ ap (λ (n : ℕ). job ++ drop n bytes) w in
           rw (← e) (taken _ _ _ _ (eq-eqb k 0 z) (rw (p, q, s)))

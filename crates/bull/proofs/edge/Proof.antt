@@ -11,7 +11,8 @@ returns c = taken _ _ _ _ (bool-called _ _ _ (c .before .too-low .ensures) (c .i
 
 returns-2 : tie.Need-returns-2
 returns-2 c =
-    edge-on _ _ _ _ _ _ (bool-called _ _ _ (c .before .before .before .too-low .ensures) (c .before .before .if1 .left)) (c .before .reached .ensures) (c .stretch-on .ensures)
+    edge-on _ _ _ _ _ _ (bool-called _ _ _ (c .before .before .before .too-low .ensures) (c .before .before .if1 .left))
+    (c .before .reached .ensures) (c .stretch-on .ensures)
 
 pub edge-spec : {M : Type 1} → statement M
 edge-spec = tie.close (tie.spec (λ c κs. tt) returns (λ c κs. tt) (λ c κs. c .before .before .before .pre) returns-2)

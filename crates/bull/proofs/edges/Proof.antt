@@ -7,4 +7,5 @@ unfolding bullEdges
 returns c = cc
 
 pub edges-spec : {M : Type 1} → statement M
-edges-spec = tie.close (tie.spec (λ c κs. tt) (λ c κs. c .before .pre) (λ c κs. tt) (λ c κs. c .before .before .before .pre) (λ c κs. tt) (λ c κs. c .before .before .before .before .before .pre) returns)
+edges-spec = tie.close (tie.spec (λ c κs. tt) (λ c κs. c .before .pre) (λ c κs. tt) (λ c κs. c .before .before .before .pre) (λ c κs. tt)
+    (λ c κs. c .before .before .before .before .before .pre) returns)

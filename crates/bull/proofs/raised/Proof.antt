@@ -10,7 +10,8 @@ use Rattle.bull.proofs.raised.Tie as tie
 returns : tie.Need-returns
 returns c =
     let a = c .before .before .before in
-    cap-stays (a .args .k) (a .args .e) _ (a .args .lo) (a .args .hi) (subst T (sym (a .good .1 .1 .1 .1 .0 .1)) tt) (subst T (sym (a .good .1 .1 .1 .1 .1 .0 .1)) tt)
+    cap-stays (a .args .k) (a .args .e) _ (a .args .lo) (a .args .hi) (subst T (sym (a .good .1 .1 .1 .1 .0 .1)) tt)
+    (subst T (sym (a .good .1 .1 .1 .1 .1 .0 .1)) tt)
     (c .before .before .cap-on .ensures ∙ ap (λ (b : Float). capOf (a .args .k) b (a .args .e) (a .args .lo) (a .args .hi)) (a .pre)) _ _ 40
     (subst (λ (b : Float). le (c .before .before .cap-on .result) b ≡ true) (c .before .limit .ensures) (c .if1 .taken))
 

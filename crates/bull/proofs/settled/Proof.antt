@@ -6,7 +6,10 @@ use Rattle.bull.proofs.settled.Statement.{statement}
 use Rattle.bull.proofs.settled.Tie as tie
 
 returns : tie.Need-returns
-returns c = λ e. (c .before .before .before .before .looks .ensures (c .before .before .before .if1 .taken), subst (λ (v : Float). le v (c .before .before .before .before .before .args .bar) ≡ true) (c .cap-on .ensures) e)
+returns c = λ e. (
+  c .before .before .before .before .looks .ensures (c .before .before .before .if1 .taken),
+  subst (λ (v : Float). le v (c .before .before .before .before .before .args .bar) ≡ true) (c .cap-on .ensures) e,
+)
 
 returns-2 : tie.Need-returns-2
 returns-2 c = λ e. absurd (no e)

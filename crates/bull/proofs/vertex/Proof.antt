@@ -12,7 +12,8 @@ returns : tie.Need-returns
 returns c =
     let a = c .before .before .before .before .before in
     vertex-stays _ _ _ _ _ _ _ (a .pre .0)
-    (bool-called _ _ _ (c .before .low-vertex .ensures ∙ ap (lowVertex (a .args .base) (a .args .z) (a .args .x ⊖ a .args .k .x) (a .args .y ⊖ a .args .k .y)) (c .before .before .limit .ensures)) (c .if1 .taken))
+    (bool-called _ _ _ (c .before .low-vertex .ensures ∙ ap (lowVertex (a .args .base) (a .args .z) (a .args .x ⊖ a .args .k .x) (a .args .y ⊖ a .args .k .y))
+    (c .before .before .limit .ensures)) (c .if1 .taken))
 
 returns-2 : tie.Need-returns-2
 returns-2 c = none-beyond _ _ _ _ _ _ _ (c .before .before .before .before .before .before .pre .1) (c .if2 .taken)

@@ -24,7 +24,8 @@ returns : tie.Need-returns Inv-loop μ-loop
 returns c =
     let s = c .before .before .before .before .before in
     let l = c .before .before .before .loop in
-    breaks-off (s .args .t) (s .args .m) (s .args .r) (s .args .rc) (s .args .lo) (s .args .hi) (subst T (sym (s .good .1 .1 .1 .1 .0 .1)) tt) (subst T (sym (s .good .1 .1 .1 .1 .1 .0 .1)) tt)
+    breaks-off (s .args .t) (s .args .m) (s .args .r) (s .args .rc) (s .args .lo) (s .args .hi) (subst T (sym (s .good .1 .1 .1 .1 .0 .1)) tt)
+    (subst T (sym (s .good .1 .1 .1 .1 .1 .0 .1)) tt)
     (s .args .low) (s .args .high) (s .pre) (l .n) (l .g) (l .inv .1) (l .inv .0) (c .before .settled .ensures (c .if1 .taken))
 
 loop-again : tie.Need-loop-again Inv-loop μ-loop
@@ -34,7 +35,8 @@ returns-2 : tie.Need-returns-2 Inv-loop μ-loop
 returns-2 c =
     let s = c .before .before .before .before in
     let l = c .before .before .loop in
-    found (s .args .t) (s .args .m) (s .args .r) (s .args .rc) (s .args .lo) (s .args .hi) (subst T (sym (s .good .1 .1 .1 .1 .0 .1)) tt) (subst T (sym (s .good .1 .1 .1 .1 .1 .0 .1)) tt)
+    found (s .args .t) (s .args .m) (s .args .r) (s .args .rc) (s .args .lo) (s .args .hi) (subst T (sym (s .good .1 .1 .1 .1 .0 .1)) tt)
+    (subst T (sym (s .good .1 .1 .1 .1 .1 .0 .1)) tt)
     (s .args .low) (s .args .high) (s .pre) (l .n) (l .g) (l .inv .1) (l .inv .0) (omega arith) _ (c .best .ensures)
 
 pub sought-spec : {M : Type 1} → statement M

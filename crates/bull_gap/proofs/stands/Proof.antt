@@ -9,7 +9,8 @@ use Rattle.bull_gap.proofs.stands.Tie as tie
 returns : tie.Need-returns
 returns c =
     let s = c .before .before in
-    passed (s .args .t) (s .args .m) (s .args .r) (s .args .rc) (s .args .lo) (s .args .hi) (subst T (sym (s .good .1 .1 .1 .1 .0 .1)) tt) (subst T (sym (s .good .1 .1 .1 .1 .1 .0 .1)) tt)
+    passed (s .args .t) (s .args .m) (s .args .r) (s .args .rc) (s .args .lo) (s .args .hi) (subst T (sym (s .good .1 .1 .1 .1 .0 .1)) tt)
+    (subst T (sym (s .good .1 .1 .1 .1 .1 .0 .1)) tt)
     _ (c .before .passes-between .ensures) (c .if1 .taken)
 
 returns-2 : tie.Need-returns-2
@@ -21,7 +22,11 @@ returns-3 c =
     high-risen _ _ _ 40 _ (b .before .before .gap .ensures) _ _ (b .gap2 .ensures) (c .before .max .ensures) (c .if3 .taken)
 
 sought-requires : tie.Need-sought-requires
-sought-requires c κs = (c .before .before .before .before .gap .ensures, c .before .before .gap2 .ensures, called-lt _ _ _ _ (c .before .max .ensures) (c .if3 .left))
+sought-requires c κs = (
+  c .before .before .before .before .gap .ensures,
+  c .before .before .gap2 .ensures,
+  called-lt _ _ _ _ (c .before .max .ensures) (c .if3 .left),
+)
 
 returns-4 : tie.Need-returns-4
 returns-4 c = c .sought .ensures

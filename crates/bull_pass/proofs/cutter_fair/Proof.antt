@@ -5,7 +5,8 @@ use Rattle.bull_pass.proofs.cutter_fair.Tie as tie
 
 returns : tie.Need-returns
 unfolding cutterFair
-returns c = and-on _ _ _ (bool-called _ _ _ (c .before .before .before .before .is-radius .ensures) (c .before .before .before .if1 .taken)) (and-on _ _ _ (bool-called _ _ _ (c .before .before .is-radius2 .ensures) (c .before .if2 .taken)) (rw (c .root .ensures)))
+returns c = and-on _ _ _ (bool-called _ _ _ (c .before .before .before .before .is-radius .ensures) (c .before .before .before .if1 .taken))
+    (and-on _ _ _ (bool-called _ _ _ (c .before .before .is-radius2 .ensures) (c .before .if2 .taken)) (rw (c .root .ensures)))
 
 returns-2 : tie.Need-returns-2
 unfolding cutterFair

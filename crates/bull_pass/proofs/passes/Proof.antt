@@ -5,7 +5,8 @@ use Rattle.bull_pass.proofs.passes.Tie as tie
 
 returns : tie.Need-returns
 unfolding passesOf
-returns c = and-on _ _ _ (bool-called _ _ _ (c .before .before .before .fair .ensures) (c .before .before .if1 .taken)) (rw (c .over-all .ensures, c .before .strip-of .ensures))
+returns c = and-on _ _ _ (bool-called _ _ _ (c .before .before .before .fair .ensures) (c .before .before .if1 .taken))
+    (rw (c .over-all .ensures, c .before .strip-of .ensures))
 
 returns-2 : tie.Need-returns-2
 unfolding passesOf

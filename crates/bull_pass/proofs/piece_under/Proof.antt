@@ -5,7 +5,8 @@ use Rattle.bull_pass.proofs.piece_under.Tie as tie
 
 returns : tie.Need-returns
 unfolding pieceUnder
-returns c = taken _ _ _ _ (bool-called _ _ _ (c .before .before .before .edge-fair .ensures) (c .before .before .if1 .taken)) (rw (c .under .ensures, c .before .edge-block .ensures))
+returns c = taken _ _ _ _ (bool-called _ _ _ (c .before .before .before .edge-fair .ensures) (c .before .before .if1 .taken))
+    (rw (c .under .ensures, c .before .edge-block .ensures))
 
 returns-2 : tie.Need-returns-2
 unfolding pieceUnder

@@ -5,7 +5,9 @@ use Rattle.bull_pass.proofs.products_miss.Tie as tie
 
 returns : tie.Need-returns
 unfolding productsMiss
-returns c = taken _ _ _ _ (bool-called _ _ _ (c .before .before .before .before .before .before .plain-products .ensures) (c .before .before .before .before .before .if1 .taken)) (taken _ _ _ _ (bool-called _ _ _ (c .before .before .before .before .plain-products2 .ensures) (c .before .before .before .if2 .taken)) (rw (c .ranges-miss .ensures, c .before .weight2 .ensures, c .before .before .weight .ensures)))
+returns c = taken _ _ _ _ (bool-called _ _ _ (c .before .before .before .before .before .before .plain-products .ensures)
+    (c .before .before .before .before .before .if1 .taken)) (taken _ _ _ _ (bool-called _ _ _ (c .before .before .before .before .plain-products2 .ensures)
+    (c .before .before .before .if2 .taken)) (rw (c .ranges-miss .ensures, c .before .weight2 .ensures, c .before .before .weight .ensures)))
 
 returns-2 : tie.Need-returns-2
 unfolding productsMiss

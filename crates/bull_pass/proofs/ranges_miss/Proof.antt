@@ -5,7 +5,9 @@ use Rattle.bull_pass.proofs.ranges_miss.Tie as tie
 
 returns : tie.Need-returns
 unfolding rangesMiss
-returns c = taken _ _ _ _ (bool-called _ _ _ (c .before .before .before .before .before .before .plain .ensures) (c .before .before .before .before .before .if1 .taken)) (taken _ _ _ _ (bool-called _ _ _ (c .before .before .before .before .plain2 .ensures) (c .before .before .before .if2 .taken)) (rw (c .outside .ensures, c .before .span-of2 .ensures, c .before .before .span-of .ensures)))
+returns c = taken _ _ _ _ (bool-called _ _ _ (c .before .before .before .before .before .before .plain .ensures)
+    (c .before .before .before .before .before .if1 .taken)) (taken _ _ _ _ (bool-called _ _ _ (c .before .before .before .before .plain2 .ensures)
+    (c .before .before .before .if2 .taken)) (rw (c .outside .ensures, c .before .span-of2 .ensures, c .before .before .span-of .ensures)))
 
 returns-2 : tie.Need-returns-2
 unfolding rangesMiss

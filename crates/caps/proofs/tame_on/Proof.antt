@@ -6,7 +6,8 @@ use Rattle.caps.proofs.tame_on.Tie as tie
 returns : tie.Need-returns
 unfolding tameOn
 returns c =
-    and-on _ _ _ (bool-called _ _ _ (c .before .before .before .before .before .before .in-order .ensures) (c .before .before .before .before .before .if1 .taken))
+    and-on _ _ _ (bool-called _ _ _ (c .before .before .before .before .before .before .in-order .ensures)
+    (c .before .before .before .before .before .if1 .taken))
     (and-on _ _ _ (bool-called _ _ _ (c .before .before .before .before .side-tame .ensures) (c .before .before .before .if2 .taken))
     (and-on _ _ _ (bool-called _ _ _ (c .before .before .side-tame2 .ensures) (c .before .if3 .taken)) (c .side-tame3 .ensures)))
 

@@ -12,7 +12,8 @@ returns-2 : tie.Need-returns-2
 unfolding inCapsule contactOf
 returns-2 c =
     let d = c .before .before .before in
-    higher-takes _ _ _ (d .before .higher .result) (d .before .higher .ensures) (not-false _ (d .if1 .left)) (le-called _ _ _ _ (c .before .before .dist2-to-segment .ensures) (c .if2 .taken))
+    higher-takes _ _ _ (d .before .higher .result) (d .before .higher .ensures) (not-false _ (d .if1 .left))
+    (le-called _ _ _ _ (c .before .before .dist2-to-segment .ensures) (c .if2 .taken))
 
 returns-3 : tie.Need-returns-3
 unfolding inCapsule

@@ -38,7 +38,9 @@ returns c =
     let a = g .before .before .args in
     let n = g .before .circles-of .result in
     all-ends _ (circled (a .k) (a .e)) n _ _ (g .before .circles-of .ensures)
-    (ended _ (circled (a .k) (a .e)) (take n (ends (a .k))) (g .loop .i) _ _ (omega (arith, ends-taken (a .k) n (g .before .circles-of .ensures))) (g .loop .inv .1))
+    (ended _ (circled (a .k) (a .e)) (take n (ends (a .k))) (g .loop .i) _ _
+    (omega (arith, ends-taken (a .k) n (g .before .circles-of .ensures))) (g .loop .inv .1))
 
 pub offer-circles-spec : {M : Type 1} → statement M
-offer-circles-spec = tie.close (tie.spec Inv-loop μ-loop (λ c κs. tt) loop-holds (λ c κs. tt) (λ c κs. tt) (λ c. search needs) (λ c. search needs) loop-again returns)
+offer-circles-spec = tie.close
+    (tie.spec Inv-loop μ-loop (λ c κs. tt) loop-holds (λ c κs. tt) (λ c κs. tt) (λ c. search needs) (λ c. search needs) loop-again returns)

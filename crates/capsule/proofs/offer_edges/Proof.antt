@@ -22,8 +22,11 @@ loop-again : tie.Need-loop-again Inv-loop μ-loop
 unfolding edges
 loop-again c =
     let g = c .before .before .before in
-    let a = g .before .args in
-    (search needs, turn _ (crossed (a .k)) (edges (a .t)) (g .loop .i) _ _ _ _ (search needs) (c .before .edge-of .ensures) (c .offer-crossings .ensures) (g .loop .inv .1))
+    let a = g .before .args in (
+      search needs,
+      turn _ (crossed (a .k)) (edges (a .t)) (g .loop .i) _ _ _ _ (search needs) (c .before .edge-of .ensures)
+          (c .offer-crossings .ensures) (g .loop .inv .1),
+    )
 
 returns : tie.Need-returns Inv-loop μ-loop
 unfolding edges

@@ -7,7 +7,8 @@ returns : tie.Need-returns
 unfolding ends tangents
 returns c =
     let d = c .before .before in
-    first-two _ _ _ _ _ _ (d .before .before .before .end-of .ensures) (d .before .before .offer-over .ensures) _ _ (d .if1 .taken) (c .before .tangent-of .ensures) (c .offer-over2 .ensures)
+    first-two _ _ _ _ _ _ (d .before .before .before .end-of .ensures) (d .before .before .offer-over .ensures) _ _ (d .if1 .taken)
+    (c .before .tangent-of .ensures) (c .offer-over2 .ensures)
 
 returns-2 : tie.Need-returns-2
 unfolding ends

@@ -24,8 +24,11 @@ loop-again : tie.Need-loop-again Inv-loop μ-loop
 loop-again c =
     let g = c .before .before .before in
     let a = g .before .before .args in
-    let e : g .before .count-of .result ≡ length (places (a .k) (a .h)) = g .before .count-of .ensures ∙ sym (how-many (a .k) (a .h)) in
-    (search needs, turn _ (planeOver (a .t)) (places (a .k) (a .h)) (g .loop .i) _ _ _ _ (omega (arith, e)) (c .before .place-of .ensures) (c .offer-over .ensures) (g .loop .inv .1))
+    let e : g .before .count-of .result ≡ length (places (a .k) (a .h)) = g .before .count-of .ensures ∙ sym (how-many (a .k) (a .h)) in (
+      search needs,
+      turn _ (planeOver (a .t)) (places (a .k) (a .h)) (g .loop .i) _ _ _ _ (omega (arith, e)) (c .before .place-of .ensures)
+          (c .offer-over .ensures) (g .loop .inv .1),
+    )
 
 returns : tie.Need-returns Inv-loop μ-loop
 returns c =
@@ -35,4 +38,5 @@ returns c =
     ended _ (planeOver (a .t)) (places (a .k) (a .h)) (g .loop .i) _ _ (omega (arith, e)) (g .loop .inv .1)
 
 pub offer-places-spec : {M : Type 1} → statement M
-offer-places-spec = tie.close (tie.spec Inv-loop μ-loop (λ c κs. tt) loop-holds (λ c κs. tt) (λ c κs. tt) (λ c. search needs) (λ c. search needs) loop-again returns)
+offer-places-spec = tie.close
+    (tie.spec Inv-loop μ-loop (λ c κs. tt) loop-holds (λ c κs. tt) (λ c κs. tt) (λ c. search needs) (λ c. search needs) loop-again returns)

@@ -22,8 +22,11 @@ loop-again : tie.Need-loop-again Inv-loop μ-loop
 unfolding sides
 loop-again c =
     let g = c .before .before .before in
-    let a = g .before .args in
-    (search needs, turn _ (sided (a .k) (a .e)) (sides) (g .loop .i) _ _ _ _ (search needs) (c .before .side-of .ensures) (c .offer-side .ensures) (g .loop .inv .1))
+    let a = g .before .args in (
+      search needs,
+      turn _ (sided (a .k) (a .e)) (sides) (g .loop .i) _ _ _ _ (search needs) (c .before .side-of .ensures)
+          (c .offer-side .ensures) (g .loop .inv .1),
+    )
 
 returns : tie.Need-returns Inv-loop μ-loop
 unfolding sides

@@ -15,7 +15,8 @@ returns c = (sym (area-none _ (inl (c .if1 .taken))), omega arith)
 returns-2 : tie.Need-returns-2
 returns-2 c = (sym (area-none _ (inr (c .if2 .taken))), omega arith)
 
-small : (c : tie.Else2) → (c .before .before .args .b .right + 1 - c .before .before .args .b .left) * (c .before .before .args .b .top + 1 - c .before .before .args .b .bottom) ≤ 4294967296
+small : (c : tie.Else2) → (c .before .before .args .b .right + 1 - c .before .before .args .b .left)
+    * (c .before .before .args .b .top + 1 - c .before .before .args .b .bottom) ≤ 4294967296
 small c = area-small _ _ (omega arith) (omega arith)
 
 mul-result : tie.Need-mul-result

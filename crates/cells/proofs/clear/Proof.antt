@@ -21,4 +21,5 @@ returns c = let l = c .before .loop in cleared-as _ _ _ _ (omega arith) (l .inv 
 pub clear-spec : {M : Type 1} → statement M
 clear-spec =
     tie.close
-    (tie.spec Inv-loop μ-loop (λ c. (cleared-none _, omega arith)) (λ c. omega arith) (λ c. omega (arith, c .before .loop .inv .0 .size)) (λ c. omega arith) (λ c. omega arith) loop-again (λ c. c .before .loop .inv .0 .size) returns)
+    (tie.spec Inv-loop μ-loop (λ c. (cleared-none _, omega arith)) (λ c. omega arith) (λ c. omega (arith, c .before .loop .inv .0 .size)) (λ c. omega arith)
+    (λ c. omega arith) loop-again (λ c. c .before .loop .inv .0 .size) returns)

@@ -43,15 +43,25 @@ count-row-requires c κs =
     let l = c .before .before .loop in
     let b = s .args .b in
     λ k e.
-    omega
-    (arith, s .pre .1 k (row-covered _ b _ k (s .pre .0 .right) (l .inv .2) (omega (arith, l .inv)) e), l .inv .0 .size, l .inv .0 .each k, row-new _ b _ k (s .pre .0 .right) (l .inv .2) (omega (arith, l .inv)) e)
+    omega (
+      arith,
+      s .pre .1 k (row-covered _ b _ k (s .pre .0 .right) (l .inv .2) (omega (arith, l .inv)) e),
+      l .inv .0 .size,
+      l .inv .0 .each k,
+      row-new _ b _ k (s .pre .0 .right) (l .inv .2) (omega (arith, l .inv)) e,
+    )
 
 loop-again : tie.Need-loop-again Inv-loop μ-loop
 loop-again c =
     let d = c .before .before .before in
     let s = d .before .before .before .before .before in
-    let l = d .before .before .loop in
-    (counted-join _ _ _ _ _ _ (row-more _ (s .args .b) _ (s .pre .0 .right) (l .inv .2) (omega (arith, l .inv))) (l .inv .0) (c .before .before .count-row .ensures), omega arith, omega arith, omega arith)
+    let l = d .before .before .loop in (
+      counted-join _ _ _ _ _ _ (row-more _ (s .args .b) _ (s .pre .0 .right) (l .inv .2) (omega (arith, l .inv))) (l .inv .0)
+          (c .before .before .count-row .ensures),
+      omega arith,
+      omega arith,
+      omega arith,
+    )
 
 same-length : tie.Need-same-length Inv-loop μ-loop
 same-length c = c .before .loop .inv .0 .size

@@ -19,7 +19,8 @@ loop-holds : tie.Need-loop-holds Inv-loop μ-loop
 loop-holds c = (counted-none _ _ (λ k. between-none _ _ k (omega arith)), omega arith, omega arith)
 
 -- the next entry has room
-here : (c : tie.In-loop Inv-loop μ-loop) → (c .before .loop .c < length (now (c .before .before .args .starts))) × (getD (now (c .before .before .args .starts)) (c .before .loop .c) 0 + 1 < 2 ^ 32)
+here : (c : tie.In-loop Inv-loop μ-loop) → (c .before .loop .c < length (now (c .before .before .args .starts)))
+    × (getD (now (c .before .before .args .starts)) (c .before .loop .c) 0 + 1 < 2 ^ 32)
 here c = c .before .before .pre (c .before .loop .c) (between-on _ _ _ (omega arith) (omega arith))
 
 within : (c : tie.In-loop Inv-loop μ-loop) → c .before .loop .c < length (c .before .loop .starts)
@@ -54,4 +55,5 @@ returns c =
 pub count-row-spec : {M : Type 1} → statement M
 count-row-spec =
     tie.close
-    (tie.spec Inv-loop μ-loop loop-holds mul-starts (λ c. within (c .before)) add-starts (λ c. within (c .before)) add-c (λ c. omega arith) loop-again same-length returns)
+    (tie.spec Inv-loop μ-loop loop-holds mul-starts (λ c. within (c .before)) add-starts (λ c. within (c .before)) add-c
+    (λ c. omega arith) loop-again same-length returns)

@@ -10,7 +10,8 @@ use Rattle.cells.proofs.place_cells.Tie as tie
 
 abbrev Inv-loop : tie.InvT-loop
 Inv-loop starts₀ members₀ columns i x0 x1 y0 y1 y₀ y-end starts members y =
-    Placed (rowsUnder columns (record { left = x0; right = x1; bottom = y0; top = y1 }) y) i starts₀ members₀ starts members × (y-end ≡ y1 + 1) × (y0 ≤ y) × (y ≤ max y0 y-end)
+    Placed (rowsUnder columns (record { left = x0; right = x1; bottom = y0; top = y1 }) y) i starts₀ members₀ starts members × (y-end ≡ y1 + 1)
+    × (y0 ≤ y) × (y ≤ max y0 y-end)
 
 abbrev μ-loop : tie.MeasureT-loop
 μ-loop starts₀ members₀ columns i x0 x1 y0 y1 y₀ y-end starts members y = y-end - y
@@ -22,14 +23,17 @@ loop-holds : tie.Need-loop-holds Inv-loop μ-loop
 loop-holds c = (placed-none _ _ _ _ (λ k. rows-none _ _ _ k (omega arith)), omega arith, omega arith, omega arith)
 
 -- the row's cell numbers fit
-fits : (c : tie.After-place-row-arg Inv-loop μ-loop) → c .before .before .loop .y * c .before .before .before .before .before .before .args .columns ≤ 65536 * 65536
-fits c = let s = c .before .before .before .before .before .before in row-fits _ _ (s .pre .0 .wide) (omega (arith, s .pre .0 .tall, c .before .before .loop .inv))
+fits : (c : tie.After-place-row-arg Inv-loop μ-loop)
+    → c .before .before .loop .y * c .before .before .before .before .before .before .args .columns ≤ 65536 * 65536
+fits c = let s = c .before .before .before .before .before .before in
+    row-fits _ _ (s .pre .0 .wide) (omega (arith, s .pre .0 .tall, c .before .before .loop .inv))
 
 mul-place-row : tie.Need-mul-place-row Inv-loop μ-loop
 mul-place-row c = omega (arith, fits (c .before))
 
 add-place-row : tie.Need-add-place-row Inv-loop μ-loop
-add-place-row c = let s = c .before .before .before .before .before .before .before in omega (arith, fits (c .before), s .pre .0, c .before .before .before .before .if1 .left)
+add-place-row c = let s = c .before .before .before .before .before .before .before in
+    omega (arith, fits (c .before), s .pre .0, c .before .before .before .before .if1 .left)
 
 add-place-row-2 : tie.Need-add-place-row-2 Inv-loop μ-loop
 add-place-row-2 c = let s = c .before .before .before .before .before .before .before in omega (arith, fits (c .before), s .pre .0)
@@ -43,15 +47,20 @@ place-row-requires c κs =
     let l = c .before .before .before .loop in
     let b = s .args .b in
     let h : l .y ≤ b .top = omega (arith, l .inv) in
-    open-part _ _ _ _ _ _ _ _ (λ k e. (row-covered _ b _ k (s .pre .0 .right) (l .inv .2) h e, row-new _ b _ k (s .pre .0 .right) (l .inv .2) h e)) (s .pre .1) (l .inv .0)
+    open-part _ _ _ _ _ _ _ _
+    (λ k e. (row-covered _ b _ k (s .pre .0 .right) (l .inv .2) h e, row-new _ b _ k (s .pre .0 .right) (l .inv .2) h e)) (s .pre .1) (l .inv .0)
 
 loop-again : tie.Need-loop-again Inv-loop μ-loop
 loop-again c =
     let f = c .before .before .before .before in
     let d = f .before in
     let s = d .before .before .before .before .before .before .before in
-    let l = d .before .before .before .loop in
-    (placed-join _ _ _ _ _ _ _ _ _ _ (row-more _ (s .args .b) _ (s .pre .0 .right) (l .inv .2) (omega (arith, l .inv))) (l .inv .0) (f .place-row .ensures), omega arith, omega arith, omega arith)
+    let l = d .before .before .before .loop in (
+      placed-join _ _ _ _ _ _ _ _ _ _ (row-more _ (s .args .b) _ (s .pre .0 .right) (l .inv .2) (omega (arith, l .inv))) (l .inv .0) (f .place-row .ensures),
+      omega arith,
+      omega arith,
+      omega arith,
+    )
 
 returns-2 : tie.Need-returns-2 Inv-loop μ-loop
 returns-2 c =

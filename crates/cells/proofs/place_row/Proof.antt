@@ -15,19 +15,32 @@ abbrev μ-loop : tie.MeasureT-loop
 μ-loop starts₀ members₀ a e i c₀ starts members c = e - c
 
 -- the next cell is as open as at the begin
-here : (c : tie.In-loop Inv-loop μ-loop) → (c .before .loop .c < length (c .before .loop .starts)) × (0 < getD (c .before .loop .starts) (c .before .loop .c) 0) × (getD (c .before .loop .starts) (c .before .loop .c) 0 ≤ length (c .before .loop .members))
+here : (c : tie.In-loop Inv-loop μ-loop) → (c .before .loop .c < length (c .before .loop .starts)) × (0 < getD (c .before .loop .starts) (c .before .loop .c) 0)
+    × (getD (c .before .loop .starts) (c .before .loop .c) 0 ≤ length (c .before .loop .members))
 here c =
     let s = c .before .before in
     let l = c .before .loop in
     let b = between-on (s .args .a) (s .args .e) (l .c) (omega arith) (omega arith) in
     let p = l .inv .0 in
-    omega (arith, s .pre .inside (l .c) b, s .pre .some (l .c) b, s .pre .room (l .c) b, p .cells, p .size, p .each (l .c), over-between (s .args .a) (l .c) (l .c) (omega arith))
+    omega (
+      arith,
+      s .pre .inside (l .c) b,
+      s .pre .some (l .c) b,
+      s .pre .room (l .c) b,
+      p .cells,
+      p .size,
+      p .each (l .c),
+      over-between (s .args .a) (l .c) (l .c) (omega arith),
+    )
 
 loop-again : tie.Need-loop-again Inv-loop μ-loop
 loop-again c =
     let l = c .before .before .loop in
-    let h = here (c .before) in
-    (placed-join _ _ _ _ _ _ _ _ _ _ (between-more _ _ (omega arith)) (l .inv .0) (placed-one _ (l .starts) (l .members) (l .c) (h .0) (h .1) (h .2)), omega arith, omega arith)
+    let h = here (c .before) in (
+      placed-join _ _ _ _ _ _ _ _ _ _ (between-more _ _ (omega arith)) (l .inv .0) (placed-one _ (l .starts) (l .members) (l .c) (h .0) (h .1) (h .2)),
+      omega arith,
+      omega arith,
+    )
 
 returns : tie.Need-returns Inv-loop μ-loop
 returns c =

@@ -21,7 +21,12 @@ add-starts : tie.Need-add-starts Inv-loop μ-loop
 add-starts c =
     let s = c .before .before .before .before in
     let l = c .before .before .before .loop in
-    omega (arith, summed-here (now (s .args .starts)) (l .starts) (l .c) (omega arith) (l .inv .0), sums-mono (entry (now (s .args .starts))) (l .c + 1) (s .args .k) (omega arith), s .pre)
+    omega (
+      arith,
+      summed-here (now (s .args .starts)) (l .starts) (l .c) (omega arith) (l .inv .0),
+      sums-mono (entry (now (s .args .starts))) (l .c + 1) (s .args .k) (omega arith),
+      s .pre,
+    )
 
 loop-again : tie.Need-loop-again Inv-loop μ-loop
 loop-again c = let l = c .before .before .before .loop in (summed-more _ _ _ (omega arith) (omega arith) (l .inv .0), omega arith, omega arith)

@@ -26,15 +26,19 @@ returns c =
     let a = c .before .before .before .box-at .ensures in
     let b = c .before .before .box-of .ensures in
     tells-false _ refl
-    (λ p. fails _ (c .before .same-box .ensures) (not-true _ (c .if1 .taken)) (a ∙ boxes-each (now (s .args .mesh)) (now (s .args .boxes)) (s .args .n) (s .pre .1) p i (omega arith) ∙ sym b))
+    (λ p. fails _ (c .before .same-box .ensures) (not-true _ (c .if1 .taken)) (a
+    ∙ boxes-each (now (s .args .mesh)) (now (s .args .boxes)) (s .args .n) (s .pre .1) p i (omega arith) ∙ sym b))
 
 loop-again : tie.Need-loop-again Inv-loop μ-loop
 loop-again c =
     let s = c .before .before .before .before .before .before .before .before in
     let l = c .before .before .before .before .before .loop in
     let a = c .before .before .before .box-at .ensures in
-    let b = c .before .before .box-of .ensures in
-    (all-more (λ (k : ℕ). boxAt (now (s .args .boxes)) k ≡ boxOf (now (s .args .mesh)) k) (l .i) (l .inv .0) (sym a ∙ c .before .same-box .ensures .0 (not-false _ (c .if1 .left)) ∙ b), omega arith)
+    let b = c .before .before .box-of .ensures in (
+      all-more (λ (k : ℕ). boxAt (now (s .args .boxes)) k ≡ boxOf (now (s .args .mesh)) k) (l .i) (l .inv .0) (sym a
+          ∙ c .before .same-box .ensures .0 (not-false _ (c .if1 .left)) ∙ b),
+      omega arith,
+    )
 
 returns-2 : tie.Need-returns-2 Inv-loop μ-loop
 returns-2 c =
@@ -45,5 +49,6 @@ returns-2 c =
 pub are-boxes-spec : {M : Type 1} → statement M
 are-boxes-spec =
     tie.close
-    (tie.spec Inv-loop μ-loop (λ c. (λ k h. absurd (omega arith), omega arith)) (λ c κs. omega (arith, c .before .before .before .before .pre)) box-of-requires (λ c κs. tt)
+    (tie.spec Inv-loop μ-loop (λ c. (λ k h. absurd (omega arith), omega arith))
+    (λ c κs. omega (arith, c .before .before .before .before .pre)) box-of-requires (λ c κs. tt)
     returns (λ c. omega arith) (λ c. omega arith) loop-again returns-2)

@@ -30,7 +30,8 @@ loop-again : tie.Need-loop-again Inv-loop μ-loop
 loop-again c =
     let s = c .before .before .before .before .before .before .before .before in
     let l = c .before .before .before .loop in (
-      all-more (λ (k : ℕ). cellHolds (boxCovers (now (s .args .boxes)) (s .args .g)) (s .args .n) (now (s .args .starts)) (now (s .args .members)) k ≡ true) (l .c) (l .inv .0)
+      all-more (λ (k : ℕ). cellHolds (boxCovers (now (s .args .boxes)) (s .args .g)) (s .args .n) (now (s .args .starts)) (now (s .args .members)) k
+          ≡ true) (l .c) (l .inv .0)
           (sym (c .before .cell-holds .ensures) ∙ not-false _ (c .if1 .left)),
       l .inv .1,
       omega arith,

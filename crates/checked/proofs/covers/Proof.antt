@@ -13,13 +13,15 @@ stretch-of-requires : tie.Need-stretch-of-requires
 stretch-of-requires c κs =
     let s = c .before .before in
     let g = s .args .g in
-    subst⁻¹ (λ (b : Bounds). (0 < g .columns) × Near (g .x) (g .size) (b .«low_x») × Near (g .x) (g .size) (b .«high_x»)) (c .box-at .ensures) (s .pre .0 .0, s .pre .1 .left, s .pre .1 .right)
+    subst⁻¹ (λ (b : Bounds). (0 < g .columns) × Near (g .x) (g .size) (b .«low_x») × Near (g .x) (g .size) (b .«high_x»)) (c .box-at .ensures)
+    (s .pre .0 .0, s .pre .1 .left, s .pre .1 .right)
 
 stretch-of-requires-2 : tie.Need-stretch-of-requires-2
 stretch-of-requires-2 c κs =
     let s = c .before .before .before .before .before in
     let g = s .args .g in
-    subst⁻¹ (λ (b : Bounds). (0 < g .rows) × Near (g .y) (g .size) (b .«low_y») × Near (g .y) (g .size) (b .«high_y»)) (c .before .before .before .box-at .ensures)
+    subst⁻¹ (λ (b : Bounds). (0 < g .rows) × Near (g .y) (g .size) (b .«low_y») × Near (g .y) (g .size) (b .«high_y»))
+    (c .before .before .before .box-at .ensures)
     (s .pre .0 .1, s .pre .1 .bottom, s .pre .1 .top)
 
 returns : tie.Need-returns

@@ -24,7 +24,8 @@ is-index-under-requires c κs =
     let s = c .before .before .before .before .before in
     let a = accepted _ _ _ _ (s .pre) in (
       (omega (arith, a .nine), a .five, a .numbers),
-      subst⁻¹ (λ (g : Grid). refusalOfGrid (g .columns) (g .rows) (length (now (s .args .starts))) ≡ 0 → Gridded (now (s .args .mesh)) (trianglesIn (now (s .args .mesh))) g) (c .grid-of .ensures)
+      subst⁻¹ (λ (g : Grid). refusalOfGrid (g .columns) (g .rows) (length (now (s .args .starts))) ≡ 0
+          → Gridded (now (s .args .mesh)) (trianglesIn (now (s .args .mesh))) g) (c .grid-of .ensures)
           (λ e. grid-gridded _ _ _ _ a _ (passed _ _ _ e)),
     )
 
@@ -33,7 +34,8 @@ returns c =
     let s = c .before .before .before .before .before .before in
     let ix = indexOf (now (s .args .mesh)) (s .args .h) (now (s .args .starts)) (now (s .args .members)) (now (s .args .boxes)) in
     tells-as _ (from-same ix (s .pre)) (λ f. to-same ix f .1)
-    (subst (λ (g : Grid). Tells (c .is-index-under .result) (SameIndex (trianglesIn (now (s .args .mesh))) g ix)) (c .before .grid-of .ensures) (c .is-index-under .ensures))
+    (subst (λ (g : Grid). Tells (c .is-index-under .result) (SameIndex (trianglesIn (now (s .args .mesh))) g ix)) (c .before .grid-of .ensures)
+    (c .is-index-under .ensures))
 
 pub is-index-spec : {M : Type 1} → statement M
 is-index-spec = tie.close (tie.spec grid-of-requires is-index-under-requires returns)

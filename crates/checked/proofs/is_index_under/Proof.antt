@@ -20,7 +20,8 @@ returns-3 : tie.Need-returns-3
 returns-3 c = tells-false _ refl (λ i. fails _ (c .before .are-boxes .ensures) (not-true _ (c .if3 .taken)) (i .boxes))
 
 -- 5 passed
-past : (c : tie.Else1) → let a = c .before .before .before .before .before .before .args in refusalOfGrid (a .g .columns) (a .g .rows) (length (now (a .starts))) ≡ 0
+past : (c : tie.Else1) → let a = c .before .before .before .before .before .before .args in
+    refusalOfGrid (a .g .columns) (a .g .rows) (length (now (a .starts))) ≡ 0
 past c = sym (c .before .refusal-of-grid .ensures) ∙ c .if1 .left
 
 are-tables-requires : tie.Need-are-tables-requires

@@ -14,7 +14,8 @@ use Rattle.checked.proofs.rises.Tie as tie
 
 abbrev Inv-loop : tie.InvT-loop
 Inv-loop n g part boxes c x y low₀ j₀ j-end low j =
-    (risesFrom (λ (i : ℕ). boxCovers boxes g i c) n low (drop j part) ≡ risesFrom (λ (i : ℕ). boxCovers boxes g i c) n 0 part) × (j-end ≡ length part) × (j ≤ j-end)
+    (risesFrom (λ (i : ℕ). boxCovers boxes g i c) n low (drop j part) ≡ risesFrom (λ (i : ℕ). boxCovers boxes g i c) n 0 part)
+    × (j-end ≡ length part) × (j ≤ j-end)
 
 abbrev μ-loop : tie.MeasureT-loop
 μ-loop n g part boxes c x y low₀ j₀ j-end low j = j-end - j
@@ -23,13 +24,15 @@ returns : tie.Need-returns Inv-loop μ-loop
 returns c =
     let s = c .before .before .before .before .before .before .before .before in
     let l = c .before .before .before .loop in
-    too-low (λ (i : ℕ). boxCovers (now (s .args .boxes)) (s .args .g) i (s .args .c)) (s .args .n) (l .low) (l .j) (now (s .args .part)) (omega arith) (c .if1 .taken) ∙ l .inv .0
+    too-low (λ (i : ℕ). boxCovers (now (s .args .boxes)) (s .args .g) i (s .args .c)) (s .args .n) (l .low) (l .j) (now (s .args .part)) (omega arith)
+    (c .if1 .taken) ∙ l .inv .0
 
 returns-2 : tie.Need-returns-2 Inv-loop μ-loop
 returns-2 c =
     let s = c .before .before .before .before .before .before .before .before .before in
     let l = c .before .before .before .before .loop in
-    too-high (λ (i : ℕ). boxCovers (now (s .args .boxes)) (s .args .g) i (s .args .c)) (s .args .n) (l .low) (l .j) (now (s .args .part)) (omega arith) (c .if2 .taken) ∙ l .inv .0
+    too-high (λ (i : ℕ). boxCovers (now (s .args .boxes)) (s .args .g) i (s .args .c)) (s .args .n) (l .low) (l .j) (now (s .args .part)) (omega arith)
+    (c .if2 .taken) ∙ l .inv .0
 
 covers-requires : tie.Need-covers-requires Inv-loop μ-loop
 covers-requires c κs =
@@ -41,20 +44,26 @@ unfolding covers
 returns-3 c =
     let s = c .before .before .before .before .before .before .before .before .before .before .before in
     let l = c .before .before .before .before .before .before .loop in
-    outside (λ (i : ℕ). boxCovers (now (s .args .boxes)) (s .args .g) i (s .args .c)) (s .args .n) (l .low) (l .j) (now (s .args .part)) (omega arith) (bool-called _ _ _ (c .before .covers .ensures) (not-true _ (c .if3 .taken))) ∙ l .inv .0
+    outside (λ (i : ℕ). boxCovers (now (s .args .boxes)) (s .args .g) i (s .args .c)) (s .args .n) (l .low) (l .j) (now (s .args .part)) (omega arith)
+    (bool-called _ _ _ (c .before .covers .ensures) (not-true _ (c .if3 .taken))) ∙ l .inv .0
 
 loop-again : tie.Need-loop-again Inv-loop μ-loop
 unfolding covers
 loop-again c =
     let s = c .before .before .before .before .before .before .before .before .before .before .before in
-    let l = c .before .before .before .before .before .before .loop in
-    (goes-on (λ (i : ℕ). boxCovers (now (s .args .boxes)) (s .args .g) i (s .args .c)) (s .args .n) (l .low) (l .j) (now (s .args .part)) (omega arith) (omega arith) (omega arith) (bool-called _ _ _ (c .before .covers .ensures) (not-false _ (c .if3 .left))) ∙ l .inv .0, l .inv .1, omega arith)
+    let l = c .before .before .before .before .before .before .loop in (
+      goes-on (λ (i : ℕ). boxCovers (now (s .args .boxes)) (s .args .g) i (s .args .c)) (s .args .n) (l .low) (l .j) (now (s .args .part)) (omega arith)
+          (omega arith) (omega arith) (bool-called _ _ _ (c .before .covers .ensures) (not-false _ (c .if3 .left))) ∙ l .inv .0,
+      l .inv .1,
+      omega arith,
+    )
 
 returns-4 : tie.Need-returns-4 Inv-loop μ-loop
 returns-4 c =
     let s = c .before .before .before .before .before .before in
     let l = c .before .loop in
-    at-end (λ (i : ℕ). boxCovers (now (s .args .boxes)) (s .args .g) i (s .args .c)) (s .args .n) (l .low) (l .j) (now (s .args .part)) (omega arith) ∙ l .inv .0
+    at-end (λ (i : ℕ). boxCovers (now (s .args .boxes)) (s .args .g) i (s .args .c)) (s .args .n) (l .low) (l .j) (now (s .args .part))
+    (omega arith) ∙ l .inv .0
 
 pub rises-spec : {M : Type 1} → statement M
 rises-spec =

@@ -8,11 +8,13 @@ use Rattle.checked.proofs.same_box.Tie as tie
 
 returns : tie.Need-returns
 returns c =
-    tells-false _ refl (λ p. fails _ (c .before .same-two .ensures) (not-true _ (c .if1 .taken)) (ap (λ (b : Bounds). b .«low_x») p, ap (λ (b : Bounds). b .«low_y») p))
+    tells-false _ refl (λ p. fails _ (c .before .same-two .ensures) (not-true _ (c .if1 .taken))
+    (ap (λ (b : Bounds). b .«low_x») p, ap (λ (b : Bounds). b .«low_y») p))
 
 returns-2 : tie.Need-returns-2
 returns-2 c =
-    tells-false _ refl (λ p. fails _ (c .before .same-two2 .ensures) (not-true _ (c .if2 .taken)) (ap (λ (b : Bounds). b .«high_x») p, ap (λ (b : Bounds). b .«high_y») p))
+    tells-false _ refl (λ p. fails _ (c .before .same-two2 .ensures) (not-true _ (c .if2 .taken))
+    (ap (λ (b : Bounds). b .«high_x») p, ap (λ (b : Bounds). b .«high_y») p))
 
 returns-3 : tie.Need-returns-3
 returns-3 c =

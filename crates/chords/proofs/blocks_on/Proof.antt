@@ -12,7 +12,8 @@ use Rattle.chords.proofs.blocks_on.Statement.{statement}
 use Rattle.chords.proofs.blocks_on.Tie as tie
 
 -- the test of the kind that the match told
-of-kind : (t : Triangle) (b : Bounds) (m : Chord) (table : List Float) (s k : Shape) (r : Bool) → s ≡ k → r ≡ shapeBlocks t b m k table → r ≡ shapeBlocks t b m s table
+of-kind : (t : Triangle) (b : Bounds) (m : Chord) (table : List Float) (s k : Shape) (r : Bool) → s ≡ k → r ≡ shapeBlocks t b m k table
+    → r ≡ shapeBlocks t b m s table
 of-kind t b m table s k r e p = p ∙ ap (λ (x : Shape). shapeBlocks t b m x table) (sym e)
 
 returns : tie.Need-returns

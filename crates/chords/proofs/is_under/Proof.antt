@@ -9,7 +9,8 @@ use Rattle.chords.proofs.is_under.Statement.{statement}
 use Rattle.chords.proofs.is_under.Tie as tie
 
 -- the test of the kind that the match told, with the lower tip as a call answers it
-of-kind : (top : Float) (m : Chord) (s k : Shape) (z tip : Float) → s ≡ k → tip ≡ minOf (m .az) (m .bz) → le z (minOf (m .az) (m .bz)) ≡ isUnder top m k → le z tip ≡ isUnder top m s
+of-kind : (top : Float) (m : Chord) (s k : Shape) (z tip : Float) → s ≡ k → tip ≡ minOf (m .az) (m .bz) → le z (minOf (m .az) (m .bz)) ≡ isUnder top m k
+    → le z tip ≡ isUnder top m s
 of-kind top m s k z tip e f g = ap (le z) f ∙ g ∙ ap (isUnder top m) (sym e)
 
 returns : tie.Need-returns

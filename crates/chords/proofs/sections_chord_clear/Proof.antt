@@ -17,7 +17,8 @@ returns c =
 tool-ruling-requires : tie.Need-tool-ruling-requires
 tool-ruling-requires c κs =
     let n = c .before in
-    accepted-ready _ _ _ _ _ _ _ (n .before .refusal .ensures .0) (n .if1 .left) (inside _ _ _ _ _ _ _ (n .before .before .before .before .before .patch-of .ensures))
+    accepted-ready _ _ _ _ _ _ _ (n .before .refusal .ensures .0) (n .if1 .left)
+    (inside _ _ _ _ _ _ _ (n .before .before .before .before .before .patch-of .ensures))
 
 returns-2 : tie.Need-returns-2
 returns-2 c =
@@ -30,4 +31,5 @@ returns-2 c =
 pub sections-chord-clear-spec : {M : Type 1} → statement M
 sections-chord-clear-spec =
     tie.close
-    (tie.spec (λ c κs. tt) (λ c κs. tt) (λ c κs. tt) (λ c κs. tt) (λ c κs. tt) refusal-requires (λ c κs. tt) (λ c. search needs) returns tool-ruling-requires (λ c. search needs) returns-2)
+    (tie.spec (λ c κs. tt) (λ c κs. tt) (λ c κs. tt) (λ c κs. tt) (λ c κs. tt) refusal-requires (λ c κs. tt) (λ c. search needs) returns tool-ruling-requires
+    (λ c. search needs) returns-2)

@@ -8,7 +8,8 @@ use Rattle.chords.proofs.strike_at.Tie as tie
 returns : tie.Need-returns
 returns c =
     let f = c .before .before .before .fresh in
-    strike-is _ _ _ _ _ (c .before .before .before .before .before .before .before .before .before .pre .3) (fresh-again _ _ _ _ _ _ (f .ensures .0) (f .ensures .1) (c .if1 .taken))
+    strike-is _ _ _ _ _ (c .before .before .before .before .before .before .before .before .before .pre .3)
+    (fresh-again _ _ _ _ _ _ (f .ensures .0) (f .ensures .1) (c .if1 .taken))
 
 add-count : tie.Need-add-t15
 add-count c =

@@ -15,7 +15,8 @@ returns c =
 chase-requires : tie.Need-chase-requires
 chase-requires c κs =
     let s = c .before .before .before .before .before .before .before .before .before .before .before .before .before in
-    begins (indexOf (now (s .args .mesh)) (s .args .h) (now (s .args .starts)) (now (s .args .members)) (now (s .args .boxes))) _ _ _ _ (s .args .p) (c .before .before .before .next-stamp .ensures .1) (s .pre)
+    begins (indexOf (now (s .args .mesh)) (s .args .h) (now (s .args .starts)) (now (s .args .members)) (now (s .args .boxes))) _ _ _ _ (s .args .p)
+    (c .before .before .before .next-stamp .ensures .1) (s .pre)
 
 returns-2 : tie.Need-returns-2
 unfolding toolBlocksAt shapeBlocksAt shapeBlocks

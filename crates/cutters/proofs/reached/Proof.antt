@@ -14,7 +14,8 @@ returns-2 c = left _ _ _ _ (c .before .if1 .left) (taken _ _ _ _ (c .if2 .taken)
 
 returns-3 : tie.Need-returns-3
 unfolding reachedOf
-returns-3 c = left _ _ _ _ (c .before .before .before .if1 .left) (left _ _ _ _ (c .before .before .if2 .left) (c .crossed .ensures ∙ ap (crossedOf _ _) (c .before .root .ensures)))
+returns-3 c = left _ _ _ _ (c .before .before .before .if1 .left)
+    (left _ _ _ _ (c .before .before .if2 .left) (c .crossed .ensures ∙ ap (crossedOf _ _) (c .before .root .ensures)))
 
 pub reached-spec : {M : Type 1} → statement M
 reached-spec = tie.close (tie.spec returns returns-2 (λ c κs. tt) (λ c κs. tt) returns-3)

@@ -10,8 +10,11 @@ use Rattle.desk.proofs.mandrikelo_build.Tie as tie
 returns : tie.Need-returns
 returns c =
     let b = c .before .before .before .before .before .before .before .before .before .before .build in
-    let some = c .before .before .if1 .taken in
-    (refused-left (outcome (b .result) (b .last .1 .1 .1 .0) (b .last .1 .1 .1 .1 .0) (b .last .1 .1 .1 .1 .1 .0)) some ∙ ap builtLeftBy (b .ensures .0), record { sound = λ none. absurd (some none); built = λ none. absurd (some none) })
+    let some = c .before .before .if1 .taken in (
+      refused-left (outcome (b .result) (b .last .1 .1 .1 .0) (b .last .1 .1 .1 .1 .0) (b .last .1 .1 .1 .1 .1 .0)) some
+          ∙ ap builtLeftBy (b .ensures .0),
+      record { sound = λ none. absurd (some none); built = λ none. absurd (some none) },
+    )
 
 cast-t22 : tie.Need-cast-t22
 cast-t22 c =
@@ -32,8 +35,11 @@ returns-2 : tie.Need-returns-2
 unfolding headerFrom
 returns-2 c =
     let b = c .before .before .before .before .before .before .before .before .before .before .before .before .before .before .build in
-    let zero = c .before .before .before .before .before .before .if1 .left in
-    (accepted-left (outcome (b .result) (b .last .1 .1 .1 .0) (b .last .1 .1 .1 .1 .0) (b .last .1 .1 .1 .1 .1 .0)) zero ∙ ap builtLeftBy (b .ensures .0), b .ensures .1)
+    let zero = c .before .before .before .before .before .before .if1 .left in (
+      accepted-left (outcome (b .result) (b .last .1 .1 .1 .0) (b .last .1 .1 .1 .1 .0) (b .last .1 .1 .1 .1 .1 .0)) zero
+          ∙ ap builtLeftBy (b .ensures .0),
+      b .ensures .1,
+    )
 
 pub mandrikelo-build-spec : {M : Type 1} → statement M
 mandrikelo-build-spec =

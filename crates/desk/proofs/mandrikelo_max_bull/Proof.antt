@@ -12,8 +12,10 @@ returns c =
     let a = b .before .before .before .before .before .before .args in
     let q = c .before .before .before .before .before .max-bull in
     height-told (b .header-from .result) (headerFrom (a .measures .now) (a .sizes .now)) (b .header-from .ensures)
-    (λ h. maxBullOf (indexOf (a .mesh .now) h (a .starts .now) (a .members .now) (a .boxes .now)) (a .marks .now) (a .stamp) (record { x = a .px; y = a .py; r = a .r; rc = a .rc }))
-    (λ h w. BullPromise (indexOf (a .mesh .now) h (a .starts .now) (a .members .now) (a .boxes .now)) (a .marks .now) (a .stamp) (record { x = a .px; y = a .py; r = a .r; rc = a .rc }) w)
+    (λ h. maxBullOf (indexOf (a .mesh .now) h (a .starts .now) (a .members .now) (a .boxes .now)) (a .marks .now) (a .stamp)
+    (record { x = a .px; y = a .py; r = a .r; rc = a .rc }))
+    (λ h w. BullPromise (indexOf (a .mesh .now) h (a .starts .now) (a .members .now) (a .boxes .now)) (a .marks .now) (a .stamp)
+    (record { x = a .px; y = a .py; r = a .r; rc = a .rc }) w)
     (q .result) _ (q .ensures .0) (q .ensures .1)
 
 pub mandrikelo-max-bull-spec : {M : Type 1} → statement M

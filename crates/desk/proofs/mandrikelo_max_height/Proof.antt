@@ -14,8 +14,10 @@ returns c =
     let a = b .before .before .before .before .before .before .args in
     let q = c .before .before .before .before .before .max-height in
     height-told (b .header-from .result) (headerFrom (a .measures .now) (a .sizes .now)) (b .header-from .ensures)
-    (λ h. maxHeightOf (indexOf (a .mesh .now) h (a .starts .now) (a .members .now) (a .boxes .now)) (a .marks .now) (a .stamp) (sweep (a .px) (a .py) (a .qx) (a .qy) (a .r)))
-    (λ h w. DiskPromise (indexOf (a .mesh .now) h (a .starts .now) (a .members .now) (a .boxes .now)) (a .marks .now) (a .stamp) (sweep (a .px) (a .py) (a .qx) (a .qy) (a .r)) w)
+    (λ h. maxHeightOf (indexOf (a .mesh .now) h (a .starts .now) (a .members .now) (a .boxes .now)) (a .marks .now) (a .stamp)
+    (sweep (a .px) (a .py) (a .qx) (a .qy) (a .r)))
+    (λ h w. DiskPromise (indexOf (a .mesh .now) h (a .starts .now) (a .members .now) (a .boxes .now)) (a .marks .now) (a .stamp)
+    (sweep (a .px) (a .py) (a .qx) (a .qy) (a .r)) w)
     (q .result) _ (q .ensures .0) (q .ensures .1)
 
 pub mandrikelo-max-height-spec : {M : Type 1} → statement M

@@ -12,8 +12,10 @@ returns c =
     let a = b .before .before .before .before .before .before .before .args in
     let q = c .before .before .before .before .before .max-sections in
     height-told (b .header-from .result) (headerFrom (a .measures .now) (a .sizes .now)) (b .header-from .ensures)
-    (λ h. maxSectionsOf (indexOf (a .mesh .now) h (a .starts .now) (a .members .now) (a .boxes .now)) (a .marks .now) (a .stamp) (a .px) (a .py) (a .sections .now))
-    (λ h w. SectionsPromise (indexOf (a .mesh .now) h (a .starts .now) (a .members .now) (a .boxes .now)) (a .marks .now) (a .stamp) (a .px) (a .py) (a .sections .now) w)
+    (λ h. maxSectionsOf (indexOf (a .mesh .now) h (a .starts .now) (a .members .now) (a .boxes .now)) (a .marks .now) (a .stamp) (a .px)
+    (a .py) (a .sections .now))
+    (λ h w. SectionsPromise (indexOf (a .mesh .now) h (a .starts .now) (a .members .now) (a .boxes .now)) (a .marks .now) (a .stamp) (a .px)
+    (a .py) (a .sections .now) w)
     (q .result) _ (q .ensures .0) (q .ensures .1)
 
 pub mandrikelo-max-sections-spec : {M : Type 1} → statement M

@@ -15,7 +15,8 @@ returns c =
     let m : Chord = record { ax = a .ax; ay = a .ay; az = a .az; bx = a .bx; by = a .by; bz = a .bz; lift = a .lift } in
     verdict-told (b .header-from .result) (headerFrom (a .measures .now) (a .sizes .now)) (b .header-from .ensures)
     (λ h. sectionsChordOf (indexOf (a .mesh .now) h (a .starts .now) (a .members .now) (a .boxes .now)) (a .marks .now) (a .stamp) m (a .sections .now))
-    (λ h w. SectionsChordPromise (indexOf (a .mesh .now) h (a .starts .now) (a .members .now) (a .boxes .now)) (a .marks .now) (a .stamp) m (a .sections .now) w)
+    (λ h w. SectionsChordPromise (indexOf (a .mesh .now) h (a .starts .now) (a .members .now) (a .boxes .now)) (a .marks .now)
+    (a .stamp) m (a .sections .now) w)
     (q .result) _ (c .before .finding-number .result) (c .before .finding-number .ensures) (q .ensures .0) (q .ensures .1)
 
 pub mandrikelo-sections-chord-clear-spec : {M : Type 1} → statement M

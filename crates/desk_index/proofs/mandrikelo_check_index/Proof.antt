@@ -10,7 +10,8 @@ use Rattle.desk_index.proofs.mandrikelo_check_index.Tie as tie
 returns : tie.Need-returns
 returns c =
     let a = c .before .before .before .before .before .before .args in
-    subst (λ (h : Header). CheckPromise (indexOf (now (a .mesh)) h (now (a .starts)) (now (a .members)) (now (a .boxes))) (c .check-index .result)) (c .before .header-from .ensures) (c .check-index .ensures)
+    subst (λ (h : Header). CheckPromise (indexOf (now (a .mesh)) h (now (a .starts)) (now (a .members)) (now (a .boxes))) (c .check-index .result))
+    (c .before .header-from .ensures) (c .check-index .ensures)
 
 pub mandrikelo-check-index-spec : {M : Type 1} → statement M
 mandrikelo-check-index-spec = tie.close (tie.spec (λ c κs. tt) (λ c κs. tt) returns)

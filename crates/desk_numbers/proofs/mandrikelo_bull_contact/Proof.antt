@@ -12,7 +12,8 @@ returns c =
     let k : Bull = record { x = a .px; y = a .py; r = a .r; rc = a .rc } in
     c .lay .ensures
     ∙ ap contactLeftBy
-    (c .before .before .before .bull-contact-above .ensures ∙ ap (λ t. bullContactAbove t k (a .floor)) (c .before .before .before .before .triangle-at .ensures))
+    (c .before .before .before .bull-contact-above .ensures
+    ∙ ap (λ t. bullContactAbove t k (a .floor)) (c .before .before .before .before .triangle-at .ensures))
 
 pub mandrikelo-bull-contact-spec : {M : Type 1} → statement M
 mandrikelo-bull-contact-spec = tie.close (tie.spec (λ c κs. search needs) (λ c κs. tt) (λ c κs. tt) returns)

@@ -11,7 +11,8 @@ returns c =
     let a = c .before .before .before .before .before .before .before .before .before .before .args in
     c .lay .ensures
     ∙ ap contactLeftBy
-    (c .before .before .before .section-contact .ensures ∙ ap (λ t. sectionContact t (a .px) (a .py) (sectionFrom (a .section .now))) (c .before .before .before .before .triangle-at .ensures))
+    (c .before .before .before .section-contact .ensures
+    ∙ ap (λ t. sectionContact t (a .px) (a .py) (sectionFrom (a .section .now))) (c .before .before .before .before .triangle-at .ensures))
 
 pub mandrikelo-section-contact-spec : {M : Type 1} → statement M
 mandrikelo-section-contact-spec =

@@ -17,8 +17,10 @@ returns-2 c =
 
 returns-3 : tie.Need-returns-3
 returns-3 c =
-    let e = c .before .before .before in
-    (along-none _ _ _ _ _ _ _ _ (e .before .if1 .left) (e .if2 .left) (c .before .no-axis .ensures) (c .refused .ensures), lost-none _ _ _ _ _ _ (c .before .no-axis .ensures) (c .refused .ensures))
+    let e = c .before .before .before in (
+      along-none _ _ _ _ _ _ _ _ (e .before .if1 .left) (e .if2 .left) (c .before .no-axis .ensures) (c .refused .ensures),
+      lost-none _ _ _ _ _ _ (c .before .no-axis .ensures) (c .refused .ensures),
+    )
 
 pub plan-along-spec : {M : Type 1} → statement M
 plan-along-spec =

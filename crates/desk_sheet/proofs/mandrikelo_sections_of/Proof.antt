@@ -17,7 +17,8 @@ left-is : (o : Outcome) (s t : Shape) (enclose neck : Bool) (p q : Sheet) (hs ta
 left-is o s t enclose neck p q hs table e a b =
     ap sheetLeftBy (e ∙ ap (λ (x : Shape). sheetOf x enclose neck p hs table) a ∙ ap (λ (x : Sheet). sheetOf t enclose neck x hs table) b)
 
-encloses-is : (s t : Shape) (p q : Sheet) (table : List Float) → (isCurved s ≡ true → Encloses (radiusOf p) table) → s ≡ t → p ≡ q → isCurved t ≡ true → Encloses (radiusOf q) table
+encloses-is : (s t : Shape) (p q : Sheet) (table : List Float) → (isCurved s ≡ true → Encloses (radiusOf p) table) → s ≡ t → p ≡ q → isCurved t ≡ true
+    → Encloses (radiusOf q) table
 encloses-is s t p q table e a b c = subst (λ (x : Sheet). Encloses (radiusOf x) table) b (e (ap isCurved a ∙ c))
 
 returns : tie.Need-returns

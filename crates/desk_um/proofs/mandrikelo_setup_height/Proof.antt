@@ -15,7 +15,8 @@ returns c =
     let a = w .setup-height .ensures in
     let f = w .before .before .before .before .before .before .before .fits in
     let q = w .before .question-from .ensures
-    ∙ question-again _ _ _ _ _ _ _ _ _ _ (again _ (f .px .sfits)) (again _ (f .py .sfits)) (again _ (f .qx .sfits)) (again _ (f .qy .sfits)) (again _ (f .r .sfits)) in
+    ∙ question-again _ _ _ _ _ _ _ _ _ _ (again _ (f .px .sfits)) (again _ (f .py .sfits)) (again _ (f .qx .sfits)) (again _ (f .qy .sfits))
+    (again _ (f .r .sfits)) in
     setup-told _ _ _ _ _ _ _ _ _ _ _ (w .before .before .before .header-from .ensures) q (a .0 .0, a .1) (a .0 .1) _ (again _ (n .ok) ∙ n .ensures)
 
 pub mandrikelo-setup-height-spec : {M : Type 1} → statement M

@@ -33,4 +33,5 @@ returns-2 c = let l = c .before .loop in finite-ends _ (l .j) (l .inv .0) (omega
 pub all-finite-spec : {M : Type 1} → statement M
 all-finite-spec =
     tie.close
-    (tie.spec Inv-loop μ-loop (λ c. (refl, refl, omega arith)) (λ c. omega arith) (λ c. omega arith) (λ c κs. tt) returns (λ c. omega arith) (λ c. omega arith) loop-again returns-2)
+    (tie.spec Inv-loop μ-loop (λ c. (refl, refl, omega arith)) (λ c. omega arith) (λ c. omega arith) (λ c κs. tt) returns (λ c. omega arith)
+    (λ c. omega arith) loop-again returns-2)

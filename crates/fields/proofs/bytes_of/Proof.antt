@@ -25,4 +25,5 @@ returns c = refl
 pub bytes-of-spec : {M : Type 1} → statement M
 bytes-of-spec =
     tie.close
-    (tie.spec (λ c. search needs) (λ c. search needs) (λ c. search needs) mul-result add-result (λ c. search needs) (λ c. search needs) mul-result-2 add-result-2 returns)
+    (tie.spec (λ c. search needs) (λ c. search needs) (λ c. search needs) mul-result add-result (λ c. search needs)
+    (λ c. search needs) mul-result-2 add-result-2 returns)

@@ -19,4 +19,5 @@ returns-4 c = with-whole _ _ _ (all-whole _ _ _ refl (c .if3 .left))
 pub whole-in-spec : {M : Type 1} → statement M
 whole-in-spec =
     tie.close
-    (tie.spec (λ c. search needs) (λ c. search needs) returns returns-2 (λ c. search needs) (λ c. search needs) (λ c. search needs) (λ c. search needs) returns-3 returns-4)
+    (tie.spec (λ c. search needs) (λ c. search needs) returns returns-2 (λ c. search needs) (λ c. search needs) (λ c. search needs)
+    (λ c. search needs) returns-3 returns-4)

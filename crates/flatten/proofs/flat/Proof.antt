@@ -22,9 +22,11 @@ use prog.Wp.{Heap, Env, Out, Calls, Loops, Wp, WpFn, Tables, afterSeq, afterBloc
 use ghost.Atoms.{Atoms, sem}
 use contract.Monad.{Fun, fact}
 use contract.Running.{givenOf, tables, tablesOf}
-use types.Kit.{Given, Item, ‵, raw, _⊛_, ⋆, some, later, runs, anyQ, atRet, Sq, _$_, _∵_, !, qed, by, move, drop, use0, use1, use2, split, join, pick, rewrite, fsplit, fjoin, suffices, frame, await, done}
+use types.Kit.{Given, Item, ‵, raw, _⊛_, ⋆, some, later, runs, anyQ, atRet, Sq, _$_, _∵_, !, qed, by, move, drop, use0}
+use types.Kit.{use1, use2, split, join, pick, rewrite, fsplit, fjoin, suffices, frame, await, done}
 use types.Part.{whole, sub, look-in}
-use types.Run.{look, store, init, forget, stop, fld, from, load, lit, of-opd, bin, and-then, no-more, assigns, assigns-last, land, first, skips, jumps, blocks, branches, returns, enter, alloc1, alloc0, params1, pass1, pass0, free1, free0, exec, Below, again, loops}
+use types.Run.{look, store, init, forget, stop, fld, from, load, lit, of-opd, bin, and-then, no-more, assigns, assigns-last, land, first, skips, jumps}
+use types.Run.{blocks, branches, returns, enter, alloc1, alloc0, params1, pass1, pass0, free1, free0, exec, Below, again, loops}
 use sound.WpLaws.{FmC, fmOf, WpFn-mono}
 use denote.RattleType.{owns}
 use denote.Laws.{Is, shows}
@@ -77,7 +79,8 @@ use Rattle.flatten.proofs.flat.Code.Mir as body
 -- what a turn does after the test
 abbrev more : Body
 more = seq (call #flatten·at (copy (place 1 []) ∷ copy (place 4 []) ∷ []) (place 5 []))
-    (seq (call #flatten·push (copy (place 3 []) ∷ copy (place 5 []) ∷ []) (place 3 [])) (assign (place 4 []) (op2 (add unsigned) (copy (place 4 [])) (int w64 1))))
+    (seq (call #flatten·push (copy (place 3 []) ∷ copy (place 5 []) ∷ []) (place 3 []))
+    (assign (place 4 []) (op2 (add unsigned) (copy (place 4 [])) (int w64 1))))
 
 abbrev stayed : Stays (f.ended .signature .params) (f.ended .kept)
 stayed = (stay-none-slice (0 ∷ []) tt (plain (λ _. T.the-row)) yes, tt)
@@ -113,7 +116,8 @@ module _ {M : Type 1} (𝓤 : URA M) (H : Heap 𝓤) (A : Atoms 𝓤) (mem : Mem
   abbrev Push : Contract 𝓤
   Push = tripleOf 𝓤 H A push.signature (push.spec 𝓤 H A mem run)
 
-module _ {M : Type 1} (𝓤 : URA M) (H : Heap 𝓤) (A : Atoms 𝓤) (W : Given 𝓤 H A) (mem : Memory → SProp 𝓤) (run : Routine → Fun 𝓤) (κ : Lft) (q : Share) (x : RefT (List Section)) where
+module _ {M : Type 1} (𝓤 : URA M) (H : Heap 𝓤) (A : Atoms 𝓤) (W : Given 𝓤 H A) (mem : Memory → SProp 𝓤) (run : Routine → Fun 𝓤) (κ : Lft) (q : Share)
+    (x : RefT (List Section)) where
   abbrev ys : List Section
   ys = x .now
 
@@ -137,7 +141,8 @@ module _ {M : Type 1} (𝓤 : URA M) (H : Heap 𝓤) (A : Atoms 𝓤) (W : Given
   to-copied = ((tt, tt, tt, (length ys, tt), (vint w64 (length ys) ∷ [], tt)), tt)
 
   goes-copied : length ys < 2 ^ 64 → ent 𝓤 (emp 𝓤) (Copied 𝓤 H A mem run .pre to-copied)
-  goes-copied g = qed W [] ∵ owned ! usize (Is usize) (uint-makes 𝓤 H A W w64) (length ys) (vint w64 (length ys) ∷ []) (refl, g) $ nothing ! $ move ! (1 ∷ 0 ∷ []) $ join ! $ nothing ! $ join ! $ frame ! $ done !
+  goes-copied g = qed W [] ∵ owned ! usize (Is usize) (uint-makes 𝓤 H A W w64) (length ys) (vint w64 (length ys) ∷ []) (refl, g) $ nothing ! $ move !
+      (1 ∷ 0 ∷ []) $ join ! $ nothing ! $ join ! $ frame ! $ done !
 
   copied-said : (r : ℕ) → ent 𝓤 (ensured 𝓤 H A copied.ended (copied.clauses 𝓤 H A mem run) tt (length ys, tt) tt r) (fact 𝓤 (r ≡ n))
   copied-said r = exE 𝓤 _ (λ ws. snd∗ 𝓤 (sem 𝓤 H A (lasts copied.ended tt (length ys, tt) ws)) (fact 𝓤 (r ≡ n)))
@@ -161,7 +166,8 @@ module _ {M : Type 1} (𝓤 : URA M) (H : Heap 𝓤) (A : Atoms 𝓤) (W : Given
       qed W (Tokens ∷ ‵ Own ∷ []) ∵ move ! (1 ∷ []) $ use1 W (‵ Own ⊛ ‵ Own) (shr-slice-copy 𝓤 H A W (named 0) κ T.the-row .twice x (v ∷ [])) $ split ! $
       nothing ! $ owned ! usize (Is usize) (uint-makes 𝓤 H A W w64) i (vint w64 i ∷ []) (refl, g) $ fjoin ! $ move ! (1 ∷ 0 ∷ []) $ fjoin ! $
       move ! (2 ∷ 0 ∷ []) $ use2 W (raw (At 𝓤 H A mem run .pre (to-at i)))
-      (qed W (Tokens ∷ ‵ (owns (ShrSlice (named 0) κ T.the-row ∷ usize ∷ []) (x, (i, tt)) (v ∷ [], (vint w64 i ∷ [], tt))) ∷ []) ∵ says ! l $ frame ! $ done !) $ frame ! $ done !
+      (qed W (Tokens ∷ ‵ (owns (ShrSlice (named 0) κ T.the-row ∷ usize ∷ []) (x, (i, tt)) (v ∷ [], (vint w64 i ∷ [], tt))) ∷ []) ∵ says ! l $ frame ! $
+      done !) $ frame ! $ done !
 
   at-said : (i : ℕ) (s : Section) → ent 𝓤 (ensured 𝓤 H A at.ended (at.clauses 𝓤 H A mem run) (κ, tt) (x, (i, tt)) tt s) (fact 𝓤 (s ≡ sectionIn ys i))
   at-said i s = exE 𝓤 _ (λ ws. snd∗ 𝓤 (sem 𝓤 H A (lasts at.ended (κ, tt) (x, (i, tt)) ws)) (fact 𝓤 (s ≡ sectionIn ys i)))
@@ -170,7 +176,8 @@ module _ {M : Type 1} (𝓤 : URA M) (H : Heap 𝓤) (A : Atoms 𝓤) (W : Given
   abbrev to-push : Table → Val → Section → Val → Push 𝓤 H A mem run .Ghost
   to-push t u s w = ((tt, tt, tt, (t, (s, tt)), (u ∷ [], (w ∷ [], tt))), tt)
 
-  goes-push : (t : Table) (u : Val) (s : Section) (w : Val) → Is B.the-row t (u ∷ []) → Is T.the-row s (w ∷ []) → (length (t .numbers) ≡ 128) × (t .count + 4 ≤ 128) → ent 𝓤 (emp 𝓤) (Push 𝓤 H A mem run .pre (to-push t u s w))
+  goes-push : (t : Table) (u : Val) (s : Section) (w : Val) → Is B.the-row t (u ∷ []) → Is T.the-row s (w ∷ [])
+      → (length (t .numbers) ≡ 128) × (t .count + 4 ≤ 128) → ent 𝓤 (emp 𝓤) (Push 𝓤 H A mem run .pre (to-push t u s w))
   goes-push t u s w it is fits =
       qed W [] ∵ says ! fits $ nothing ! $ owned ! T.the-row (Is T.the-row) ((LL.makes T.the-type T′.the-plain) 𝓤 H A) s _ is $ fjoin ! $
       owned ! B.the-row (Is B.the-row) ((LL.makes B.the-type B′.the-plain) 𝓤 H A) t _ it $ fjoin ! $ nothing ! $ join ! $ done !
@@ -181,11 +188,14 @@ module _ {M : Type 1} (𝓤 : URA M) (H : Heap 𝓤) (A : Atoms 𝓤) (W : Given
   exits : (s : Upto ys n) → s .i ≡ n → ent 𝓤 (⋆ 𝓤 H A (Tokens ∷ ‵ Own ∷ [])) (Post (s .val))
   exits s e =
       qed W (Tokens ∷ ‵ Own ∷ []) ∵
-      suffices ! _ (ends-at 𝓤 H A f.ended stayed (f.clauses 𝓤 H A mem run) W (((κ, tt), (q, tt), tt, (x, tt), (v ∷ [], tt)), tt) (s .val) (s .table) (tt, tt) (tt, tt)) $
+      suffices ! _ (ends-at 𝓤 H A f.ended stayed (f.clauses 𝓤 H A mem run) W (((κ, tt), (q, tt), tt, (x, tt), (v ∷ [], tt)), tt) (s .val)
+      (s .table) (tt, tt) (tt, tt)) $
       says ! (omega (arith, copied-few (length ys), s .count, s .room), s .held ∙ ap (λ (j : ℕ). flatOf (take j ys)) e) $
-      frame ! $ nothing ! $ move ! (1 ∷ 0 ∷ []) $ fjoin ! $ frame ! $ owned ! B.the-row (Is B.the-row) ((LL.makes B.the-type B′.the-plain) 𝓤 H A) (s .table) _ (s .is) $ done !
+      frame ! $ nothing ! $ move ! (1 ∷ 0 ∷ []) $ fjoin ! $ frame ! $ owned ! B.the-row (Is B.the-row) ((LL.makes B.the-type B′.the-plain) 𝓤 H A)
+      (s .table) _ (s .is) $ done !
 
-  module _ (𝓣 : Tables 𝓤 H) (fm : FmC 𝓤 H (W .laws) (𝓣 .C)) (gn : Room T.the-row (length ys)) (known-at : Triple 𝓤 (𝓣 .C #flatten·at) (At 𝓤 H A mem run)) (known-push : Triple 𝓤 (𝓣 .C #flatten·push) (Push 𝓤 H A mem run)) (l₀ l₁ l₂ l₃ l₄ l₅ l₆ l₇ : ℕ) where
+  module _ (𝓣 : Tables 𝓤 H) (fm : FmC 𝓤 H (W .laws) (𝓣 .C)) (gn : Room T.the-row (length ys)) (known-at : Triple 𝓤 (𝓣 .C #flatten·at) (At 𝓤 H A mem run))
+      (known-push : Triple 𝓤 (𝓣 .C #flatten·push) (Push 𝓤 H A mem run)) (l₀ l₁ l₂ l₃ l₄ l₅ l₆ l₇ : ℕ) where
     abbrev C : Calls 𝓤 H
     C = 𝓣 .C
 
@@ -203,12 +213,15 @@ module _ {M : Type 1} (𝓤 : URA M) (H : Heap 𝓤) (A : Atoms 𝓤) (W : Given
 
     abbrev Inv : Upto ys n → List (Item 𝓤)
     Inv s =
-        ‵ (froom tyBool l₇ 0) ∷ ‵ (fdies tyBool l₇) ∷ ‵ (fat fullShare word l₆ 0 (vint w64 (length ys))) ∷ ‵ (fdies word l₆) ∷ ‵ (froom T′.mir l₅ 0) ∷ ‵ (fdies T′.mir l₅)
-        ∷ ‵ (fat fullShare word l₄ 0 (vint w64 (s .i))) ∷ ‵ (fdies word l₄) ∷ ‵ (fat fullShare B′.mir l₃ 0 (s .val)) ∷ ‵ (fdies B′.mir l₃) ∷ ‵ (fat fullShare word l₂ 0 (vint w64 n)) ∷ ‵ (fdies word l₂)
+        ‵ (froom tyBool l₇ 0) ∷ ‵ (fdies tyBool l₇) ∷ ‵ (fat fullShare word l₆ 0 (vint w64 (length ys))) ∷ ‵ (fdies word l₆) ∷ ‵
+        (froom T′.mir l₅ 0) ∷ ‵ (fdies T′.mir l₅)
+        ∷ ‵ (fat fullShare word l₄ 0 (vint w64 (s .i))) ∷ ‵ (fdies word l₄) ∷ ‵ (fat fullShare B′.mir l₃ 0 (s .val)) ∷ ‵ (fdies B′.mir l₃) ∷ ‵
+        (fat fullShare word l₂ 0 (vint w64 n)) ∷ ‵ (fdies word l₂)
         ∷ ‵ (fat fullShare slice l₁ 0 v) ∷ ‵ (fdies slice l₁) ∷ ‵ (froom B′.mir l₀ 0) ∷ ‵ (fdies B′.mir l₀) ∷ Tokens ∷ ‵ Own ∷ []
 
     abbrev Turned : Upto ys n → Out → SProp 𝓤
-    Turned s = afterTurn 𝓤 H (Below 𝓤 H A (Nearer ys n) Inv s) (afterBlock 𝓤 H (afterSeq 𝓤 H (Wp 𝓤 H C Λ E body.t-6 (atReturn 𝓤 H E Post)) (atReturn 𝓤 H E Post)))
+    Turned s = afterTurn 𝓤 H (Below 𝓤 H A (Nearer ys n) Inv s)
+        (afterBlock 𝓤 H (afterSeq 𝓤 H (Wp 𝓤 H C Λ E body.t-6 (atReturn 𝓤 H E Post)) (atReturn 𝓤 H E Post)))
 
     turns : (s : Upto ys n) → Sq W (Inv s) (runs C Λ E body.turn-1 (anyQ (Turned s)))
     unfolding afterTurn
@@ -217,25 +230,35 @@ module _ {M : Type 1} (𝓤 : URA M) (H : Heap 𝓤) (A : Atoms 𝓤) (W : Given
         first ! $ branches ! (load ! (from ! (stop !)) (look ! 0 refl))
         (λ less. skips ! $ exec ! C Λ E more (anyQ (Turned s)) $
         move ! (16 ∷ 17 ∷ []) $ use2 W (raw (At 𝓤 H A mem run .pre (to-at (s .i))) ⊛ ‵ Own) (goes-at (s .i) (fits less) (there less)) $ split ! $
-        calls-at ! fm (At 𝓤 H A mem run) known-at (to-at (s .i)) (and-then ! (load ! (from ! (stop !)) (look ! 14 refl)) (and-then ! (load ! (from ! (stop !)) (look ! 8 refl)) (no-more !))) (λ w.
-        use1 W (later (some (λ (r : Section). (Tokens ⊛ ‵ (T.the-row .own r (w ∷ []))) ⊛ raw (ensured 𝓤 H A at.ended (at.clauses 𝓤 H A mem run) (κ, tt) (x, (s .i, tt)) tt r)))) (id⊢ 𝓤 _) $ await ! tt $ pick ! (λ r.
-        split ! $ move ! (1 ∷ []) $ use1 W (raw (fact 𝓤 (r ≡ sectionIn ys (s .i)))) (at-said (s .i) r) $ heard ! (r ≡ sectionIn ys (s .i)) (λ e. split ! $ move ! (1 ∷ []) $
+        calls-at ! fm (At 𝓤 H A mem run) known-at (to-at (s .i))
+        (and-then ! (load ! (from ! (stop !)) (look ! 14 refl)) (and-then ! (load ! (from ! (stop !)) (look ! 8 refl)) (no-more !))) (λ w.
+        use1 W (later (some (λ (r : Section). (Tokens ⊛ ‵ (T.the-row .own r (w ∷ []))) ⊛ raw
+        (ensured 𝓤 H A at.ended (at.clauses 𝓤 H A mem run) (κ, tt) (x, (s .i, tt)) tt r)))) (id⊢ 𝓤 _) $ await ! tt $ pick ! (λ r.
+        split ! $ move ! (1 ∷ []) $ use1 W (raw (fact 𝓤 (r ≡ sectionIn ys (s .i)))) (at-said (s .i) r) $ heard ! (r ≡ sectionIn ys (s .i))
+        (λ e. split ! $ move ! (1 ∷ []) $
         peeks ! T.the-row (Is T.the-row) (shows 𝓤 H A T.the-row) r (w ∷ []) (λ is.
         land ! (from ! (stop !)) (init ! 7 refl (LL.lawful T.the-type T′.the-laws 𝓤 H A W .typed r _ is .0)) $ drop ! $
         -- [the token; what sections owns; _7; …; _6; …; _5; …; _4; …; _3; …]
         use0 W (raw (Push 𝓤 H A mem run .pre (to-push (s .table) (s .val) r w))) (goes-push (s .table) (s .val) r w (s .is) is (s .room, small less)) $
-        calls-at ! fm (Push 𝓤 H A mem run) known-push (to-push (s .table) (s .val) r w) (and-then ! (load ! (from ! (stop !)) (look ! 11 refl)) (and-then ! (load ! (from ! (stop !)) (look ! 7 refl)) (no-more !))) (λ u.
-        use1 W (later (some (λ (t : Table). (‵ ftrue ⊛ ‵ (B.the-row .own t (u ∷ []))) ⊛ raw (ensured 𝓤 H A push.ended (push.clauses 𝓤 H A mem run) tt (s .table, (r, tt)) tt t)))) (id⊢ 𝓤 _) $ await ! tt $ pick ! (λ t.
-        split ! $ move ! (1 ∷ []) $ use1 W (raw (fact 𝓤 (Pushed (s .table) r t))) (push-said (s .table) r t) $ heard ! (Pushed (s .table) r t) (λ p. split ! $ drop ! $
+        calls-at ! fm (Push 𝓤 H A mem run) known-push (to-push (s .table) (s .val) r w)
+        (and-then ! (load ! (from ! (stop !)) (look ! 11 refl)) (and-then ! (load ! (from ! (stop !)) (look ! 7 refl)) (no-more !))) (λ u.
+        use1 W (later (some (λ (t : Table). (‵ ftrue ⊛ ‵ (B.the-row .own t (u ∷ []))) ⊛ raw
+        (ensured 𝓤 H A push.ended (push.clauses 𝓤 H A mem run) tt (s .table, (r, tt)) tt t)))) (id⊢ 𝓤 _) $ await ! tt $ pick ! (λ t.
+        split ! $ move ! (1 ∷ []) $ use1 W (raw (fact 𝓤 (Pushed (s .table) r t))) (push-said (s .table) r t) $ heard !
+        (Pushed (s .table) r t) (λ p. split ! $ drop ! $
         peeks ! B.the-row (Is B.the-row) (shows 𝓤 H A B.the-row) t (u ∷ []) (λ it.
         land ! (from ! (stop !)) (store ! 11 refl (LL.lawful B.the-type B′.the-laws 𝓤 H A W .typed t _ it .0)) $ drop ! $
-        assigns-last ! (bin ! (load ! (from ! (stop !)) (look ! 8 refl)) (lit ! tt) (record { fits = fits′ less })) (from ! (stop !)) (store ! 8 refl (tt, record { fits = fits′ less })) $
+        assigns-last ! (bin ! (load ! (from ! (stop !)) (look ! 8 refl)) (lit ! tt) (record { fits = fits′ less })) (from ! (stop !))
+        (store ! 8 refl (tt, record { fits = fits′ less })) $
         forget ! 2 refl $ forget ! 6 refl $ move ! (2 ∷ 3 ∷ 4 ∷ 5 ∷ 6 ∷ 7 ∷ 8 ∷ 9 ∷ 10 ∷ 11 ∷ 12 ∷ 13 ∷ 14 ∷ 15 ∷ 16 ∷ 17 ∷ []) $
         again ! (Nearer ys n) Inv s (next less r e t u it p) (add-one-dec n (s .i) (ltb→lt (s .i) n less)))))))))))
         (λ over. jumps ! $ exec ! C Λ E body.t-6 (atRet E Post) $
-        assigns ! (of-opd ! (load ! (from ! (stop !)) (look ! 8 refl))) (from ! (stop !)) (init ! 14 refl (LL.lawful B.the-type B′.the-laws 𝓤 H A W .typed (s .table) _ (s .is) .0)) $
-        returns ! (look ! 14 refl) $ forget ! 0 refl $ forget ! 2 refl $ forget ! 6 refl $ forget ! 8 refl $ forget ! 10 refl $ forget ! 12 refl $ forget ! 14 refl $
-        move ! (14 ∷ 15 ∷ []) $ free1 ! $ move ! (12 ∷ 13 ∷ []) $ free1 ! $ move ! (10 ∷ 11 ∷ []) $ free1 ! $ move ! (8 ∷ 9 ∷ []) $ free1 ! $ move ! (6 ∷ 7 ∷ []) $ free1 ! $ move ! (4 ∷ 5 ∷ []) $ free1 ! $ move ! (2 ∷ 3 ∷ []) $ free1 ! $ free1 ! $ free0 ! $
+        assigns ! (of-opd ! (load ! (from ! (stop !)) (look ! 8 refl))) (from ! (stop !))
+        (init ! 14 refl (LL.lawful B.the-type B′.the-laws 𝓤 H A W .typed (s .table) _ (s .is) .0)) $
+        returns ! (look ! 14 refl) $ forget ! 0 refl $ forget ! 2 refl $ forget ! 6 refl $ forget ! 8 refl $ forget ! 10 refl $ forget ! 12
+        refl $ forget ! 14 refl $
+        move ! (14 ∷ 15 ∷ []) $ free1 ! $ move ! (12 ∷ 13 ∷ []) $ free1 ! $ move ! (10 ∷ 11 ∷ []) $ free1 ! $ move ! (8 ∷ 9 ∷ []) $ free1 ! $ move !
+        (6 ∷ 7 ∷ []) $ free1 ! $ move ! (4 ∷ 5 ∷ []) $ free1 ! $ move ! (2 ∷ 3 ∷ []) $ free1 ! $ free1 ! $ free0 ! $
         by ! (exits s (le-antisymm (s .below) (nltb→le (s .i) n over))))
       where
         there : Holds (ltb (s .i) n) → s .i < length ys
@@ -250,7 +273,8 @@ module _ {M : Type 1} (𝓤 : URA M) (H : Heap 𝓤) (A : Atoms 𝓤) (W : Given
         small : Holds (ltb (s .i) n) → s .table .count + 4 ≤ 128
         small less = omega (arith, ltb→lt (s .i) n less, copied-few (length ys), s .count)
 
-        next : Holds (ltb (s .i) n) → (r : Section) → r ≡ sectionIn ys (s .i) → (t : Table) (u : Val) → Is B.the-row t (u ∷ []) → Pushed (s .table) r t → Upto ys n
+        next : Holds (ltb (s .i) n) → (r : Section) → r ≡ sectionIn ys (s .i) → (t : Table) (u : Val) → Is B.the-row t (u ∷ [])
+            → Pushed (s .table) r t → Upto ys n
         next less r e t u it p = record {
           i = s .i + 1;
           below = omega (arith, ltb→lt (s .i) n less);
@@ -269,44 +293,57 @@ module _ {M : Type 1} (𝓤 : URA M) (H : Heap 𝓤) (A : Atoms 𝓤) (W : Given
     -- before it: the table is made, and i is 0
     abbrev Begun : List (Item 𝓤)
     Begun =
-        ‵ (froom tyBool l₇ 0) ∷ ‵ (fdies tyBool l₇) ∷ ‵ (fat fullShare word l₆ 0 (vint w64 (length ys))) ∷ ‵ (fdies word l₆) ∷ ‵ (froom T′.mir l₅ 0) ∷ ‵ (fdies T′.mir l₅)
+        ‵ (froom tyBool l₇ 0) ∷ ‵ (fdies tyBool l₇) ∷ ‵ (fat fullShare word l₆ 0 (vint w64 (length ys))) ∷ ‵ (fdies word l₆) ∷ ‵
+        (froom T′.mir l₅ 0) ∷ ‵ (fdies T′.mir l₅)
         ∷ ‵ (froom word l₄ 0) ∷ ‵ (fdies word l₄) ∷ ‵ (froom B′.mir l₃ 0) ∷ ‵ (fdies B′.mir l₃) ∷ ‵ (fat fullShare word l₂ 0 (vint w64 n)) ∷ ‵ (fdies word l₂)
         ∷ ‵ (fat fullShare slice l₁ 0 v) ∷ ‵ (fdies slice l₁) ∷ ‵ (froom B′.mir l₀ 0) ∷ ‵ (fdies B′.mir l₀) ∷ Tokens ∷ ‵ Own ∷ []
 
     begun : Triple 𝓤 (𝓣 .C #flatten·empty) (Empty 𝓤 H A mem run) → Sq W Begun (runs C Λ E body.t-3 (atRet E Post))
     begun known-empty =
         use0 W (raw (Empty 𝓤 H A mem run .pre to-empty)) goes-empty $ calls-at ! fm (Empty 𝓤 H A mem run) known-empty to-empty (no-more !) (λ w.
-        use1 W (later (some (λ (t : Table). (‵ ftrue ⊛ ‵ (B.the-row .own t (w ∷ []))) ⊛ raw (ensured 𝓤 H A empty.ended (empty.clauses 𝓤 H A mem run) tt tt tt t)))) (id⊢ 𝓤 _) $ await ! tt $ pick ! (λ t.
-        split ! $ move ! (1 ∷ []) $ use1 W (raw (fact 𝓤 (Emptied t))) (empty-said t) $ heard ! (Emptied t) (λ z. split ! $ drop ! $ peeks ! B.the-row (Is B.the-row) (shows 𝓤 H A B.the-row) t (w ∷ []) (λ it.
+        use1 W (later (some (λ (t : Table). (‵ ftrue ⊛ ‵ (B.the-row .own t (w ∷ []))) ⊛ raw
+        (ensured 𝓤 H A empty.ended (empty.clauses 𝓤 H A mem run) tt tt tt t)))) (id⊢ 𝓤 _) $ await ! tt $ pick ! (λ t.
+        split ! $ move ! (1 ∷ []) $ use1 W (raw (fact 𝓤 (Emptied t))) (empty-said t) $ heard ! (Emptied t)
+        (λ z. split ! $ drop ! $ peeks ! B.the-row (Is B.the-row) (shows 𝓤 H A B.the-row) t (w ∷ []) (λ it.
         land ! (from ! (stop !)) (init ! 9 refl (LL.lawful B.the-type B′.the-laws 𝓤 H A W .typed t _ it .0)) $ drop ! $
         assigns ! (of-opd ! (lit ! tt)) (from ! (stop !)) (init ! 6 refl (tt, record { fits = lit< tt })) $
         looped (record { i = 0; below = omega arith; table = t; val = w; is = it; room = z .room; count = z .none; held = holds-none t ys (z .none) })))))
 
   walk : (𝓣 : Tables 𝓤 H) → FmC 𝓤 H (W .laws) (𝓣 .C)
-      → Triple 𝓤 (𝓣 .C #flatten·copied) (Copied 𝓤 H A mem run) → Triple 𝓤 (𝓣 .C #flatten·empty) (Empty 𝓤 H A mem run) → Triple 𝓤 (𝓣 .C #flatten·at) (At 𝓤 H A mem run) → Triple 𝓤 (𝓣 .C #flatten·push) (Push 𝓤 H A mem run)
-      → Is (ShrSlice (named 0) κ T.the-row) x (v ∷ []) → ent 𝓤 (onEntry 𝓤 H A f.signature (κ, tt) (q, tt) (x, tt) (v ∷ [], tt)) (WpFn 𝓤 H (𝓣 .C) (𝓣 .Λ) code.function (v ∷ []) Post)
+      → Triple 𝓤 (𝓣 .C #flatten·copied) (Copied 𝓤 H A mem run) → Triple 𝓤 (𝓣 .C #flatten·empty) (Empty 𝓤 H A mem run)
+      → Triple 𝓤 (𝓣 .C #flatten·at) (At 𝓤 H A mem run) → Triple 𝓤 (𝓣 .C #flatten·push) (Push 𝓤 H A mem run)
+      → Is (ShrSlice (named 0) κ T.the-row) x (v ∷ [])
+      → ent 𝓤 (onEntry 𝓤 H A f.signature (κ, tt) (q, tt) (x, tt) (v ∷ [], tt)) (WpFn 𝓤 H (𝓣 .C) (𝓣 .Λ) code.function (v ∷ []) Post)
   walk 𝓣 fm known-copied known-empty known-at known-push g =
       qed W (Tokens ∷ ‵ (owns (ShrSlice (named 0) κ T.the-row ∷ []) (x, tt) (v ∷ [], tt)) ∷ []) ∵ enter ! (𝓣 .C) (𝓣 .Λ) code.function (v ∷ []) _ $
       alloc1 ! (λ l₀. alloc1 ! (λ l₁. alloc1 ! (λ l₂. alloc1 ! (λ l₃. alloc1 ! (λ l₄. alloc1 ! (λ l₅. alloc1 ! (λ l₆. alloc1 ! (λ l₇. alloc0 ! $ params1 ! $
       pass1 ! (init ! 12 refl (shr-slice-lawful 𝓤 H A W (named 0) κ T.the-row .typed x (v ∷ []) g .0)) $ pass0 ! $
       move ! (17 ∷ []) $ fsplit ! $ move ! (1 ∷ []) $ drop ! $ move ! (1 ∷ 2 ∷ 3 ∷ 4 ∷ 5 ∷ 6 ∷ 7 ∷ 8 ∷ 9 ∷ 10 ∷ 11 ∷ 12 ∷ 13 ∷ 14 ∷ 15 ∷ 16 ∷ 17 ∷ []) $
       -- [room for _7; …; _6; …; _5; …; _4; …; _3; …; _2; …; _1; …; room for _0; …; the token; what sections owns]
-      assigns ! (of-opd ! (load ! (from ! (fld ! refl (stop !))) (look-in ! 12 (sub ! 1 refl (whole !))))) (from ! (stop !)) (init ! 2 refl (tt, record { fits = g .0 .1 .0 })) $
+      assigns ! (of-opd ! (load ! (from ! (fld ! refl (stop !))) (look-in ! 12 (sub ! 1 refl (whole !))))) (from ! (stop !))
+      (init ! 2 refl (tt, record { fits = g .0 .1 .0 })) $
       use0 W (raw (Copied 𝓤 H A mem run .pre to-copied)) (goes-copied (g .0 .1 .0)) $
       calls-at ! fm (Copied 𝓤 H A mem run) known-copied to-copied (and-then ! (load ! (from ! (stop !)) (look ! 3 refl)) (no-more !)) (λ u.
-      use1 W (later (some (λ (r : ℕ). (‵ ftrue ⊛ ‵ (usize .own r (u ∷ []))) ⊛ raw (ensured 𝓤 H A copied.ended (copied.clauses 𝓤 H A mem run) tt (length ys, tt) tt r)))) (id⊢ 𝓤 _) $ await ! tt $ pick ! (λ r.
-      split ! $ move ! (1 ∷ []) $ use1 W (raw (fact 𝓤 (r ≡ n))) (copied-said r) $ heard ! (r ≡ n) (λ e. split ! $ drop ! $ peeks ! usize (Is usize) (shows 𝓤 H A usize) r (u ∷ []) (λ is.
+      use1 W (later (some (λ (r : ℕ). (‵ ftrue ⊛ ‵ (usize .own r (u ∷ []))) ⊛ raw
+      (ensured 𝓤 H A copied.ended (copied.clauses 𝓤 H A mem run) tt (length ys, tt) tt r)))) (id⊢ 𝓤 _) $ await ! tt $ pick ! (λ r.
+      split ! $ move ! (1 ∷ []) $ use1 W (raw (fact 𝓤 (r ≡ n))) (copied-said r) $ heard ! (r ≡ n)
+      (λ e. split ! $ drop ! $ peeks ! usize (Is usize) (shows 𝓤 H A usize) r (u ∷ []) (λ is.
       land ! (from ! (stop !)) (init ! 11 refl (uint-lawful 𝓤 H A W w64 .typed r _ is .0)) $ drop ! $
       rewrite ! 10 (λ (z : Val). ‵ (fat fullShare (tyInt w64) l₂ 0 z)) (ap only (is .0) ∙ ap (vint w64) e) refl $
       begun 𝓣 fm (g .0 .1) known-at known-push l₀ l₁ l₂ l₃ l₄ l₅ l₆ l₇ known-empty))))))))))))
 
-module _ {M : Type 1} (𝓤 : URA M) (H : Heap 𝓤) (A : Atoms 𝓤) (W : Given 𝓤 H A) (mem : Memory → SProp 𝓤) (run : Routine → Fun 𝓤) (𝓣 : Tables 𝓤 H) (known-copied : Triple 𝓤 (𝓣 .C #flatten·copied) (Copied 𝓤 H A mem run)) (known-empty : Triple 𝓤 (𝓣 .C #flatten·empty) (Empty 𝓤 H A mem run)) (known-at : Triple 𝓤 (𝓣 .C #flatten·at) (At 𝓤 H A mem run)) (known-push : Triple 𝓤 (𝓣 .C #flatten·push) (Push 𝓤 H A mem run)) where
+module _ {M : Type 1} (𝓤 : URA M) (H : Heap 𝓤) (A : Atoms 𝓤) (W : Given 𝓤 H A) (mem : Memory → SProp 𝓤) (run : Routine → Fun 𝓤) (𝓣 : Tables 𝓤 H)
+    (known-copied : Triple 𝓤 (𝓣 .C #flatten·copied) (Copied 𝓤 H A mem run)) (known-empty : Triple 𝓤 (𝓣 .C #flatten·empty) (Empty 𝓤 H A mem run))
+    (known-at : Triple 𝓤 (𝓣 .C #flatten·at) (At 𝓤 H A mem run)) (known-push : Triple 𝓤 (𝓣 .C #flatten·push) (Push 𝓤 H A mem run)) where
   flat-walks : Walks 𝓤 H A f.ended stayed (WpFn 𝓤 H (𝓣 .C) (𝓣 .Λ) code.function) (f.clauses 𝓤 H A mem run)
-  flat-walks = walked 𝓤 H A f.ended stayed (f.clauses 𝓤 H A mem run) (WpFn 𝓤 H (𝓣 .C) (𝓣 .Λ) code.function) (λ κs. (slice-vals, tt)) (λ κs. (shr-slice-tells (named 0) (κs .0) T.the-row, tt))
-      (λ κs qs bounds a g are. via 𝓤 _ (fst∗ 𝓤 _ (emp 𝓤)) (walk 𝓤 H A W mem run (κs .0) (qs .0) (a .0) 𝓣 (fmOf 𝓤 H (W .laws) 𝓣) known-copied known-empty known-at known-push (are .0)))
+  flat-walks = walked 𝓤 H A f.ended stayed (f.clauses 𝓤 H A mem run) (WpFn 𝓤 H (𝓣 .C) (𝓣 .Λ) code.function) (λ κs. (slice-vals, tt))
+      (λ κs. (shr-slice-tells (named 0) (κs .0) T.the-row, tt))
+      (λ κs qs bounds a g are. via 𝓤 _ (fst∗ 𝓤 _ (emp 𝓤))
+      (walk 𝓤 H A W mem run (κs .0) (qs .0) (a .0) 𝓣 (fmOf 𝓤 H (W .laws) 𝓣) known-copied known-empty known-at known-push (are .0)))
 
   flat-meets : Meets 𝓤 H A f.signature (WpFn 𝓤 H (𝓣 .C) (𝓣 .Λ) code.function) (f.spec 𝓤 H A mem run)
-  flat-meets = walk-meets 𝓤 H A f.ended stayed W (goes-none-slice 𝓤 H A W 1 (0 ∷ []) tt (plain (λ _. T.the-row)) yes, tt) (f.clauses 𝓤 H A mem run) (WpFn 𝓤 H (𝓣 .C) (𝓣 .Λ) code.function) (WpFn-mono 𝓤 H (W .laws) 𝓣 code.function) flat-walks
+  flat-meets = walk-meets 𝓤 H A f.ended stayed W (goes-none-slice 𝓤 H A W 1 (0 ∷ []) tt (plain (λ _. T.the-row)) yes, tt) (f.clauses 𝓤 H A mem run)
+      (WpFn 𝓤 H (𝓣 .C) (𝓣 .Λ) code.function) (WpFn-mono 𝓤 H (W .laws) 𝓣 code.function) flat-walks
 
 pub flat-spec : {M : Type 1} → stated.statement M
 unfolding code.routine tablesOf

@@ -27,8 +27,10 @@ fill-grid-requires c κs =
     let q = e .before in
     let s = q .before .before .before .before .before .before in
     let a = accepted _ _ _ _ (s .pre) in
-    let p = found-passed (now (s .args .mesh)) (trianglesIn (now (s .args .mesh))) _ (s .args .floor) (s .args .r) (now (s .args .starts)) (now (s .args .members)) (now (s .args .boxes)) _ (q .before .grid-of .ensures) _ (q .refusal-of-grid .ensures) (e .if1 .left) in
-    subst⁻¹ (λ (g : Grid). Gridded (now (s .args .mesh)) (trianglesIn (now (s .args .mesh))) g × ((cellsIn g + 1 ≤ length (now (s .args .starts))) × (length (now (s .args .boxes)) ≡ trianglesIn (now (s .args .mesh)) * 5))) (q .before .grid-of .ensures)
+    let p = found-passed (now (s .args .mesh)) (trianglesIn (now (s .args .mesh))) _ (s .args .floor) (s .args .r) (now (s .args .starts))
+    (now (s .args .members)) (now (s .args .boxes)) _ (q .before .grid-of .ensures) _ (q .refusal-of-grid .ensures) (e .if1 .left) in
+    subst⁻¹ (λ (g : Grid). Gridded (now (s .args .mesh)) (trianglesIn (now (s .args .mesh))) g × ((cellsIn g + 1 ≤ length (now (s .args .starts)))
+    × (length (now (s .args .boxes)) ≡ trianglesIn (now (s .args .mesh)) * 5))) (q .before .grid-of .ensures)
     (grid-gridded _ _ _ _ a _ p, (p .room, a .five))
 
 returns-2 : tie.Need-returns-2

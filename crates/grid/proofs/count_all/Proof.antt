@@ -27,8 +27,18 @@ count-cells-requires c κs =
     let s = c .before .before .before .before .before .before in
     let l = c .before .before .before .loop in
     let lt : l .i < s .args .n = omega arith in
-    subst⁻¹ (λ (b : Cells). Fitting (s .args .g .columns) b × Countable (covers (s .args .g .columns) b) (l .starts)) (c .cells-of .ensures)
-    (fitting _ _ _ (s .pre .0) (l .i), λ k e. omega (arith, s .pre .0 .few, s .pre .1 .inside (l .i) k lt e, s .pre .1 .small (l .i) k lt e, l .inv .0 .size, l .inv .0 .each k, members-le (coverOf (now (s .args .mesh)) (s .args .g)) (l .i) k))
+    subst⁻¹ (λ (b : Cells). Fitting (s .args .g .columns) b × Countable (covers (s .args .g .columns) b) (l .starts)) (c .cells-of .ensures) (
+      fitting _ _ _ (s .pre .0) (l .i),
+      λ k e. omega (
+        arith,
+        s .pre .0 .few,
+        s .pre .1 .inside (l .i) k lt e,
+        s .pre .1 .small (l .i) k lt e,
+        l .inv .0 .size,
+        l .inv .0 .each k,
+        members-le (coverOf (now (s .args .mesh)) (s .args .g)) (l .i) k,
+      ),
+    )
 
 loop-again : tie.Need-loop-again Inv-loop μ-loop
 loop-again c =

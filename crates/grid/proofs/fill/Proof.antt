@@ -22,7 +22,8 @@ loop-holds : tie.Need-loop-holds Inv-loop μ-loop
 loop-holds c = (filled-none _ _ _ _ _ (c .before .before .before .pre .1), omega arith)
 
 cells-of-requires : tie.Need-cells-of-requires Inv-loop μ-loop
-cells-of-requires c κs = let s = c .before .before .before .before .before .before .before in (omega (arith, s .pre .0), (s .pre .0 .numbers, s .pre .0 .near _ (omega arith)))
+cells-of-requires c κs = let s = c .before .before .before .before .before .before .before in
+    (omega (arith, s .pre .0), (s .pre .0 .numbers, s .pre .0 .near _ (omega arith)))
 
 cast-place-cells : tie.Need-cast-place-cells Inv-loop μ-loop
 cast-place-cells c = let s = c .before .before .before .before .before .before .before .before in omega (arith, s .pre .0 .few)
@@ -41,8 +42,11 @@ loop-again c =
     let d = f .before in
     let s = d .before .before .before .before .before .before .before .before in
     let l = d .before .before .before .before .loop in
-    let h : l .i - 1 < s .args .n = omega arith in
-    (filled-more _ _ _ _ _ (s .pre .1) _ _ _ _ _ h (filled-as _ _ _ _ _ _ _ _ _ (omega arith) (l .inv .0)) (rw (d .cells-of .ensures) at (f .place-cells .ensures)), omega arith)
+    let h : l .i - 1 < s .args .n = omega arith in (
+      filled-more _ _ _ _ _ (s .pre .1) _ _ _ _ _ h (filled-as _ _ _ _ _ _ _ _ _ (omega arith) (l .inv .0))
+          (rw (d .cells-of .ensures) at (f .place-cells .ensures)),
+      omega arith,
+    )
 
 returns : tie.Need-returns Inv-loop μ-loop
 returns c = filled-as _ _ _ _ _ _ _ _ _ (omega arith) (c .before .loop .inv .0)

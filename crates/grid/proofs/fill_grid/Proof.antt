@@ -36,9 +36,11 @@ returns-2 c =
     let q = e .before in
     let t = q .before in
     let s = t .before .before .before .before .before in
-    filled-accepted _ _ _ _ _ _ _ _ (s .pre .0) _ _ (t .total .ensures) (q .refusal-of-members .ensures) _ _ _ _ (e .if1 .left) (c .header-of .ensures) (d .tables .ensures .0) (d .tables .ensures .1) (f .fill-boxes .ensures)
+    filled-accepted _ _ _ _ _ _ _ _ (s .pre .0) _ _ (t .total .ensures) (q .refusal-of-members .ensures) _ _ _ _ (e .if1 .left) (c .header-of .ensures)
+    (d .tables .ensures .0) (d .tables .ensures .1) (f .fill-boxes .ensures)
 
 pub fill-grid-spec : {M : Type 1} → statement M
 fill-grid-spec =
     tie.close
-    (tie.spec (λ c κs. search needs) (λ c κs. tt) (λ c κs. tt) returns tables-requires fill-boxes-requires (λ c κs. search needs) (λ c. search needs) (λ c. search needs) (λ c. search needs) returns-2)
+    (tie.spec (λ c κs. search needs) (λ c κs. tt) (λ c κs. tt) returns tables-requires fill-boxes-requires (λ c κs. search needs) (λ c. search needs)
+    (λ c. search needs) (λ c. search needs) returns-2)

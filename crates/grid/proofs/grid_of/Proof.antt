@@ -18,7 +18,8 @@ cells-along-requires-2 c κs =
 returns : tie.Need-returns
 returns c =
     let b = c .before .before .before .before in
-    grid-is _ _ _ _ _ _ (b .extent-of .ensures) (c .before .before .before .span .ensures) (c .before .before .size .ensures) _ _ (c .before .cells-along .ensures) (c .cells-along2 .ensures)
+    grid-is _ _ _ _ _ _ (b .extent-of .ensures) (c .before .before .before .span .ensures) (c .before .before .size .ensures) _ _
+    (c .before .cells-along .ensures) (c .cells-along2 .ensures)
 
 pub grid-of-spec : {M : Type 1} → statement M
 grid-of-spec = tie.close (tie.spec (λ c κs. search needs) (λ c κs. tt) (λ c κs. tt) cells-along-requires cells-along-requires-2 returns)

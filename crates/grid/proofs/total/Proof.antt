@@ -17,7 +17,10 @@ abbrev μ-loop : tie.MeasureT-loop
 μ-loop mesh n g t₀ i₀ t i = n - i
 
 cells-of-requires : tie.Need-cells-of-requires Inv-loop μ-loop
-cells-of-requires c κs = (omega (arith, c .before .before .before .pre), (c .before .before .before .pre .numbers, c .before .before .before .pre .near _ (omega arith)))
+cells-of-requires c κs = (
+  omega (arith, c .before .before .before .pre),
+  (c .before .before .before .pre .numbers, c .before .before .before .pre .near _ (omega arith)),
+)
 
 area-requires : tie.Need-area-requires Inv-loop μ-loop
 area-requires c κs =
@@ -31,7 +34,8 @@ add-t c = omega (arith, c .before .before .before .before .before .pre .few)
 loop-again : tie.Need-loop-again Inv-loop μ-loop
 loop-again c =
     let l = c .before .before .before .loop in
-    let a : c .area .result ≡ areaOf (cellsOf (now (c .before .before .before .before .before .args .mesh)) (c .before .before .before .before .before .args .g) (l .i)) = c .area .ensures .0 ∙ ap areaOf (c .before .cells-of .ensures) in
+    let a : c .area .result ≡ areaOf (cellsOf (now (c .before .before .before .before .before .args .mesh)) (c .before .before .before .before .before .args .g)
+    (l .i)) = c .area .ensures .0 ∙ ap areaOf (c .before .cells-of .ensures) in
     omega (arith, a, total-more (now (c .before .before .before .before .before .args .mesh)) (c .before .before .before .before .before .args .g) (l .i))
 
 returns : tie.Need-returns Inv-loop μ-loop
@@ -40,4 +44,5 @@ returns c = let l = c .before .loop in l .inv .0 ∙ ap (totalOf (now (c .before
 pub total-spec : {M : Type 1} → statement M
 total-spec =
     tie.close
-    (tie.spec Inv-loop μ-loop (λ c. (total-none _ _, omega arith, omega arith)) cells-of-requires area-requires add-t (λ c. omega arith) (λ c. omega arith) loop-again returns)
+    (tie.spec Inv-loop μ-loop (λ c. (total-none _ _, omega arith, omega arith)) cells-of-requires area-requires add-t (λ c. omega arith)
+    (λ c. omega arith) loop-again returns)

@@ -7,7 +7,11 @@ use Rattle.header.proofs.counts_in_ranges.Tie as tie
 
 mul-is-from : tie.Need-mul-is-from
 mul-is-from c =
-    omega (arith, few-cells _ _ (sym (c .before .before .before .is-from .ensures) ∙ c .before .before .if1 .taken) (sym (c .before .is-from2 .ensures) ∙ c .if2 .taken))
+    omega (
+      arith,
+      few-cells _ _ (sym (c .before .before .before .is-from .ensures) ∙ c .before .before .if1 .taken)
+          (sym (c .before .is-from2 .ensures) ∙ c .if2 .taken),
+    )
 
 returns : tie.Need-returns
 returns c = search (branches, bool-called)

@@ -25,7 +25,9 @@ returns-2 c =
     let s = c .before .before .before in
     let k = s .before .before in
     let d = k .before .before .before in
-    answered _ _ _ _ _ _ (d .refusal .ensures .0) _ (d .before .before .before .patch-of .ensures) (d .before .before .is-sweep .ensures) (k .before .before .if1 .left) _ _ _ (k .capsule-of .ensures) (unfold capsuleWalk in never-halts _ _ _ _ (s .before .no-limit .ensures) (s .sweep-in .ensures .0)) (s .sweep-in .ensures .1)
+    answered _ _ _ _ _ _ (d .refusal .ensures .0) _ (d .before .before .before .patch-of .ensures)
+    (d .before .before .is-sweep .ensures) (k .before .before .if1 .left) _ _ _ (k .capsule-of .ensures) (unfold capsuleWalk in
+    never-halts _ _ _ _ (s .before .no-limit .ensures) (s .sweep-in .ensures .0)) (s .sweep-in .ensures .1)
 
 pub max-height-spec : {M : Type 1} → statement M
 max-height-spec =

@@ -10,7 +10,8 @@ returns c =
 returns-2 : tie.Need-returns-2
 returns-2 c =
     let d = c .before .before .before in
-    raise-takes _ _ _ _ _ _ (d .before .before .before .box-at .ensures) (d .if1 .left) _ _ _ (c .before .before .triangle-at .ensures) (c .before .highest-above .ensures) (c .raise-by .ensures)
+    raise-takes _ _ _ _ _ _ (d .before .before .before .box-at .ensures) (d .if1 .left) _ _ _ (c .before .before .triangle-at .ensures)
+    (c .before .highest-above .ensures) (c .raise-by .ensures)
 
 pub raise-spec : {M : Type 1} → statement M
 raise-spec =

@@ -13,8 +13,11 @@ sweep-in-requires c κs =
 returns : tie.Need-returns
 unfolding sweepWalk capsuleWalk
 returns c =
-    let d = c .before .before in
-    (never-halts _ _ _ _ (d .before .no-limit .ensures) (d .sweep-in .ensures .0) ∙ (rw (d .before .before .capsule-of .ensures, d .before .before .before .before .patch-of .ensures)), d .sweep-in .ensures .1)
+    let d = c .before .before in (
+      never-halts _ _ _ _ (d .before .no-limit .ensures) (d .sweep-in .ensures .0)
+          ∙ (rw (d .before .before .capsule-of .ensures, d .before .before .before .before .patch-of .ensures)),
+      d .sweep-in .ensures .1,
+    )
 
 pub swept-height-spec : {M : Type 1} → statement M
 swept-height-spec = tie.close (tie.spec (λ c κs. tt) (λ c κs. tt) (λ c κs. tt) sweep-in-requires (λ c. search needs) returns)

@@ -25,4 +25,5 @@ returns c =
     decoded-is _ _ _ _ _ _ _ _ _ (c .before .number-at .ensures) (c .number-at2 .ensures) (d .before .before .before .before .fill .ensures) (d .fill2 .ensures)
 
 pub decoded-spec : {M : Type 1} → statement M
-decoded-spec = tie.close (tie.spec (λ c. search needs) fill-requires (λ c. search needs) (λ c. search needs) (λ c κs. search needs) number-at-requires number-at-requires-2 (λ c. search needs) (λ c. search needs) returns)
+decoded-spec = tie.close (tie.spec (λ c. search needs) fill-requires (λ c. search needs) (λ c. search needs)
+    (λ c κs. search needs) number-at-requires number-at-requires-2 (λ c. search needs) (λ c. search needs) returns)

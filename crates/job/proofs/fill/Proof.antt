@@ -44,4 +44,5 @@ returns c =
     rw (← e) (c .before .loop .inv .0)
 
 pub fill-spec : {M : Type 1} → statement M
-fill-spec = tie.close (tie.spec Inv-loop μ-loop loop-holds (λ c. omega arith) number-at-requires mul-out slice-write-out (λ c. omega arith) (λ c. omega arith) loop-again same-length returns)
+fill-spec = tie.close (tie.spec Inv-loop μ-loop loop-holds (λ c. omega arith) number-at-requires mul-out slice-write-out (λ c. omega arith)
+    (λ c. omega arith) loop-again same-length returns)

@@ -33,15 +33,20 @@ tested bytes k x b t p q e = rw (← p, ← q) e
 returns : tie.Need-returns Inv-loop μ-loop
 returns c =
     let d = c .before .before .before in
-    bad-stops _ _ (d .before .loop .k) _ (d .loop-test .taken) (tested _ _ _ _ _ (c .before .before .bits-of .ensures) (c .before .is-finite .ensures) (not-true _ (c .if1 .taken))) (d .before .loop .inv .0)
+    bad-stops _ _ (d .before .loop .k) _ (d .loop-test .taken)
+    (tested _ _ _ _ _ (c .before .before .bits-of .ensures) (c .before .is-finite .ensures) (not-true _ (c .if1 .taken))) (d .before .loop .inv .0)
 
 loop-again : tie.Need-loop-again Inv-loop μ-loop
 loop-again c =
-    let d = c .before .before .before in
-    (bad-goes _ _ (d .before .loop .k) _ (d .loop-test .taken) (tested _ _ _ _ _ (c .before .before .bits-of .ensures) (c .before .is-finite .ensures) (not-false _ (c .if1 .left))) (d .before .loop .inv .0), omega arith)
+    let d = c .before .before .before in (
+      bad-goes _ _ (d .before .loop .k) _ (d .loop-test .taken) (tested _ _ _ _ _ (c .before .before .bits-of .ensures) (c .before .is-finite .ensures)
+          (not-false _ (c .if1 .left))) (d .before .loop .inv .0),
+      omega arith,
+    )
 
 returns-2 : tie.Need-returns-2 Inv-loop μ-loop
 returns-2 c = bad-ends _ _ (c .before .loop .k) _ (omega arith) (c .before .loop .inv .0)
 
 pub first-bad-spec : {M : Type 1} → statement M
-first-bad-spec = tie.close (tie.spec Inv-loop μ-loop loop-holds (λ c κs. omega arith) (λ c κs. tt) returns (λ c. omega arith) (λ c. omega arith) loop-again returns-2)
+first-bad-spec = tie.close
+    (tie.spec Inv-loop μ-loop loop-holds (λ c κs. omega arith) (λ c κs. tt) returns (λ c. omega arith) (λ c. omega arith) loop-again returns-2)

@@ -22,7 +22,8 @@ returns-2 : tie.Need-returns-2
 returns-2 c =
     let m = c .before in
     let d = m .before .before in
-    refused-last _ _ _ _ (d .before .refusal-of-head .ensures) (d .if1 .left) _ _ _ (m .before .u32-at .ensures) (m .u32-at2 .ensures) (c .refusal-of-numbers .ensures)
+    refused-last _ _ _ _ (d .before .refusal-of-head .ensures) (d .if1 .left) _ _ _ (m .before .u32-at .ensures) (m .u32-at2 .ensures)
+    (c .refusal-of-numbers .ensures)
 
 pub refusal-spec : {M : Type 1} → statement M
 refusal-spec =

@@ -40,4 +40,5 @@ returns-5 c =
     (rw (← c .before .before .u32-at .ensures, ← c .before .u32-at2 .ensures) (c .refusal-of-counts .ensures)))))
 
 pub refusal-of-head-spec : {M : Type 1} → statement M
-refusal-of-head-spec = tie.close (tie.spec (λ c. omega arith) (λ c. omega arith) returns (λ c κs. omega arith) returns-2 (λ c κs. search needs) returns-3 (λ c. search needs) returns-4 (λ c κs. search needs) (λ c κs. search needs) (λ c κs. search needs) returns-5)
+refusal-of-head-spec = tie.close (tie.spec (λ c. omega arith) (λ c. omega arith) returns (λ c κs. omega arith) returns-2 (λ c κs. search needs) returns-3
+    (λ c. search needs) returns-4 (λ c κs. search needs) (λ c κs. search needs) (λ c κs. search needs) returns-5)

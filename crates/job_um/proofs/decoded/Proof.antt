@@ -13,4 +13,5 @@ returns c =
     (d .before .before .before .fill .ensures) (d .fill2 .ensures)
 
 pub decoded-spec : {M : Type 1} → statement M
-decoded-spec = tie.close (tie.spec (λ c. search needs) (λ c κs. search needs) (λ c. search needs) (λ c. search needs) (λ c κs. search needs) (λ c κs. omega arith) (λ c κs. omega arith) (λ c. search needs) (λ c. search needs) returns)
+decoded-spec = tie.close (tie.spec (λ c. search needs) (λ c κs. search needs) (λ c. search needs) (λ c. search needs) (λ c κs. search needs)
+    (λ c κs. omega arith) (λ c κs. omega arith) (λ c. search needs) (λ c. search needs) returns)

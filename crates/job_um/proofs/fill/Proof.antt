@@ -25,8 +25,11 @@ loop-holds c = (refl, refl, search needs)
 
 loop-again : tie.Need-loop-again Inv-loop μ-loop
 loop-again c =
-    let l = c .before .before .loop in
-    (rw (l .inv .0, again _ (c .number-at .ok), c .number-at .ensures) (filled-next _ (pos 0) _ (l .i) _ (omega arith)), simp length-set (l .inv .1), omega arith)
+    let l = c .before .before .loop in (
+      rw (l .inv .0, again _ (c .number-at .ok), c .number-at .ensures) (filled-next _ (pos 0) _ (l .i) _ (omega arith)),
+      simp length-set (l .inv .1),
+      omega arith,
+    )
 
 returns : tie.Need-returns Inv-loop μ-loop
 returns c =
@@ -36,5 +39,6 @@ returns c =
 pub fill-spec : {M : Type 1} → statement M
 fill-spec =
     tie.close
-    (tie.spec Inv-loop μ-loop loop-holds (λ c. omega arith) (λ c κs. omega arith) (λ c. omega arith) (λ c. omega arith) (λ c. omega arith) (λ c. omega arith) loop-again
+    (tie.spec Inv-loop μ-loop loop-holds (λ c. omega arith) (λ c κs. omega arith) (λ c. omega arith) (λ c. omega arith) (λ c. omega arith)
+    (λ c. omega arith) loop-again
     (λ c. c .before .loop .inv .1) returns)

@@ -27,16 +27,19 @@ decoded-requires : tie.Need-decoded-requires
 decoded-requires c κs =
     let d = c .before .before .before .before in
     let a = d .before .before .before .args in
-    ready _ (now (a .mesh)) (now (a .questions)) _ (d .before .refusal-of-head .ensures) (d .if1 .left) _ _ (c .before .before .before .u32-at .ensures) (c .before .before .u32-at2 .ensures)
+    ready _ (now (a .mesh)) (now (a .questions)) _ (d .before .refusal-of-head .ensures) (d .if1 .left) _ _ (c .before .before .before .u32-at .ensures)
+    (c .before .before .u32-at2 .ensures)
 
 returns-2 : tie.Need-returns-2
 returns-2 c =
     let d = c .before .before in
     let k = d .before .before .before in
     let b = k .before .before in
-    whole-contract _ _ _ _ (accepted-is _ _ _ _ (b .before .refusal-of-head .ensures) (b .if1 .left) _ _ _ (k .before .u32-at .ensures) (k .u32-at2 .ensures) (d .decoded .ensures))
+    whole-contract _ _ _ _ (accepted-is _ _ _ _ (b .before .refusal-of-head .ensures) (b .if1 .left) _ _ _ (k .before .u32-at .ensures)
+    (k .u32-at2 .ensures) (d .decoded .ensures))
 
 pub read-job-um-spec : {M : Type 1} → statement M
 read-job-um-spec =
     tie.close
-    (tie.spec (λ c κs. search needs) refused-requires returns u32-at-requires u32-at-requires-2 decoded-requires (λ c. search needs) (λ c. search needs) returns-2)
+    (tie.spec (λ c κs. search needs) refused-requires returns u32-at-requires u32-at-requires-2 decoded-requires (λ c. search needs)
+    (λ c. search needs) returns-2)

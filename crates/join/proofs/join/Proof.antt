@@ -15,7 +15,8 @@ clear-behind-requires c κs =
 returns-2 : tie.Need-returns-2
 returns-2 c =
     let d = c .before .before .before .before .before .before in
-    promised _ _ (joined _ _ _ _ _ (d .before .before .before .refusal .ensures) (d .before .before .if1 .left) (d .join-all .ensures .0) (d .join-all .ensures .1) (c .before .before .clear-behind .ensures))
+    promised _ _ (joined _ _ _ _ _ (d .before .before .before .refusal .ensures) (d .before .before .if1 .left) (d .join-all .ensures .0)
+    (d .join-all .ensures .1) (c .before .before .clear-behind .ensures))
 
 pub join-spec : {M : Type 1} → statement M
 join-spec =

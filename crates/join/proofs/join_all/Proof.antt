@@ -18,7 +18,13 @@ abbrev μ-loop : tie.MeasureT-loop
 μ-loop runs₀ y₀ m₀ m-end runs y m = m-end - m
 
 loop-holds : tie.Need-loop-holds Inv-loop μ-loop
-loop-holds c = (subst (λ (y : Tally). Taken (c .before .before .args .runs .now) 0 (work (c .before .before .args .runs .now) y)) (sym (c .begin .ensures)) (taken-starts _), refl, refl, omega arith)
+loop-holds c = (
+  subst (λ (y : Tally). Taken (c .before .before .args .runs .now) 0 (work (c .before .before .args .runs .now) y)) (sym (c .begin .ensures))
+      (taken-starts _),
+  refl,
+  refl,
+  omega arith,
+)
 
 run-at-requires : tie.Need-run-at-requires Inv-loop μ-loop
 run-at-requires c κs = omega arith
@@ -35,8 +41,12 @@ loop-less c = omega arith
 loop-again : tie.Need-loop-again Inv-loop μ-loop
 loop-again c =
     let d = c .before .before in
-    let l = d .before .before .before .before .before .loop in
-    (taken-goes _ (l .m) (work (l .runs) (l .y)) (l .inv .0) _ (work (d .take .last .0) (d .take .result)) (d .before .run-at .ensures) (d .take .ensures), omega arith, omega arith, omega arith)
+    let l = d .before .before .before .before .before .loop in (
+      taken-goes _ (l .m) (work (l .runs) (l .y)) (l .inv .0) _ (work (d .take .last .0) (d .take .result)) (d .before .run-at .ensures) (d .take .ensures),
+      omega arith,
+      omega arith,
+      omega arith,
+    )
 
 close-requires : tie.Need-close-requires Inv-loop μ-loop
 close-requires c κs = search needs

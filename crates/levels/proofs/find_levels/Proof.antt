@@ -38,11 +38,14 @@ unfolding levelsOf
 returns c =
     let s = c .before .before .before .before .before .before .before .before .before .before .before .before .before .before .before .before .before in
     let g = c .before .before .before .before .before .before .before .before .before .before .before .gather .ensures in
-    let t = sorted-front (s .args .mesh .now) _ (s .args .tolerance) (s .args .level-tolerance) (s .args .floor) _ _ _ _ (g .0) (g .1) (c .before .before .before .before .before .before .before .sort .ensures .0) in
+    let t = sorted-front (s .args .mesh .now) _ (s .args .tolerance) (s .args .level-tolerance) (s .args .floor) _ _ _ _ (g .0) (g .1)
+    (c .before .before .before .before .before .before .before .sort .ensures .0) in
     let e = c .before .before .collect .ensures in (
-      e .0 ∙ ap (λ (is : List ℕ). written (map fiveOf (levelsFrom (s .args .mesh .now) (s .args .boxes .now) (s .args .level-tolerance) is)) (s .args .levels .now)) t,
+      e .0 ∙ ap (λ (is : List ℕ). written (map fiveOf (levelsFrom (s .args .mesh .now) (s .args .boxes .now) (s .args .level-tolerance) is))
+          (s .args .levels .now)) t,
       e .1 ∙ ap (λ (is : List ℕ). length (levelsFrom (s .args .mesh .now) (s .args .boxes .now) (s .args .level-tolerance) is)) t,
-      sorted-whole (s .args .mesh .now) _ (s .args .tolerance) (s .args .level-tolerance) (s .args .floor) _ _ _ _ (g .0) (g .1) (c .before .before .before .before .before .before .before .sort .ensures .0),
+      sorted-whole (s .args .mesh .now) _ (s .args .tolerance) (s .args .level-tolerance) (s .args .floor) _ _ _ _ (g .0) (g .1)
+          (c .before .before .before .before .before .before .before .sort .ensures .0),
     )
 
 pub find-levels-spec : {M : Type 1} → statement M

@@ -8,7 +8,8 @@ use Rattle.lines.proofs.head_line.Tie as tie
 returns : tie.Need-returns
 unfolding headLine
 returns c =
-    let a = c .before .before .before .before .before .before .before .before .before .before .before .before .before .before .before .before .before .before .put-word .ensures in
+    let a = c .before .before .before .before .before .before .before .before .before .before .before .before .before .before .before .before .before
+    .before .put-word .ensures in
     let b = c .before .before .before .before .before .before .before .before .before .before .before .before .before .before .put-decimal .ensures in
     let d = c .before .before .before .before .before .before .before .before .before .before .put-decimal2 .ensures in
     let e = c .before .before .before .before .before .before .put-decimal3 .ensures in
@@ -16,4 +17,5 @@ returns c =
     (a then b .0 then d .0 then e .0 then f .0, omega (arith, a .ends, b .1, d .1, e .1, f .1))
 
 pub head-line-spec : {M : Type 1} → statement M
-head-line-spec = tie.close (tie.spec (λ c. search needs) (λ c κs. search needs) (λ c κs. search needs) (λ c κs. search needs) (λ c κs. search needs) (λ c κs. search needs) (λ c. search needs) returns)
+head-line-spec = tie.close (tie.spec (λ c. search needs) (λ c κs. search needs) (λ c κs. search needs) (λ c κs. search needs) (λ c κs. search needs)
+    (λ c κs. search needs) (λ c. search needs) returns)

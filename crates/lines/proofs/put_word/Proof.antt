@@ -30,4 +30,5 @@ returns : tie.Need-returns Inv-loop μ-loop
 returns c = word-ends _ _ _ (c .before .loop .i) _ (omega arith) (omega arith) (c .before .loop .inv .0)
 
 pub put-word-spec : {M : Type 1} → statement M
-put-word-spec = tie.close (tie.spec Inv-loop μ-loop loop-holds (λ c. omega arith) (λ c. omega arith) (λ c. omega arith) (λ c. omega arith) (λ c. omega arith) loop-again (λ c. omega arith) same-length returns)
+put-word-spec = tie.close (tie.spec Inv-loop μ-loop loop-holds (λ c. omega arith) (λ c. omega arith) (λ c. omega arith) (λ c. omega arith)
+    (λ c. omega arith) loop-again (λ c. omega arith) same-length returns)

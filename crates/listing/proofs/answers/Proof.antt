@@ -12,7 +12,8 @@ use Rattle.listing.proofs.answers.Tie as tie
 
 abbrev Inv-loop : tie.InvT-loop
 Inv-loop mesh h starts members boxes questions marks₀ m out₀ at stamp₀ end₀ i₀ marks out stamp end i =
-    Told out₀ out at end (answersOf (indexOf mesh h starts members boxes) questions marks₀ 0 0 m) (answersOf (indexOf mesh h starts members boxes) questions marks stamp i (m - i))
+    Told out₀ out at end (answersOf (indexOf mesh h starts members boxes) questions marks₀ 0 0 m)
+    (answersOf (indexOf mesh h starts members boxes) questions marks stamp i (m - i))
     × (i ≤ m) × (end ≤ at + 80 * i) × (length out ≡ length out₀) × (length marks ≡ length marks₀)
 
 abbrev μ-loop : tie.MeasureT-loop
@@ -27,15 +28,25 @@ asked-requires c κs = omega arith
 answer-line-requires : tie.Need-answer-line-requires Inv-loop μ-loop
 answer-line-requires c κs =
     let l = c .before .before .before .before .before .before .loop in
-    omega (arith, l .inv, c .before .before .before .before .before .loop-test .taken, c .before .before .before .before .before .before .before .before .before .before .before .before .before .before .pre)
+    omega (
+      arith,
+      l .inv,
+      c .before .before .before .before .before .loop-test .taken,
+      c .before .before .before .before .before .before .before .before .before .before .before .before .before .before .pre,
+    )
 
 loop-again : tie.Need-loop-again Inv-loop μ-loop
 loop-again c =
     let l = c .before .before .before .before .before .before .before .before .before .loop in
     let a = c .before .before .before .before .before .before .asked in
     let w = c .before .before .answer-line in
-    let t = c .before .before .before .before .before .before .before .before .loop-test .taken in
-    (told-more (l .inv .0) (answers-more _ _ _ _ _ (l .i) _ _ t (a .ensures)) (w .ensures .0), omega (arith, t), omega (arith, l .inv, w .ensures .1), w .kept .0 ∙ l .inv .3, a .kept .1 .1 .1 .1 .1 .0 ∙ l .inv .4)
+    let t = c .before .before .before .before .before .before .before .before .loop-test .taken in (
+      told-more (l .inv .0) (answers-more _ _ _ _ _ (l .i) _ _ t (a .ensures)) (w .ensures .0),
+      omega (arith, t),
+      omega (arith, l .inv, w .ensures .1),
+      w .kept .0 ∙ l .inv .3,
+      a .kept .1 .1 .1 .1 .1 .0 ∙ l .inv .4,
+    )
 
 same-length : tie.Need-same-length Inv-loop μ-loop
 same-length c = c .before .loop .inv .4
@@ -49,4 +60,5 @@ returns c =
     (told-ends (l .inv .0) (answers-end _ _ _ _ _ (l .i) (omega arith)), omega (arith, l .inv))
 
 pub answers-spec : {M : Type 1} → statement M
-answers-spec = tie.close (tie.spec Inv-loop μ-loop loop-holds asked-requires answer-line-requires (λ c. omega arith) (λ c. omega arith) loop-again same-length same-length-2 returns)
+answers-spec = tie.close (tie.spec Inv-loop μ-loop loop-holds asked-requires answer-line-requires (λ c. omega arith)
+    (λ c. omega arith) loop-again same-length same-length-2 returns)

@@ -35,15 +35,21 @@ point-at-requires c κs =
 returns : tie.Need-returns Inv-loop μ-loop
 returns c =
     let l = c .before .before .before .before .loop in
-    every-stops _ (l .p) _ _ (c .before .before .before .loop-test .taken) (failed _ _ (c .before .is-place .ensures ∙ ap isPlace (c .before .before .point-at .ensures)) (c .if1 .taken)) (l .inv .0)
+    every-stops _ (l .p) _ _ (c .before .before .before .loop-test .taken)
+    (failed _ _ (c .before .is-place .ensures ∙ ap isPlace (c .before .before .point-at .ensures)) (c .if1 .taken)) (l .inv .0)
 
 loop-again : tie.Need-loop-again Inv-loop μ-loop
 loop-again c =
-    let l = c .before .before .before .before .loop in
-    (every-goes _ (l .p) _ _ (c .before .before .before .loop-test .taken) (passed _ _ (c .before .is-place .ensures ∙ ap isPlace (c .before .before .point-at .ensures)) (c .if1 .left)) (l .inv .0), l .inv .1, omega (arith, c .before .before .before .loop-test .taken))
+    let l = c .before .before .before .before .loop in (
+      every-goes _ (l .p) _ _ (c .before .before .before .loop-test .taken) (passed _ _ (c .before .is-place .ensures ∙ ap isPlace
+          (c .before .before .point-at .ensures)) (c .if1 .left)) (l .inv .0),
+      l .inv .1,
+      omega (arith, c .before .before .before .loop-test .taken),
+    )
 
 returns-2 : tie.Need-returns-2 Inv-loop μ-loop
 returns-2 c = every-ends _ (c .before .loop .p) _ _ (omega arith) (c .before .loop .inv .0)
 
 pub are-places-spec : {M : Type 1} → statement M
-are-places-spec = tie.close (tie.spec Inv-loop μ-loop count-requires (λ c. omega arith) (λ c. omega arith) loop-holds point-at-requires (λ c κs. tt) returns (λ c. omega arith) (λ c. omega arith) loop-again returns-2)
+are-places-spec = tie.close (tie.spec Inv-loop μ-loop count-requires (λ c. omega arith) (λ c. omega arith) loop-holds point-at-requires (λ c κs. tt) returns
+    (λ c. omega arith) (λ c. omega arith) loop-again returns-2)

@@ -20,7 +20,8 @@ use Rattle.look_over.proofs.first_bad.Tie as tie
 
 abbrev Inv-loop : tie.InvT-loop
 Inv-loop bytes mesh h starts members boxes marks₀ table tolerance n reach low stamp₀ t₀ marks stamp t =
-    (verdictFrom (faultOf (indexOf mesh h starts members boxes) table tolerance) t (movesFrom bytes t (n - t)) ≡ verdictOf bytes (indexOf mesh h starts members boxes) table tolerance)
+    (verdictFrom (faultOf (indexOf mesh h starts members boxes) table tolerance) t (movesFrom bytes t (n - t))
+    ≡ verdictOf bytes (indexOf mesh h starts members boxes) table tolerance)
     × (n ≡ value count bytes)
     × (t ≤ n)
     × (reach ≡ widestOf table (sectionsIn table))
@@ -40,7 +41,8 @@ loop-holds c =
     let b = s .args .bytes .now in
     let e = c .before .before .count .ensures in
     let q : c .before .before .count .result - 0 ≡ value count b = omega (arith, e) in (
-      ap (λ (k : ℕ). verdictFrom (faultOf (indexOf (s .args .mesh .now) (s .args .h) (s .args .starts .now) (s .args .members .now) (s .args .boxes .now)) (s .args .table .now) (s .args .tolerance)) 0 (movesFrom b 0 k)) q,
+      ap (λ (k : ℕ). verdictFrom (faultOf (indexOf (s .args .mesh .now) (s .args .h) (s .args .starts .now) (s .args .members .now) (s .args .boxes .now))
+          (s .args .table .now) (s .args .tolerance)) 0 (movesFrom b 0 k)) q,
       e,
       omega arith,
       c .before .widest .ensures,
@@ -52,8 +54,10 @@ loop-holds c =
 move-at-requires : tie.Need-move-at-requires Inv-loop μ-loop
 move-at-requires c κs =
     let s = c .before .before .before .before .before .before .before .before .before .before .before .before in
-    let l = c .before .loop in
-    (omega (arith, s .pre .0 .sound .whole, l .inv .1, c .loop-test .taken), λ k h. s .pre .0 .sound .finite-all k (omega (arith, l .inv .1, c .loop-test .taken)))
+    let l = c .before .loop in (
+      omega (arith, s .pre .0 .sound .whole, l .inv .1, c .loop-test .taken),
+      λ k h. s .pre .0 .sound .finite-all k (omega (arith, l .inv .1, c .loop-test .taken)),
+    )
 
 try-move-requires : tie.Need-try-move-requires Inv-loop μ-loop
 try-move-requires c κs =
@@ -64,21 +68,27 @@ try-move-requires c κs =
 
 returns : tie.Need-returns Inv-loop μ-loop
 returns c =
-    let s = c .before .before .before .before .before .before .before .before .before .before .before .before .before .before .before .before .before .before .before in
+    let s = c .before .before .before .before .before .before .before .before .before .before .before .before .before .before .before .before
+    .before .before .before in
     let l = c .before .before .before .before .before .before .before .before .loop in
     let t = c .before .before .before .before .try-move in
-    let f = t .ensures .0 ∙ ap (faultOf (indexOf (s .args .mesh .now) (s .args .h) (s .args .starts .now) (s .args .members .now) (s .args .boxes .now)) (s .args .table .now) (s .args .tolerance)) (c .before .before .before .before .before .before .move-at .ensures) in (
-      bad-stops _ _ _ (l .t) _ (l .inv .0) _ (c .before .before .before .before .before .before .before .loop-test .taken) f (sym (c .before .is-sound .ensures) ∙ not-true _ (c .if1 .taken)),
+    let f = t .ensures .0 ∙ ap (faultOf (indexOf (s .args .mesh .now) (s .args .h) (s .args .starts .now) (s .args .members .now) (s .args .boxes .now))
+    (s .args .table .now) (s .args .tolerance)) (c .before .before .before .before .before .before .move-at .ensures) in (
+      bad-stops _ _ _ (l .t) _ (l .inv .0) _ (c .before .before .before .before .before .before .before .loop-test .taken) f (sym (c .before .is-sound .ensures)
+          ∙ not-true _ (c .if1 .taken)),
       t .ensures .1 .size ∙ sym (s .pre .2 .size),
     )
 
 loop-again : tie.Need-loop-again Inv-loop μ-loop
 loop-again c =
-    let s = c .before .before .before .before .before .before .before .before .before .before .before .before .before .before .before .before .before .before .before in
+    let s = c .before .before .before .before .before .before .before .before .before .before .before .before .before .before .before .before
+    .before .before .before in
     let l = c .before .before .before .before .before .before .before .before .loop in
     let t = c .before .before .before .before .try-move in
-    let f = t .ensures .0 ∙ ap (faultOf (indexOf (s .args .mesh .now) (s .args .h) (s .args .starts .now) (s .args .members .now) (s .args .boxes .now)) (s .args .table .now) (s .args .tolerance)) (c .before .before .before .before .before .before .move-at .ensures) in (
-      sound-goes _ _ _ (l .t) _ (l .inv .0) _ (c .before .before .before .before .before .before .before .loop-test .taken) f (sym (c .before .is-sound .ensures) ∙ not-false _ (c .if1 .left)),
+    let f = t .ensures .0 ∙ ap (faultOf (indexOf (s .args .mesh .now) (s .args .h) (s .args .starts .now) (s .args .members .now) (s .args .boxes .now))
+    (s .args .table .now) (s .args .tolerance)) (c .before .before .before .before .before .before .move-at .ensures) in (
+      sound-goes _ _ _ (l .t) _ (l .inv .0) _ (c .before .before .before .before .before .before .before .loop-test .taken) f
+          (sym (c .before .is-sound .ensures) ∙ not-false _ (c .if1 .left)),
       l .inv .1,
       omega (arith, c .before .before .before .before .before .before .before .loop-test .taken),
       l .inv .3,
@@ -93,10 +103,12 @@ returns-2 c =
     (all-ends _ _ _ (l .t) _ (l .inv .0) (omega arith), l .inv .6)
 
 same-length : tie.Need-same-length Inv-loop μ-loop
-same-length c = c .before .before .before .before .try-move .ensures .1 .size ∙ sym (c .before .before .before .before .before .before .before .before .before .before .before .before .before .before .before .before .before .before .before .pre .2 .size)
+same-length c = c .before .before .before .before .try-move .ensures .1 .size ∙ sym (c .before .before .before .before .before .before .before .before .before
+    .before .before .before .before .before .before .before .before .before .before .pre .2 .size)
 
 same-length-2 : tie.Need-same-length-2 Inv-loop μ-loop
 same-length-2 c = c .before .loop .inv .6
 
 pub first-bad-spec : {M : Type 1} → statement M
-first-bad-spec = tie.close (tie.spec Inv-loop μ-loop count-requires (λ c κs. tt) (λ c κs. tt) loop-holds (λ c. omega arith) move-at-requires try-move-requires (λ c κs. tt) same-length returns (λ c. omega arith) (λ c. omega arith) loop-again same-length-2 returns-2)
+first-bad-spec = tie.close (tie.spec Inv-loop μ-loop count-requires (λ c κs. tt) (λ c κs. tt) loop-holds (λ c. omega arith) move-at-requires try-move-requires
+    (λ c κs. tt) same-length returns (λ c. omega arith) (λ c. omega arith) loop-again same-length-2 returns-2)

@@ -16,7 +16,8 @@ returns c =
 work-requires : tie.Need-work-requires
 work-requires c κs =
     let s = c .before .before .before .before .before .before .before .before .before .before .before in
-    let r = passed (s .args .bytes .now) (indexOf (s .args .mesh .now) (s .args .h) (s .args .starts .now) (s .args .members .now) (s .args .boxes .now)) (s .args .marks .now) (s .args .table .now) (s .args .tolerance) (sym (c .before .before .refusal .ensures) ∙ c .before .if1 .left) in
+    let r = passed (s .args .bytes .now) (indexOf (s .args .mesh .now) (s .args .h) (s .args .starts .now) (s .args .members .now) (s .args .boxes .now))
+    (s .args .marks .now) (s .args .table .now) (s .args .tolerance) (sym (c .before .before .refusal .ensures) ∙ c .before .if1 .left) in
     (r .readable, r .answerable, r .size)
 
 returns-2 : tie.Need-returns-2
@@ -24,8 +25,12 @@ returns-2 c =
     let s = c .before .before .before .before .before .before .before .before .before .before .before .before .before .before in
     let ix = indexOf (s .args .mesh .now) (s .args .h) (s .args .starts .now) (s .args .members .now) (s .args .boxes .now) in
     let w = c .before .before .work .ensures in (
-      look-judged _ ix (s .args .marks .now) _ _ _ (c .before .before .before .before .before .refusal .ensures) _ _ (c .before .before .before .before .if1 .left) (w .0) (w .1),
-      ((λ z. judged-is _ ix (s .args .marks .now) _ _ _ (w .0)), own-cuts (s .args .bytes .now) ix (s .args .marks .now) (s .args .table .now) (s .args .tolerance)),
+      look-judged _ ix (s .args .marks .now) _ _ _ (c .before .before .before .before .before .refusal .ensures) _ _
+          (c .before .before .before .before .if1 .left) (w .0) (w .1),
+      (
+        (λ z. judged-is _ ix (s .args .marks .now) _ _ _ (w .0)),
+        own-cuts (s .args .bytes .now) ix (s .args .marks .now) (s .args .table .now) (s .args .tolerance),
+      ),
     )
 
 pub look-over-spec : {M : Type 1} → statement M

@@ -9,12 +9,15 @@ use Rattle.look_over.proofs.rapid.Tie as tie
 tool-ruling-requires : tie.Need-tool-ruling-requires
 tool-ruling-requires c κs =
     let s = c .before .before .before .before .before .before .before .before .before .before in
-    walk-ready (indexOf (s .args .mesh .now) (s .args .h) (s .args .starts .now) (s .args .members .now) (s .args .boxes .now)) (s .pre .0 .0 .indexed) _ _ (s .pre .0 .1) (c .before .patch-of .result) (inside _ _ _ _ _ _ _ (c .before .patch-of .ensures))
+    walk-ready (indexOf (s .args .mesh .now) (s .args .h) (s .args .starts .now) (s .args .members .now) (s .args .boxes .now)) (s .pre .0 .0 .indexed) _ _
+    (s .pre .0 .1) (c .before .patch-of .result) (inside _ _ _ _ _ _ _ (c .before .patch-of .ensures))
 
 returns : tie.Need-returns
 returns c =
     let s = c .before .before .before .before .before .before .before .before .before .before .before .before .before .before in
-    rapid-told (indexOf (s .args .mesh .now) (s .args .h) (s .args .starts .now) (s .args .members .now) (s .args .boxes .now)) (s .args .stamp) (s .args .marks .now) (s .pre .0 .1) (s .args .m) (s .pre .0 .2) (s .args .table .now) (s .pre .0 .0) (s .args .reach) (s .args .low) (s .pre .1 .0) (s .pre .1 .1)
+    rapid-told (indexOf (s .args .mesh .now) (s .args .h) (s .args .starts .now) (s .args .members .now) (s .args .boxes .now)) (s .args .stamp)
+    (s .args .marks .now) (s .pre .0 .1) (s .args .m) (s .pre .0 .2) (s .args .table .now) (s .pre .0 .0) (s .args .reach) (s .args .low)
+    (s .pre .1 .0) (s .pre .1 .1)
     _ (c .before .before .before .before .before .patch-of .ensures) _ _ _ (c .before .before .before .tool-ruling .ensures) (c .fault-of .ensures)
 
 pub rapid-spec : {M : Type 1} → statement M

@@ -11,8 +11,12 @@ first-bad-requires c κs =
 
 returns : tie.Need-returns
 returns c =
-    let f = c .before .before .before .before .before .before .first-bad .ensures in
-    (f .0, wiped-again (length (c .before .before .before .before .before .before .before .before .before .before .before .before .before .before .before .before .before .before .before .args .marks .now)) _ _ _ (c .before .before .before .before .before .before .before .before .before .before .wipe .ensures) (f .1) (c .before .before .wipe2 .ensures))
+    let f = c .before .before .before .before .before .before .first-bad .ensures in (
+      f .0,
+      wiped-again (length (c .before .before .before .before .before .before .before .before .before
+          .before .before .before .before .before .before .before .before .before .before .args .marks .now)) _ _ _
+          (c .before .before .before .before .before .before .before .before .before .before .wipe .ensures) (f .1) (c .before .before .wipe2 .ensures),
+    )
 
 pub work-spec : {M : Type 1} → statement M
 work-spec = tie.close (tie.spec (λ c κs. tt) first-bad-requires (λ c κs. tt) (λ c. search needs) returns)

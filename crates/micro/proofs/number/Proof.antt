@@ -20,4 +20,5 @@ unfolding numberOf
 returns-2 c = below-read (2147483647 - c .before .args .k) (omega arith) ∙ left _ _ _ _ (lt-leb _ _ (c .if1 .left)) refl
 
 pub number-spec : {M : Type 1} → statement M
-number-spec = tie.close (tie.spec (λ c. search needs) returns (λ c. search needs) (λ c. search needs) (λ c. below-fits (2147483647 - c .before .args .k) (omega arith)) returns-2)
+number-spec = tie.close (tie.spec (λ c. search needs) returns (λ c. search needs) (λ c. search needs)
+    (λ c. below-fits (2147483647 - c .before .args .k) (omega arith)) returns-2)

@@ -20,4 +20,5 @@ unfolding wholeOf
 returns-2 c = below-read (4294967295 - c .before .args .bits) (omega arith) ∙ left _ _ _ _ (le-ltb _ _ (c .if1 .left)) refl
 
 pub whole-spec : {M : Type 1} → statement M
-whole-spec = tie.close (tie.spec (λ c. search needs) returns (λ c. search needs) (λ c. search needs) (λ c. below-fits (4294967295 - c .before .args .bits) (omega arith)) returns-2)
+whole-spec = tie.close (tie.spec (λ c. search needs) returns (λ c. search needs) (λ c. search needs)
+    (λ c. below-fits (4294967295 - c .before .args .bits) (omega arith)) returns-2)

@@ -9,7 +9,8 @@ use Rattle.moves.proofs.approach.Tie as tie
 
 returns : tie.Need-returns
 unfolding lineOf
-returns c = c .line .ensures ∙ ap (λ (r : Run). leg (point (r .ax) (r .ay) (c .before .before .before .args .p .z)) kind.Rapid phase.Descend (c .before .before .before .args .m)) (c .before .run-at .ensures)
+returns c = c .line .ensures ∙ ap (λ (r : Run). leg (point (r .ax) (r .ay) (c .before .before .before .args .p .z)) kind.Rapid phase.Descend
+    (c .before .before .before .args .m)) (c .before .run-at .ensures)
 
 pub approach-spec : {M : Type 1} → statement M
 approach-spec = tie.close (tie.spec (λ c κs. search needs) (λ c κs. tt) returns)

@@ -19,17 +19,24 @@ loop-holds : tie.Need-loop-holds Inv-loop μ-loop
 loop-holds c = (all-starts _ _ _, omega arith)
 
 -- what the test says of run m
-tested : (c : tie.After-is-run Inv-loop μ-loop) → isRun (c .before .before .before .before .before .args .feed) (runIn (c .before .before .before .before .before .args .runs .now) (c .before .before .before .loop .m)) ≡ c .is-run .result
+tested : (c : tie.After-is-run Inv-loop μ-loop) → isRun (c .before .before .before .before .before .args .feed)
+    (runIn (c .before .before .before .before .before .args .runs .now) (c .before .before .before .loop .m)) ≡ c .is-run .result
 tested c = ap (isRun (c .before .before .before .before .before .args .feed)) (sym (c .before .run-at .ensures)) ∙ sym (c .is-run .ensures)
 
 returns : tie.Need-returns Inv-loop μ-loop
-returns c = all-fails _ _ _ _ (c .before .before .before .loop-test .taken) (tested (c .before) ∙ not-true _ (c .if1 .taken)) (c .before .before .before .before .loop .inv .0)
+returns c = all-fails _ _ _ _ (c .before .before .before .loop-test .taken) (tested (c .before) ∙ not-true _ (c .if1 .taken))
+    (c .before .before .before .before .loop .inv .0)
 
 loop-again : tie.Need-loop-again Inv-loop μ-loop
-loop-again c = (all-goes _ _ _ _ (c .before .before .before .loop-test .taken) (tested (c .before) ∙ not-false _ (c .if1 .left)) (c .before .before .before .before .loop .inv .0), omega arith)
+loop-again c = (
+  all-goes _ _ _ _ (c .before .before .before .loop-test .taken) (tested (c .before) ∙ not-false _ (c .if1 .left))
+      (c .before .before .before .before .loop .inv .0),
+  omega arith,
+)
 
 returns-2 : tie.Need-returns-2 Inv-loop μ-loop
 returns-2 c = sym (all-end _ _ (c .before .loop .m) _ (omega arith)) ∙ c .before .loop .inv .0
 
 pub are-runs-spec : {M : Type 1} → statement M
-are-runs-spec = tie.close (tie.spec Inv-loop μ-loop loop-holds (λ c κs. omega arith) (λ c κs. tt) returns (λ c. omega arith) (λ c. omega arith) loop-again returns-2)
+are-runs-spec = tie.close
+    (tie.spec Inv-loop μ-loop loop-holds (λ c κs. omega arith) (λ c κs. tt) returns (λ c. omega arith) (λ c. omega arith) loop-again returns-2)

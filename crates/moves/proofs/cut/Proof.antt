@@ -9,7 +9,8 @@ use Rattle.moves.proofs.cut.Tie as tie
 
 returns : tie.Need-returns
 unfolding lineOf
-returns c = c .line .ensures ∙ ap (λ (r : Run). leg (point (r .bx) (r .by) (r .z)) kind.Cut phase.Retract (c .before .before .before .args .m)) (c .before .run-at .ensures)
+returns c = c .line .ensures
+    ∙ ap (λ (r : Run). leg (point (r .bx) (r .by) (r .z)) kind.Cut phase.Retract (c .before .before .before .args .m)) (c .before .run-at .ensures)
 
 pub cut-spec : {M : Type 1} → statement M
 cut-spec = tie.close (tie.spec (λ c κs. search needs) (λ c κs. tt) returns)

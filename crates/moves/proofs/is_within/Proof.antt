@@ -20,7 +20,11 @@ returns-3 c = search (flags, and-on, and-off, or-on, or-off) depth 9
 
 returns-4 : tie.Need-returns-4
 unfolding isWithin
-returns-4 c = rw (sym (c .before .before .before .before .before .is-ended .ensures) ∙ c .before .before .before .before .if1 .left, le-ltb _ _ (c .before .before .if2 .left), sym (c .before .is-lift .ensures) ∙ c .if3 .left) (c .if3 .left)
+returns-4 c = rw (
+  sym (c .before .before .before .before .before .is-ended .ensures) ∙ c .before .before .before .before .if1 .left,
+  le-ltb _ _ (c .before .before .if2 .left),
+  sym (c .before .is-lift .ensures) ∙ c .if3 .left,
+) (c .if3 .left)
 
 pub is-within-spec : {M : Type 1} → statement M
 is-within-spec = tie.close (tie.spec (λ c κs. tt) returns returns-2 (λ c κs. tt) returns-3 returns-4)

@@ -9,7 +9,8 @@ use Rattle.moves.proofs.plunge.Tie as tie
 
 returns : tie.Need-returns
 unfolding lineOf
-returns c = c .line .ensures ∙ ap (λ (r : Run). leg (point (c .before .before .before .args .p .x) (c .before .before .before .args .p .y) (r .z)) kind.Plunge phase.Cut (c .before .before .before .args .m)) (c .before .run-at .ensures)
+returns c = c .line .ensures ∙ ap (λ (r : Run). leg (point (c .before .before .before .args .p .x) (c .before .before .before .args .p .y) (r .z)) kind.Plunge
+    phase.Cut (c .before .before .before .args .m)) (c .before .run-at .ensures)
 
 pub plunge-spec : {M : Type 1} → statement M
 plunge-spec = tie.close (tie.spec (λ c κs. search needs) (λ c κs. tt) returns)

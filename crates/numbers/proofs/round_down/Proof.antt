@@ -1,4 +1,5 @@
--- `numbers::round_down` meets its contract: from 2^52 on x is whole; below 1 another function answers; between, the law of masks is `cut-any` (`Rounding.antt`).
+-- `numbers::round_down` meets its contract: from 2^52 on x is whole;
+-- below 1 another function answers; between, the law of masks is `cut-any` (`Rounding.antt`).
 use mathlib.Core.Path.{_≡_, refl, ap, _∙_, subst, sym}
 use Prim.Native.Nat.{ℕ, _+_, _-_, _^_, _≤_, _<_}
 use native.Mathlib.Omega.{arith}

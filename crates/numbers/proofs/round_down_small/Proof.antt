@@ -10,7 +10,8 @@ use Rattle.numbers.proofs.Rounding.{down-zero, down-small}
 use Rattle.numbers.proofs.round_down_small.Statement.{statement}
 use Rattle.numbers.proofs.round_down_small.Tie as tie
 
-by-fields : (c : tie.Start) (s : Bool) → leb (2 ^ 63) (c .args .bits) ≡ s → c .args .x ≡ ofFields binary64 s (exponentOf (c .args .bits)) (fractionOf (c .args .bits))
+by-fields : (c : tie.Start) (s : Bool) → leb (2 ^ 63) (c .args .bits) ≡ s
+    → c .args .x ≡ ofFields binary64 s (exponentOf (c .args .bits)) (fractionOf (c .args .bits))
 by-fields c s e = c .pre .0 ∙ apart-bits (c .args .bits) s e
 
 minus-one : ofBits binary64 13830554455654793216 ≡ round binary64 true 1 1

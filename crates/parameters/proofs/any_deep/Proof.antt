@@ -19,17 +19,24 @@ loop-holds : tie.Need-loop-holds Inv-loop μ-loop
 loop-holds c = (any-starts _ _ _, omega arith)
 
 -- what the test says of level m
-tested : (c : tie.After-too-deep Inv-loop μ-loop) → tooDeep (c .before .before .before .before .before .args .p) (levelIn (c .before .before .before .before .before .args .levels .now) (c .before .before .before .loop .m)) ≡ c .too-deep .result
+tested : (c : tie.After-too-deep Inv-loop μ-loop) → tooDeep (c .before .before .before .before .before .args .p)
+    (levelIn (c .before .before .before .before .before .args .levels .now) (c .before .before .before .loop .m)) ≡ c .too-deep .result
 tested c = ap (tooDeep (c .before .before .before .before .before .args .p)) (sym (c .before .level-at .ensures)) ∙ sym (c .too-deep .ensures)
 
 returns : tie.Need-returns Inv-loop μ-loop
-returns c = any-holds _ _ _ _ (c .before .before .before .loop-test .taken) (tested (c .before) ∙ c .if1 .taken) (c .before .before .before .before .loop .inv .0)
+returns c = any-holds _ _ _ _ (c .before .before .before .loop-test .taken) (tested (c .before) ∙ c .if1 .taken)
+    (c .before .before .before .before .loop .inv .0)
 
 loop-again : tie.Need-loop-again Inv-loop μ-loop
-loop-again c = (any-goes _ _ _ _ (c .before .before .before .loop-test .taken) (tested (c .before) ∙ c .if1 .left) (c .before .before .before .before .loop .inv .0), omega arith)
+loop-again c = (
+  any-goes _ _ _ _ (c .before .before .before .loop-test .taken) (tested (c .before) ∙ c .if1 .left)
+      (c .before .before .before .before .loop .inv .0),
+  omega arith,
+)
 
 returns-2 : tie.Need-returns-2 Inv-loop μ-loop
 returns-2 c = sym (any-end _ _ (c .before .loop .m) _ (omega arith)) ∙ c .before .loop .inv .0
 
 pub any-deep-spec : {M : Type 1} → statement M
-any-deep-spec = tie.close (tie.spec Inv-loop μ-loop loop-holds (λ c κs. omega arith) (λ c κs. tt) returns (λ c. omega arith) (λ c. omega arith) loop-again returns-2)
+any-deep-spec = tie.close
+    (tie.spec Inv-loop μ-loop loop-holds (λ c κs. omega arith) (λ c κs. tt) returns (λ c. omega arith) (λ c. omega arith) loop-again returns-2)

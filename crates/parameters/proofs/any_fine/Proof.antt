@@ -10,7 +10,8 @@ use Rattle.parameters.proofs.any_fine.Statement.{statement}
 use Rattle.parameters.proofs.any_fine.Tie as tie
 
 abbrev Inv-loop : tie.InvT-loop
-Inv-loop levels count p axis r m₀ m = (anyOf (tooFine p axis r) (levelsIn levels m (count - m)) ≡ anyOf (tooFine p axis r) (levelsIn levels 0 count)) × (m ≤ count)
+Inv-loop levels count p axis r m₀ m =
+    (anyOf (tooFine p axis r) (levelsIn levels m (count - m)) ≡ anyOf (tooFine p axis r) (levelsIn levels 0 count)) × (m ≤ count)
 
 abbrev μ-loop : tie.MeasureT-loop
 μ-loop levels count p axis r m₀ m = count - m
@@ -19,17 +20,26 @@ loop-holds : tie.Need-loop-holds Inv-loop μ-loop
 loop-holds c = (any-starts _ _ _, omega arith)
 
 -- what the test says of level m
-tested : (c : tie.After-too-fine Inv-loop μ-loop) → tooFine (c .before .before .before .before .before .args .p) (c .before .before .before .before .before .args .axis) (c .before .before .before .before .before .args .r) (levelIn (c .before .before .before .before .before .args .levels .now) (c .before .before .before .loop .m)) ≡ c .too-fine .result
-tested c = ap (tooFine (c .before .before .before .before .before .args .p) (c .before .before .before .before .before .args .axis) (c .before .before .before .before .before .args .r)) (sym (c .before .level-at .ensures)) ∙ sym (c .too-fine .ensures)
+tested : (c : tie.After-too-fine Inv-loop μ-loop) → tooFine (c .before .before .before .before .before .args .p)
+    (c .before .before .before .before .before .args .axis) (c .before .before .before .before .before .args .r)
+    (levelIn (c .before .before .before .before .before .args .levels .now) (c .before .before .before .loop .m)) ≡ c .too-fine .result
+tested c = ap (tooFine (c .before .before .before .before .before .args .p) (c .before .before .before .before .before .args .axis)
+    (c .before .before .before .before .before .args .r)) (sym (c .before .level-at .ensures)) ∙ sym (c .too-fine .ensures)
 
 returns : tie.Need-returns Inv-loop μ-loop
-returns c = any-holds _ _ _ _ (c .before .before .before .loop-test .taken) (tested (c .before) ∙ c .if1 .taken) (c .before .before .before .before .loop .inv .0)
+returns c = any-holds _ _ _ _ (c .before .before .before .loop-test .taken) (tested (c .before) ∙ c .if1 .taken)
+    (c .before .before .before .before .loop .inv .0)
 
 loop-again : tie.Need-loop-again Inv-loop μ-loop
-loop-again c = (any-goes _ _ _ _ (c .before .before .before .loop-test .taken) (tested (c .before) ∙ c .if1 .left) (c .before .before .before .before .loop .inv .0), omega arith)
+loop-again c = (
+  any-goes _ _ _ _ (c .before .before .before .loop-test .taken) (tested (c .before) ∙ c .if1 .left)
+      (c .before .before .before .before .loop .inv .0),
+  omega arith,
+)
 
 returns-2 : tie.Need-returns-2 Inv-loop μ-loop
 returns-2 c = sym (any-end _ _ (c .before .loop .m) _ (omega arith)) ∙ c .before .loop .inv .0
 
 pub any-fine-spec : {M : Type 1} → statement M
-any-fine-spec = tie.close (tie.spec Inv-loop μ-loop loop-holds (λ c κs. omega arith) (λ c κs. tt) returns (λ c. omega arith) (λ c. omega arith) loop-again returns-2)
+any-fine-spec = tie.close
+    (tie.spec Inv-loop μ-loop loop-holds (λ c κs. omega arith) (λ c κs. tt) returns (λ c. omega arith) (λ c. omega arith) loop-again returns-2)

@@ -27,7 +27,8 @@ samples-requires : tie.Need-samples-requires
 samples-requires c κs = search needs
 
 returns-2 : tie.Need-returns-2
-returns-2 c = fine-samples _ _ _ _ _ _ (c .before .before .before .before .spread-of .ensures) (c .before .before .before .intervals .ensures) (c .before .before .if1 .left) _ (c .samples .ensures ∙ ap (samplesOf _) (c .before .step .ensures))
+returns-2 c = fine-samples _ _ _ _ _ _ (c .before .before .before .before .spread-of .ensures) (c .before .before .before .intervals .ensures)
+    (c .before .before .if1 .left) _ (c .samples .ensures ∙ ap (samplesOf _) (c .before .step .ensures))
 
 pub too-fine-spec : {M : Type 1} → statement M
 too-fine-spec =

@@ -16,7 +16,8 @@ returns-2 c =
     let a = d .before .before .before .before .before .before .before .before .before .before .before .before .before .before .before .before .before .args in
     let b = d .before .before .before .before .before .before .before .before .build in
     let q = c .before .before .max-height in
-    mesh-asked (a .floor) (a .radius) (now (a .starts)) (now (a .members)) (now (a .boxes)) (now (a .marks)) (a .stamp) (sweep (a .px) (a .py) (a .qx) (a .qy) (a .r)) (now (a .mesh)) (b .result) _ _ _ (b .ensures .0) (q .result) _ (d .if1 .left) (b .ensures .1) (q .ensures .0) (q .ensures .1)
+    mesh-asked (a .floor) (a .radius) (now (a .starts)) (now (a .members)) (now (a .boxes)) (now (a .marks)) (a .stamp) (sweep (a .px) (a .py) (a .qx) (a .qy)
+    (a .r)) (now (a .mesh)) (b .result) _ _ _ (b .ensures .0) (q .result) _ (d .if1 .left) (b .ensures .1) (q .ensures .0) (q .ensures .1)
 
 pub mesh-height-spec : {M : Type 1} → statement M
 mesh-height-spec =

@@ -23,7 +23,8 @@ returns-2 c =
     let a = d .before .before .before .before .before .before .before .before .before .before .before .before .args in
     let o = d .before .before .before .before .read-stl in
     let q = c .before .before .before .before .before .before .before .before .mesh-height in
-    part-asked (a .floor) (a .radius) (now (a .starts)) (now (a .members)) (now (a .boxes)) (now (a .marks)) (a .stamp) (sweep (a .px) (a .py) (a .qx) (a .qy) (a .r)) (now (a .bytes)) (now (a .mesh)) _ (o .ensures .0) (d .if1 .left) _ (q .ensures .0) (q .ensures .1)
+    part-asked (a .floor) (a .radius) (now (a .starts)) (now (a .members)) (now (a .boxes)) (now (a .marks)) (a .stamp)
+    (sweep (a .px) (a .py) (a .qx) (a .qy) (a .r)) (now (a .bytes)) (now (a .mesh)) _ (o .ensures .0) (d .if1 .left) _ (q .ensures .0) (q .ensures .1)
 
 pub part-height-spec : {M : Type 1} → statement M
 part-height-spec =

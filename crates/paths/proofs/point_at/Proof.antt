@@ -18,4 +18,5 @@ unfolding pointOf
 returns c = rw (c .before .before .number-at .ensures, c .before .number-at2 .ensures, c .number-at3 .ensures)
 
 pub point-at-spec : {M : Type 1} → statement M
-point-at-spec = tie.close (tie.spec (λ c. search needs) number-at-requires (λ c. search needs) (λ c. search needs) number-at-requires-2 (λ c. search needs) (λ c. search needs) number-at-requires-3 returns)
+point-at-spec = tie.close (tie.spec (λ c. search needs) number-at-requires (λ c. search needs) (λ c. search needs) number-at-requires-2 (λ c. search needs)
+    (λ c. search needs) number-at-requires-3 returns)

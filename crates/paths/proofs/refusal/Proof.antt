@@ -42,4 +42,5 @@ returns-5 c =
     (rw (← c .before .count .ensures) (c .refusal-of-count .ensures))))))
 
 pub refusal-spec : {M : Type 1} → statement M
-refusal-spec = tie.close (tie.spec returns (λ c κs. search needs) returns-2 (λ c κs. search needs) returns-3 (λ c. search needs) returns-4 (λ c κs. search needs) (λ c κs. tt) returns-5)
+refusal-spec = tie.close (tie.spec returns (λ c κs. search needs) returns-2 (λ c κs. search needs) returns-3 (λ c. search needs) returns-4
+    (λ c κs. search needs) (λ c κs. tt) returns-5)

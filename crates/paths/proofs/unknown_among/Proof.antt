@@ -36,4 +36,5 @@ returns-2 : tie.Need-returns-2 Inv-loop μ-loop
 returns-2 c = unknown-ends _ _ (c .before .loop .t) _ (c .before .loop .inv .0) (omega arith)
 
 pub unknown-among-spec : {M : Type 1} → statement M
-unknown-among-spec = tie.close (tie.spec Inv-loop μ-loop loop-holds (λ c. omega arith) (λ c. omega arith) (λ c. omega arith) returns (λ c. omega arith) (λ c. omega arith) loop-again returns-2)
+unknown-among-spec = tie.close (tie.spec Inv-loop μ-loop loop-holds (λ c. omega arith) (λ c. omega arith) (λ c. omega arith) returns (λ c. omega arith)
+    (λ c. omega arith) loop-again returns-2)

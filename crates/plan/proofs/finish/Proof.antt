@@ -12,8 +12,11 @@ unfolding foundOn
 returns c =
     let d = c .before .before .before .before in
     let w = d .before .before .before .before .before in
-    let y = w .before .before .before .before .before .before in
-    (d .settle .ensures ∙ finished-is _ _ _ _ _ _ (y .search-levels .ensures .0), w .wipe .ensures ∙ ap (λ (n : ℕ). replicate n 0) (y .search-levels .ensures .1))
+    let y = w .before .before .before .before .before .before in (
+      d .settle .ensures ∙ finished-is _ _ _ _ _ _ (y .search-levels .ensures .0),
+      w .wipe .ensures
+          ∙ ap (λ (n : ℕ). replicate n 0) (y .search-levels .ensures .1),
+    )
 
 pub finish-spec : {M : Type 1} → statement M
 finish-spec =

@@ -9,7 +9,8 @@ use Rattle.plan.specs.Plan.{refusalOfInput}
 use Rattle.plan.proofs.refusal.Statement.{statement}
 use Rattle.plan.proofs.refusal.Tie as tie
 
-boxed : (c : tie.Else2) → let a = c .before .before .before .before .before .before .before .before .before .args in isBoxed (now (a .mesh)) (now (a .boxes)) ≡ true
+boxed : (c : tie.Else2) → let a = c .before .before .before .before .before .before .before .before .before .args in
+    isBoxed (now (a .mesh)) (now (a .boxes)) ≡ true
 boxed c = bool-called _ _ _ (c .before .is-boxed .ensures) (not-false _ (c .if2 .left))
 
 returns : tie.Need-returns
@@ -23,7 +24,8 @@ returns-2 c = search ladder depth 9
 returns-3 : tie.Need-returns-3
 unfolding refusalOfInput
 returns-3 c =
-    demand-next _ _ _ _ (bool-called _ _ _ (c .before .before .before .before .before .is-marked .ensures) (not-false _ (c .before .before .before .before .if1 .left)))
+    demand-next _ _ _ _ (bool-called _ _ _ (c .before .before .before .before .before .is-marked .ensures)
+    (not-false _ (c .before .before .before .before .if1 .left)))
     (demand-next _ _ _ _ (boxed (c .before .before))
     (demand-here _ _ _ _ (bool-called _ _ _ (c .before .are-terms .ensures) (not-true _ (c .if3 .taken))) refl))
 
@@ -34,7 +36,8 @@ usable-whole-requires c κs = eqb-true _ _ (boxed (c .before .before))
 returns-4 : tie.Need-returns-4
 unfolding refusalOfInput
 returns-4 c =
-    demand-next _ _ _ _ (bool-called _ _ _ (c .before .before .before .before .before .before .before .is-marked .ensures) (not-false _ (c .before .before .before .before .before .before .if1 .left)))
+    demand-next _ _ _ _ (bool-called _ _ _ (c .before .before .before .before .before .before .before .is-marked .ensures)
+    (not-false _ (c .before .before .before .before .before .before .if1 .left)))
     (demand-next _ _ _ _ (boxed (c .before .before .before .before))
     (demand-next _ _ _ _ (bool-called _ _ _ (c .before .before .before .are-terms .ensures) (not-false _ (c .before .before .if3 .left)))
     (demand-here _ _ _ _ (bool-called _ _ _ (c .before .usable-whole .ensures) (not-true _ (c .if4 .taken))) refl)))
@@ -42,7 +45,8 @@ returns-4 c =
 returns-5 : tie.Need-returns-5
 unfolding refusalOfInput
 returns-5 c =
-    demand-next _ _ _ _ (bool-called _ _ _ (c .before .before .before .before .before .before .before .is-marked .ensures) (not-false _ (c .before .before .before .before .before .before .if1 .left)))
+    demand-next _ _ _ _ (bool-called _ _ _ (c .before .before .before .before .before .before .before .is-marked .ensures)
+    (not-false _ (c .before .before .before .before .before .before .if1 .left)))
     (demand-next _ _ _ _ (boxed (c .before .before .before .before))
     (demand-next _ _ _ _ (bool-called _ _ _ (c .before .before .before .are-terms .ensures) (not-false _ (c .before .before .if3 .left)))
     (demand-next _ _ _ _ (bool-called _ _ _ (c .before .usable-whole .ensures) (not-false _ (c .if4 .left))) refl)))

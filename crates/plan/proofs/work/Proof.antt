@@ -17,7 +17,8 @@ returns c =
     let v = i .before .before .before .before .before in
     let z = v .before .before .before .before .before .before .before in
     let s = z .before .before .before .before .before .before .before .before .before .before in
-    levels-refused (indexOf (s .args .mesh .now) (s .args .h) (s .args .starts .now) (s .args .members .now) (s .args .boxes .now)) (s .args .marks .now) (s .args .levels .now) (s .args .runs .now) (s .args .p) (s .args .axis)
+    levels-refused (indexOf (s .args .mesh .now) (s .args .h) (s .args .starts .now) (s .args .members .now) (s .args .boxes .now)) (s .args .marks .now)
+    (s .args .levels .now) (s .args .runs .now) (s .args .p) (s .args .axis)
     _ _ _ _ _ (s .pre .size) (z .zero .ensures .0) (z .zero .ensures .1) (v .survey .ensures) (i .if1 .taken) _ (d .give-up .ensures)
 
 finish-requires : tie.Need-finish-requires
@@ -26,7 +27,8 @@ finish-requires c κs =
     let v = i .before .before .before .before .before in
     let z = v .before .before .before .before .before .before .before in
     let s = z .before .before .before .before .before .before .before .before .before .before in
-    search-asks (indexOf (s .args .mesh .now) (s .args .h) (s .args .starts .now) (s .args .members .now) (s .args .boxes .now)) (s .args .marks .now) (s .args .levels .now) (s .args .runs .now) (s .args .p) (s .args .axis)
+    search-asks (indexOf (s .args .mesh .now) (s .args .h) (s .args .starts .now) (s .args .members .now) (s .args .boxes .now)) (s .args .marks .now)
+    (s .args .levels .now) (s .args .runs .now) (s .args .p) (s .args .axis)
     _ _ _ _ _ (s .pre .size) (z .zero .ensures .0) (z .zero .ensures .1) (v .survey .ensures) (i .if1 .left) (s .pre .askable)
 
 returns-2 : tie.Need-returns-2
@@ -36,7 +38,8 @@ returns-2 c =
     let v = i .before .before .before .before .before in
     let z = v .before .before .before .before .before .before .before in
     let s = z .before .before .before .before .before .before .before .before .before .before in
-    found-settled (indexOf (s .args .mesh .now) (s .args .h) (s .args .starts .now) (s .args .members .now) (s .args .boxes .now)) (s .args .marks .now) (s .args .levels .now) (s .args .runs .now) (s .args .p) (s .args .axis)
+    found-settled (indexOf (s .args .mesh .now) (s .args .h) (s .args .starts .now) (s .args .members .now) (s .args .boxes .now)) (s .args .marks .now)
+    (s .args .levels .now) (s .args .runs .now) (s .args .p) (s .args .axis)
     _ _ _ _ _ (s .pre .size) (z .zero .ensures .0) (z .zero .ensures .1) (v .survey .ensures) (i .if1 .left) _ _ (d .finish .ensures .0) (d .finish .ensures .1)
 
 pub work-spec : {M : Type 1} → statement M

@@ -17,7 +17,8 @@ returns-2 c = search branches
 
 returns-3 : tie.Need-returns-3
 unfolding splitsOf
-returns-3 c = left _ _ _ _ (c .before .before .if1 .left) (left _ _ _ _ (ne-eqb _ _ (c .before .if2 .left)) (ap (λ (x : Float). not (le x (c .before .before .before .args .least))) (c .length .ensures)))
+returns-3 c = left _ _ _ _ (c .before .before .if1 .left)
+    (left _ _ _ _ (ne-eqb _ _ (c .before .if2 .left)) (ap (λ (x : Float). not (le x (c .before .before .before .args .least))) (c .length .ensures)))
 
 pub splits-spec : {M : Type 1} → statement M
 splits-spec = tie.close (tie.spec returns returns-2 (λ c κs. tt) returns-3)

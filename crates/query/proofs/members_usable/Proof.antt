@@ -22,7 +22,8 @@ abbrev μ-loop : tie.MeasureT-loop
 μ-loop mesh boxes n marks stamp part recent₀ j₀ j-end recent j = j-end - j
 
 tested-requires : tie.Need-tested-requires Inv-loop μ-loop
-tested-requires c κs = let s = c .before .before .before .before .before .before .before .before .before in (s .pre .0, s .pre .1, s .pre .2, c .before .before .before .loop .inv .3)
+tested-requires c κs = let s = c .before .before .before .before .before .before .before .before .before in
+    (s .pre .0, s .pre .1, s .pre .2, c .before .before .before .loop .inv .3)
 
 returns : tie.Need-returns Inv-loop μ-loop
 returns c =
@@ -33,8 +34,14 @@ loop-again : tie.Need-loop-again Inv-loop μ-loop
 loop-again c =
     let l = c .before .before .before .before .before .before .before .loop in
     let t = c .before .before .before .tested .ensures in
-    let k = t .1 (not-false _ (c .if1 .left)) in
-    (each-goes _ _ (l .j) (omega arith) (passed _ _ (t .0) (c .if1 .left)) (l .inv .0), omega arith, omega arith, k, k .size ∙ (sym (l .inv .3 .size) ∙ l .inv .4))
+    let k = t .1 (not-false _ (c .if1 .left)) in (
+      each-goes _ _ (l .j) (omega arith) (passed _ _ (t .0) (c .if1 .left)) (l .inv .0),
+      omega arith,
+      omega arith,
+      k,
+      k .size
+          ∙ (sym (l .inv .3 .size) ∙ l .inv .4),
+    )
 
 same-length : tie.Need-same-length Inv-loop μ-loop
 same-length c = search needs

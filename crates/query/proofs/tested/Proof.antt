@@ -12,8 +12,11 @@ returns c = (not-below _ _ _ _ _ _ (c .if1 .taken), (λ e. absurd (no e)))
 
 returns-2 : tie.Need-returns-2
 returns-2 c =
-    let s = c .before .before .before .before .before .before .before .before in
-    (tested-there _ _ _ _ _ (c .before .before .before .place-of .ensures) (omega (arith, c .before .before .if1 .left)) (c .if2 .taken) (s .pre .3), (λ e. s .pre .3))
+    let s = c .before .before .before .before .before .before .before .before in (
+      tested-there _ _ _ _ _ (c .before .before .before .place-of .ensures) (omega (arith, c .before .before .if1 .left)) (c .if2 .taken)
+          (s .pre .3),
+      (λ e. s .pre .3),
+    )
 
 returns-3 : tie.Need-returns-3
 returns-3 c =
@@ -27,4 +30,5 @@ returns-4 c = (sym (sym (c .before .member-usable .ensures) ∙ c .if3 .left), (
 pub tested-spec : {M : Type 1} → statement M
 tested-spec =
     tie.close
-    (tie.spec (λ c κs. tt) returns (λ c. search needs) (λ c. omega arith) returns-2 (λ c κs. search needs) (λ c. search needs) (λ c. omega arith) (λ c. search needs) returns-3 returns-4)
+    (tie.spec (λ c κs. tt) returns (λ c. search needs) (λ c. omega arith) returns-2 (λ c κs. search needs) (λ c. search needs) (λ c. omega arith)
+    (λ c. search needs) returns-3 returns-4)

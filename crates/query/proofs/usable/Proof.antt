@@ -13,8 +13,14 @@ use Rattle.query.proofs.usable.Tie as tie
 cells-usable-requires : tie.Need-cells-usable-requires
 cells-usable-requires c κs =
     let s = c .before .before .before .before .before .before .before .before in
-    let d = headed-is _ _ _ (sym (c .before .before .head-usable .ensures) ∙ c .before .if1 .taken) in
-    (d .nine, omega (arith, d .nine, s .pre .0), s .pre .1, rows-room _ _ _ _ d (s .pre .2), omega (arith, d .nine, s .pre .0, s .pre .3), none-tested _ _ _ (omega (arith, d .ranged .few)))
+    let d = headed-is _ _ _ (sym (c .before .before .head-usable .ensures) ∙ c .before .if1 .taken) in (
+      d .nine,
+      omega (arith, d .nine, s .pre .0),
+      s .pre .1,
+      rows-room _ _ _ _ d (s .pre .2),
+      omega (arith, d .nine, s .pre .0, s .pre .3),
+      none-tested _ _ _ (omega (arith, d .ranged .few)),
+    )
 
 returns : tie.Need-returns
 returns c =

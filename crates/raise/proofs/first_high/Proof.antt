@@ -20,12 +20,16 @@ abbrev μ-loop : tie.MeasureT-loop
 returns : tie.Need-returns Inv-loop μ-loop
 returns c =
     let l = c .before .before .before .before .before .loop in
-    high-finds _ _ _ (l .inv .0) (omega arith) (sym (c .before .is-coordinate .ensures ∙ ap isCoordinate (c .before .before .lifted-at .ensures)) ∙ not-true _ (c .if1 .taken))
+    high-finds _ _ _ (l .inv .0) (omega arith) (sym (c .before .is-coordinate .ensures ∙ ap isCoordinate (c .before .before .lifted-at .ensures))
+    ∙ not-true _ (c .if1 .taken))
 
 loop-again : tie.Need-loop-again Inv-loop μ-loop
 loop-again c =
-    let l = c .before .before .before .before .before .loop in
-    (high-goes _ _ _ (l .inv .0) (omega arith) (sym (c .before .is-coordinate .ensures ∙ ap isCoordinate (c .before .before .lifted-at .ensures)) ∙ not-false _ (c .if1 .left)), omega arith)
+    let l = c .before .before .before .before .before .loop in (
+      high-goes _ _ _ (l .inv .0) (omega arith) (sym (c .before .is-coordinate .ensures ∙ ap isCoordinate (c .before .before .lifted-at .ensures))
+          ∙ not-false _ (c .if1 .left)),
+      omega arith,
+    )
 
 returns-2 : tie.Need-returns-2 Inv-loop μ-loop
 returns-2 c = high-ends _ _ (c .before .loop .k) (c .before .loop .inv .0) (omega arith)
@@ -33,4 +37,5 @@ returns-2 c = high-ends _ _ (c .before .loop .k) (c .before .loop .inv .0) (omeg
 pub first-high-spec : {M : Type 1} → statement M
 first-high-spec =
     tie.close
-    (tie.spec Inv-loop μ-loop (λ c. (high-begins _ _, omega arith)) (λ c. omega arith) (λ c. omega arith) (λ c κs. tt) (λ c κs. tt) returns (λ c. omega arith) (λ c. omega arith) loop-again returns-2)
+    (tie.spec Inv-loop μ-loop (λ c. (high-begins _ _, omega arith)) (λ c. omega arith) (λ c. omega arith) (λ c κs. tt) (λ c κs. tt) returns (λ c. omega arith)
+    (λ c. omega arith) loop-again returns-2)

@@ -28,5 +28,6 @@ returns c = let l = c .before .loop in lifting-ends _ _ (l .k) _ (l .inv .0) (om
 pub lift-spec : {M : Type 1} → statement M
 lift-spec =
     tie.close
-    (tie.spec Inv-loop μ-loop (λ c. (lifting-starts _ _, refl, omega arith, refl)) (λ c. omega arith) (λ c. omega arith) (λ c κs. tt) (λ c. omega arith) (λ c. omega arith) (λ c. omega arith) (λ c. omega arith) loop-again
+    (tie.spec Inv-loop μ-loop (λ c. (lifting-starts _ _, refl, omega arith, refl)) (λ c. omega arith) (λ c. omega arith) (λ c κs. tt) (λ c. omega arith)
+    (λ c. omega arith) (λ c. omega arith) (λ c. omega arith) loop-again
     (λ c. c .before .loop .inv .3) returns)

@@ -15,7 +15,8 @@ returns c =
     (e, raise-promise _ _ _ _ _ _ _ e)
 
 -- what an accepted call may rely on
-stands : (c : tie.Else1) → let s = c .before .before .before .before .before .before in Passed (now (s .args .mesh)) (now (s .args .boxes)) (s .args .h) (s .args .amount)
+stands : (c : tie.Else1) → let s = c .before .before .before .before .before .before in
+    Passed (now (s .args .mesh)) (now (s .args .boxes)) (s .args .h) (s .args .amount)
 stands c = passed _ _ _ _ (sym (c .before .refusal .ensures .0) ∙ c .if1 .left)
 
 top-all-requires : tie.Need-top-all-requires
@@ -35,10 +36,15 @@ header-of-requires c κs =
 
 returns-2 : tie.Need-returns-2
 returns-2 c =
-    let e = raise-accepted _ _ _ _ _ _ _ _ (c .before .before .before .before .before .before .before .before .before .before .before .before .refusal .ensures .0) (c .before .before .before .before .before .before .before .before .before .before .before .if1 .left) (c .before .before .before .before .before .before .before .before .before .lift .ensures) (c .before .before .before .before .top-all .ensures) (c .header-of .ensures) in
+    let e = raise-accepted _ _ _ _ _ _ _ _
+    (c .before .before .before .before .before .before .before .before .before .before .before .before .refusal .ensures .0)
+    (c .before .before .before .before .before .before .before .before .before .before .before .if1 .left)
+    (c .before .before .before .before .before .before .before .before .before .lift .ensures) (c .before .before .before .before .top-all .ensures)
+    (c .header-of .ensures) in
     (e, raise-promise _ _ _ _ _ _ _ e)
 
 pub raise-spec : {M : Type 1} → statement M
 raise-spec =
     tie.close
-    (tie.spec (λ c κs. tt) (λ c κs. tt) (λ c. search needs) (λ c. search needs) returns (λ c κs. tt) top-all-requires header-of-requires (λ c. search needs) (λ c. search needs) returns-2)
+    (tie.spec (λ c κs. tt) (λ c κs. tt) (λ c. search needs) (λ c. search needs) returns (λ c κs. tt) top-all-requires header-of-requires (λ c. search needs)
+    (λ c. search needs) returns-2)

@@ -40,14 +40,20 @@ boxed c = bool-called _ _ _ (c .before .is-boxed .ensures) (not-false _ (c .if3 
 
 returns-4 : tie.Need-returns-4
 unfolding toldWith
-returns-4 c =
-    (rest (c .before .before .before .before) _ (demand-next _ _ _ _ (boxed (c .before .before)) (demand-here _ _ _ _ (bool-called _ _ _ (c .before .is-coordinate .ensures) (not-true _ (c .if4 .taken))) refl)), refl)
+returns-4 c = (
+  rest (c .before .before .before .before) _ (demand-next _ _ _ _ (boxed (c .before .before))
+      (demand-here _ _ _ _ (bool-called _ _ _ (c .before .is-coordinate .ensures) (not-true _ (c .if4 .taken))) refl)),
+  refl,
+)
 
 returns-5 : tie.Need-returns-5
 returns-5 c =
     let f = c .refusal-of-index .ensures in
-    let d = c .before in
-    (rest (d .before .before .before .before) _ (demand-next _ _ _ _ (boxed (d .before .before)) (demand-next _ _ _ _ (bool-called _ _ _ (d .before .is-coordinate .ensures) (not-false _ (d .if4 .left))) (f .0))), f .1)
+    let d = c .before in (
+      rest (d .before .before .before .before) _ (demand-next _ _ _ _ (boxed (d .before .before))
+          (demand-next _ _ _ _ (bool-called _ _ _ (d .before .is-coordinate .ensures) (not-false _ (d .if4 .left))) (f .0))),
+      f .1,
+    )
 
 pub refusal-spec : {M : Type 1} → statement M
 refusal-spec = tie.close (tie.spec returns returns-2 (λ c κs. tt) returns-3 (λ c κs. tt) returns-4 (λ c κs. omega arith) returns-5)

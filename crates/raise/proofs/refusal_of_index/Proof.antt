@@ -33,7 +33,8 @@ returns-3 : tie.Need-returns-3
 unfolding refusalOfIndex toldWith
 returns-3 c = (
   demand-next _ _ _ _ (bool-called _ _ _ (c .before .before .before .before .in-ranges .ensures) (not-false _ (c .before .before .before .if1 .left)))
-      (demand-next _ _ _ _ (eq-eqb _ _ (c .before .before .if2 .left)) (demand-here _ _ _ _ (bool-called _ _ _ (c .before .all-good .ensures) (not-true _ (c .if3 .taken))) refl)),
+      (demand-next _ _ _ _ (eq-eqb _ _ (c .before .before .if2 .left))
+      (demand-here _ _ _ _ (bool-called _ _ _ (c .before .all-good .ensures) (not-true _ (c .if3 .taken))) refl)),
   refl,
 )
 
@@ -43,7 +44,8 @@ last : (c : tie.After-first-high) (k : ℕ) →
     k ≡ demand (isNowhere (firstBad (lifted (a .amount) (now (a .mesh))))) 4 0 → k ≡ refusalOfIndex (now (a .mesh)) (a .h) (a .amount)
 unfolding refusalOfIndex
 last c k e =
-    demand-next _ _ _ _ (bool-called _ _ _ (c .before .before .before .before .before .in-ranges .ensures) (not-false _ (c .before .before .before .before .if1 .left)))
+    demand-next _ _ _ _ (bool-called _ _ _ (c .before .before .before .before .before .in-ranges .ensures)
+    (not-false _ (c .before .before .before .before .if1 .left)))
     (demand-next _ _ _ _ (eq-eqb _ _ (c .before .before .before .if2 .left))
     (demand-next _ _ _ _ (bool-called _ _ _ (c .before .before .all-good .ensures) (not-false _ (c .before .if3 .left))) e))
 

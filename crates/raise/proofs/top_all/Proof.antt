@@ -25,8 +25,11 @@ loop-again c =
     let s = c .before .before .before .before .before .before .before .before .before .before .before .before in
     let b = c .before .before .before .before .before .before .box-at .ensures ∙ topping-reads _ _ _ _ (l .inv .0) in
     let z = c .before .before .before .before .top .ensures ∙ ap topOf (c .before .before .before .before .before .triangle-at .ensures) in
-    let p = c .before .before .put .ensures ∙ ap₂ (λ (x : Bounds) (y : Float). putAt (l .boxes) (l .i) (fiveOf (topped x y))) b z in
-    (subst⁻¹ (λ (t : _). Topping (now (s .args .mesh)) (l .i + 1) (now (s .args .boxes)) t) p (topping-goes _ _ _ _ (l .inv .0) (omega (arith, s .pre))), omega arith)
+    let p = c .before .before .put .ensures ∙ ap₂ (λ (x : Bounds) (y : Float). putAt (l .boxes) (l .i) (fiveOf (topped x y))) b z in (
+      subst⁻¹ (λ (t : _). Topping (now (s .args .mesh)) (l .i + 1) (now (s .args .boxes)) t) p
+          (topping-goes _ _ _ _ (l .inv .0) (omega (arith, s .pre))),
+      omega arith,
+    )
 
 returns : tie.Need-returns Inv-loop μ-loop
 returns c =
@@ -38,6 +41,7 @@ returns c =
 pub top-all-spec : {M : Type 1} → statement M
 top-all-spec =
     tie.close
-    (tie.spec Inv-loop μ-loop (λ c. (topping-none _ _, omega arith)) (λ c κs. omega (arith, c .before .before .loop .inv .0 .size, c .before .before .before .before .before .pre))
+    (tie.spec Inv-loop μ-loop (λ c. (topping-none _ _, omega arith))
+    (λ c κs. omega (arith, c .before .before .loop .inv .0 .size, c .before .before .before .before .before .pre))
     (λ c κs. omega (arith, c .before .before .before .before .before .before .pre)) (λ c κs. tt) (λ c κs. tt) (λ c. omega arith) (λ c. omega arith)
     loop-again (λ c. c .before .loop .inv .0 .size) returns)

@@ -10,7 +10,8 @@ returns c = taken _ _ _ _ (called-lt _ _ _ _ (c .before .apart-at .ensures) (c .
 
 returns-2 : tie.Need-returns-2
 unfolding stretchFrom
-returns-2 c = left _ _ _ _ (called-lt _ _ _ _ (c .before .before .before .apart-at .ensures) (c .before .before .if1 .left)) (rw (c .rim2 .ensures, c .before .rim .ensures))
+returns-2 c = left _ _ _ _ (called-lt _ _ _ _ (c .before .before .before .apart-at .ensures) (c .before .before .if1 .left))
+    (rw (c .rim2 .ensures, c .before .rim .ensures))
 
 pub stretch-from-spec : {M : Type 1} → statement M
 stretch-from-spec = tie.close (tie.spec (λ c κs. tt) returns (λ c κs. tt) (λ c κs. tt) returns-2)

@@ -11,4 +11,5 @@ abbrev μ-loop : tie.MeasureT-loop
 μ-loop seed mesh₀ x₀ i₀ mesh x i = 54 - i
 
 pub fill-spec : {M : Type 1} → statement M
-fill-spec = tie.close (tie.spec Inv-loop μ-loop (λ c. omega arith) (λ c κs. tt) (λ c κs. tt) (λ c κs. tt) (λ c. omega arith) (λ c. omega arith) (λ c. omega arith) (λ c. omega arith) (λ c. omega arith) (λ c. tt))
+fill-spec = tie.close (tie.spec Inv-loop μ-loop (λ c. omega arith) (λ c κs. tt) (λ c κs. tt) (λ c κs. tt) (λ c. omega arith) (λ c. omega arith)
+    (λ c. omega arith) (λ c. omega arith) (λ c. omega arith) (λ c. tt))

@@ -11,4 +11,5 @@ abbrev μ-loop : tie.MeasureT-loop
 μ-loop seed t₀ x₀ i₀ t x i = 33 - i
 
 pub tool-of-spec : {M : Type 1} → statement M
-tool-of-spec = tie.close (tie.spec Inv-loop μ-loop (λ c κs. tt) (λ c. omega arith) (λ c κs. tt) (λ c. omega arith) (λ c. omega arith) (λ c κs. tt) (λ c κs. tt) (λ c κs. tt) (λ c κs. tt) (λ c. omega arith) (λ c. omega arith) (λ c. omega arith) (λ c. tt))
+tool-of-spec = tie.close (tie.spec Inv-loop μ-loop (λ c κs. tt) (λ c. omega arith) (λ c κs. tt) (λ c. omega arith) (λ c. omega arith) (λ c κs. tt) (λ c κs. tt)
+    (λ c κs. tt) (λ c κs. tt) (λ c. omega arith) (λ c. omega arith) (λ c. omega arith) (λ c. tt))

@@ -18,7 +18,8 @@ returns-2 : tie.Need-returns-2
 returns-2 c =
     let d = c .before .before .before .before in
     let s = d .before .before .before in
-    members-none _ _ _ (past d) (s .pre (past d)) _ _ (c .before .before .before .total .ensures) (c .before .before .refusal-of-members .ensures) _ (c .before .if2 .taken) (c .none2 .ensures)
+    members-none _ _ _ (past d) (s .pre (past d)) _ _ (c .before .before .before .total .ensures) (c .before .before .refusal-of-members .ensures) _
+    (c .before .if2 .taken) (c .none2 .ensures)
 
 few : (c : tie.Else2) → let a = c .before .before .before .before .before .before .args in Passed (a .g .columns) (a .g .rows) 1048577
 few c = passed _ _ _ (past (c .before .before .before))

@@ -17,7 +17,8 @@ abbrev size : Float → ℕ
 size x = bitAnd (toBits binary64 x) (2 ^ 63 - 1)
 
 returns : tie.Need-returns
-returns c = let s = c .before .before in hypot-nan (s .args .x) (s .args .y) _ (one-nan (s .args .x) (s .args .y) (nan-taken _ (c .before .if1 .taken))) (c .hypot-of-nan .ensures)
+returns c = let s = c .before .before in
+    hypot-nan (s .args .x) (s .args .y) _ (one-nan (s .args .x) (s .args .y) (nan-taken _ (c .before .if1 .taken))) (c .hypot-of-nan .ensures)
 
 first : (c : tie.Else1) → Magnitude (c .before .args .x) (size (c .before .args .x))
 first c = magnitude (c .before .args .x) (subst T (sym (c .before .good .0 .1)) tt) (first-number (c .before .args .x) (c .before .args .y) (c .if1 .left))
@@ -30,7 +31,8 @@ of-sizes-requires c κs =
     let e = c .before .before in
     let x = e .before .args .x in
     let y = e .before .args .y in
-    let b = both _ _ (size x) (size y) (c .before .larger .ensures) (c .smaller .ensures) (most x y (size x) (size y) (first e)) (most y x (size y) (size x) (second e)) in
+    let b = both _ _ (size x) (size y) (c .before .larger .ensures) (c .smaller .ensures) (most x y (size x) (size y) (first e))
+    (most y x (size y) (size x) (second e)) in
     (b .0, b .1, no-nan _ (e .if1 .left))
   where
     both : (l s a b : ℕ) → l ≡ max a b → s ≡ min a b → a ≤ infiniteBits → b ≤ infiniteBits → (s ≤ l) × (l ≤ infiniteBits)

@@ -12,7 +12,8 @@ use Rattle.roots.proofs.nearest.Reads as reads
 use Rattle.roots.proofs.nearest.Lts as lts
 use Rattle.std.proofs.num.wrapping_sub_u64.Reads as wrapping-sub-u64-reads
 
-small : (c : tie.Start) → (c .args .s / 2 ^ 26 * (c .args .s / 2 ^ 26) < 2 ^ 54) × (c .args .s / 2 ^ 26 * bitAnd (c .args .s) (2 ^ 26 - 1) < 2 ^ 53) × (bitAnd (c .args .s) (2 ^ 26 - 1) * bitAnd (c .args .s) (2 ^ 26 - 1) < c .args .s)
+small : (c : tie.Start) → (c .args .s / 2 ^ 26 * (c .args .s / 2 ^ 26) < 2 ^ 54) × (c .args .s / 2 ^ 26 * bitAnd (c .args .s) (2 ^ 26 - 1) < 2 ^ 53)
+    × (bitAnd (c .args .s) (2 ^ 26 - 1) * bitAnd (c .args .s) (2 ^ 26 - 1) < c .args .s)
 small c = products (c .args .s) (bitAnd (c .args .s) (2 ^ 26 - 1)) (and-mask (c .args .s) 26) (c .pre .2) (c .pre .3)
 
 mul-wrapping-sub-u64 : tie.Need-mul-wrapping-sub-u64
@@ -30,7 +31,8 @@ sub-t c = omega (arith, small (c .before .before .before .before) .2)
 returns-3 : tie.Need-returns-3
 returns-3 c e =
     let a = c .before .before .before .before .before in
-    checked (a .args .m) (a .args .s) (bitAnd (a .args .s) (2 ^ 26 - 1)) (c .before .before .before .before .wrapping-sub-u64 .result) (c .before .before .wrapping-sub-u642 .result) (c .wrapping-sub-u643 .result)
+    checked (a .args .m) (a .args .s) (bitAnd (a .args .s) (2 ^ 26 - 1)) (c .before .before .before .before .wrapping-sub-u64 .result)
+    (c .before .before .wrapping-sub-u642 .result) (c .wrapping-sub-u643 .result)
     (and-mask (a .args .s) 26) (a .pre .2) (a .pre .3)
     (c .before .before .before .before .wrapping-sub-u64 .ensures) (c .before .before .before .if1 .left)
     (c .before .before .wrapping-sub-u642 .ensures) (c .before .if2 .left)

@@ -1,5 +1,5 @@
--- `roots::root` meets its contract: what is not below the least normal number has no sign and a leading digit (`LeastNormal.antt`), so it is m * 2 ^ e with an m
--- of 53 digits (`Fields.antt`), or an infinity.
+-- `roots::root` meets its contract: what is not below the least normal number has no sign and a leading digit (`LeastNormal.antt`), so it is m * 2 ^ e with an
+-- m of 53 digits (`Fields.antt`), or an infinity.
 use mathlib.Core.Path.{_≡_, ap, _∙_, subst, sym}
 use mathlib.Core.Bool.{false}
 use Prim.Native.Nat.{ℕ, _+_, _^_, _<_}

@@ -28,14 +28,16 @@ returns-2 c =
     let s = c .before .before in
     let b = leb (2 ^ 63) (bits s) in
     let z = magnitude-zero (bits s) (c .if2 .taken) in
-    let e = apart (s .args .x) b (held s) refl ∙ ap (λ (n : ℕ). ofFields binary64 b n (fractionOf (bits s))) (z .0) ∙ ap (λ (n : ℕ). ofFields binary64 b 0 n) (z .1) in
+    let e = apart (s .args .x) b (held s) refl ∙ ap (λ (n : ℕ). ofFields binary64 b n (fractionOf (bits s))) (z .0)
+    ∙ ap (λ (n : ℕ). ofFields binary64 b 0 n) (z .1) in
     e ∙ root-zero b ∙ ap rootOf (sym e)
 
 returns-3 : tie.Need-returns-3
 returns-3 c =
     let s = c .before .before .before in
     let e = apart (s .args .x) true (held s) (sign-set (bits s) (c .if3 .taken)) in
-    not-a-number ∙ sym (ap rootOf e ∙ root-minus-any (exponentOf (bits s)) (fractionOf (bits s)) (exponent-lt (bits s)) (magnitude-some (bits s) (c .before .if2 .left)))
+    not-a-number ∙ sym (ap rootOf e
+    ∙ root-minus-any (exponentOf (bits s)) (fractionOf (bits s)) (exponent-lt (bits s)) (magnitude-some (bits s) (c .before .if2 .left)))
 
 -- past the tests: no sign, so the exponent's field is 0 and the fraction is not
 low : (c : tie.Else3) → exponentOf (bits (c .before .before .before)) ≡ 0

@@ -1,4 +1,5 @@
--- `roots::root_of` meets its contract: `Units.antt` makes the result of the nearest root of m and half of e; a candidate passed the check, or the digits were found.
+-- `roots::root_of` meets its contract: `Units.antt` makes the result of the nearest root of m and half of e;
+-- a candidate passed the check, or the digits were found.
 use mathlib.Core.Path.{_≡_, sym, ap, _∙_, subst}
 use mathlib.Core.Logic.{inr}
 use Prim.Native.Nat.{ℕ, _+_, _*_, _/_, _%_, _^_, _≤_, _<_}
@@ -29,27 +30,35 @@ one-digit c = go _ _ (is-odd c)
     go o l e = omega arith
 
 -- the machine's m << odd
-n-is : (c : tie.After-odd) → (2 ^ 52 ≤ c .before .args .m * 2 ^ c .odd .result % 2 ^ 64) × (c .before .args .m * 2 ^ c .odd .result % 2 ^ 64 < 2 ^ 54) × (c .before .args .m * 2 ^ c .odd .result % 2 ^ 64 ≡ c .before .args .m * 2 ^ c .odd .result)
+n-is : (c : tie.After-odd) → (2 ^ 52 ≤ c .before .args .m * 2 ^ c .odd .result % 2 ^ 64) × (c .before .args .m * 2 ^ c .odd .result % 2 ^ 64 < 2 ^ 54)
+    × (c .before .args .m * 2 ^ c .odd .result % 2 ^ 64 ≡ c .before .args .m * 2 ^ c .odd .result)
 n-is c = shifted (c .before .args .m) (c .odd .result) (c .before .pre .0) (c .before .pre .1) (one-digit c)
 
 -- ---- the candidate
-passed : (c : tie.Then1) → Nearest (c .before .before .before .before .before .args .m * 2 ^ c .before .before .before .before .odd .result * 2 ^ 52) (c .before .before .candidate .result)
-passed c = subst (λ (n : ℕ). Nearest (n * 2 ^ 52) (c .before .before .candidate .result)) (n-is (c .before .before .before .before) .2) (c .before .nearest .ensures (c .if1 .taken))
+passed : (c : tie.Then1) → Nearest (c .before .before .before .before .before .args .m * 2 ^ c .before .before .before .before .odd .result * 2 ^ 52)
+    (c .before .before .candidate .result)
+passed c = subst (λ (n : ℕ). Nearest (n * 2 ^ 52) (c .before .before .candidate .result)) (n-is (c .before .before .before .before) .2)
+    (c .before .nearest .ensures (c .if1 .taken))
 
 add-result : tie.Need-add-result
 add-result c =
     let s = c .before .before .before .before .before in
-    record { fits = bits-fit (s .args .m) (s .args .e) _ _ _ (s .pre .0) (s .pre .1) (s .pre .2) (is-odd (c .before .before .before .before)) (is-half (c .before .before .before)) (passed c) }
+    record {
+      fits = bits-fit (s .args .m) (s .args .e) _ _ _ (s .pre .0) (s .pre .1) (s .pre .2) (is-odd (c .before .before .before .before))
+          (is-half (c .before .before .before)) (passed c);
+    }
 
 float-from-bits-result : tie.Need-float-from-bits-result
 float-from-bits-result c =
     let s = c .before .before .before .before .before in
-    bits-no-nan (s .args .m) (s .args .e) _ _ _ (s .pre .0) (s .pre .1) (s .pre .2) (is-odd (c .before .before .before .before)) (is-half (c .before .before .before)) (passed c)
+    bits-no-nan (s .args .m) (s .args .e) _ _ _ (s .pre .0) (s .pre .1) (s .pre .2) (is-odd (c .before .before .before .before))
+    (is-half (c .before .before .before)) (passed c)
 
 returns : tie.Need-returns
 returns c =
     let s = c .before .before .before .before .before in
-    bits-root (s .args .m) (s .args .e) _ _ _ (s .pre .0) (s .pre .1) (s .pre .2) (is-odd (c .before .before .before .before)) (is-half (c .before .before .before)) (passed c)
+    bits-root (s .args .m) (s .args .e) _ _ _ (s .pre .0) (s .pre .1) (s .pre .2) (is-odd (c .before .before .before .before))
+    (is-half (c .before .before .before)) (passed c)
 
 -- ---- the digits
 low : (e : ℤ) → Exponent e → lifted e / 2 ≤ 2044

@@ -26,7 +26,8 @@ same-length : tie.Need-same-length
 same-length c = search needs
 
 returns-2 : tie.Need-returns-2
-returns-2 c = closed-is _ _ _ _ _ (not-false _ (c .before .before .before .before .before .before .before .before .if1 .left)) (c .before .before .before .before .put .ensures) (c .before .before .before .before .before .before .on-to .ensures) (c .before .length .ensures)
+returns-2 c = closed-is _ _ _ _ _ (not-false _ (c .before .before .before .before .before .before .before .before .if1 .left))
+    (c .before .before .before .before .put .ensures) (c .before .before .before .before .before .before .on-to .ensures) (c .before .length .ensures)
 
 pub close-spec : {M : Type 1} → statement M
 close-spec =

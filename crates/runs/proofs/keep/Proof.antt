@@ -19,7 +19,8 @@ lengthen-requires c κs = search needs
 
 returns : tie.Need-returns
 unfolding keptBy
-returns c = taken _ _ _ _ (bool-called _ _ _ (c .before .before .joins .ensures) (c .before .if1 .taken)) (ap (work (c .before .before .before .before .args .runs .now)) (c .lengthen .ensures))
+returns c = taken _ _ _ _ (bool-called _ _ _ (c .before .before .joins .ensures) (c .before .if1 .taken))
+    (ap (work (c .before .before .before .before .args .runs .now)) (c .lengthen .ensures))
 
 close-requires : tie.Need-close-requires
 close-requires c κs = search needs
@@ -31,7 +32,14 @@ returns-2 : tie.Need-returns-2
 unfolding keptBy
 returns-2 c =
     left _ _ _ _ (bool-called _ _ _ (c .before .before .before .before .before .joins .ensures) (c .before .before .before .before .if1 .left))
-    (ap (λ (w : Work). work (w .table) (record { some = true; last = c .before .before .before .before .before .before .before .args .r; count = w .tally .count; cut = w .tally .cut; dropped = w .tally .dropped })) (c .before .before .close .ensures))
+    (ap (λ (w : Work). work (w .table) (record {
+      some = true;
+      last = c .before .before .before .before .before .before .before .args .r;
+      count =
+          w .tally .count;
+      cut = w .tally .cut;
+      dropped = w .tally .dropped;
+    })) (c .before .before .close .ensures))
 
 pub keep-spec : {M : Type 1} → statement M
 keep-spec =

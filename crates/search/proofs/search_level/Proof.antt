@@ -20,8 +20,13 @@ search-rows-requires c κs =
 returns : tie.Need-returns
 returns c =
     let d = c .before .before .before .before in
-    let g = d .before .before .before in
-    (level-there _ _ _ _ _ _ (g .header-for .ensures .0) _ _ _ _ _ _ _ _ (g .before .before .before .before .before .aim-of .ensures) (g .header-for .ensures .1 _ _) (d .search-rows .ensures .0), marks-there _ _ _ _ (ap (λ (k : Header). k .n) (g .header-for .ensures .0)) (d .search-rows .ensures .1))
+    let g = d .before .before .before in (
+      level-there _ _ _ _ _ _ (g .header-for .ensures .0) _ _ _ _ _ _ _ _ (g .before .before .before .before .before .aim-of .ensures)
+          (g .header-for .ensures .1
+          _ _) (d .search-rows .ensures .0),
+      marks-there _ _ _ _ (ap (λ (k : Header). k .n) (g .header-for .ensures .0)) (d .search-rows .ensures .1),
+    )
 
 pub search-level-spec : {M : Type 1} → statement M
-search-level-spec = tie.close (tie.spec (λ c κs. tt) (λ c κs. tt) (λ c κs. tt) header-for-requires search-rows-requires (λ c. search needs) (λ c. search needs) returns)
+search-level-spec = tie.close
+    (tie.spec (λ c κs. tt) (λ c κs. tt) (λ c κs. tt) header-for-requires search-rows-requires (λ c. search needs) (λ c. search needs) returns)

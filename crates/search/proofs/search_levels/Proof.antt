@@ -24,10 +24,20 @@ abbrev μ-loop : tie.MeasureT-loop
 μ-loop mesh h starts members boxes marks₀ runs₀ p axis levels count s₀ m₀ marks runs s m = count - m
 
 loop-holds : tie.Need-loop-holds Inv-loop μ-loop
-loop-holds c = (sweeping-starts _ _ _ _ _ _ _ _ (c .before .before .before .before .before .before .before .before .pre .4), c .before .before .before .before .before .before .before .before .pre .1, omega arith, refl, refl)
+loop-holds c = (
+  sweeping-starts _ _ _ _ _ _ _ _ (c .before .before .before .before .before .before .before .before .pre .4),
+  c .before .before .before .before .before .before .before .before .pre .1,
+  omega arith,
+  refl,
+  refl,
+)
 
 level-at-requires : tie.Need-level-at-requires Inv-loop μ-loop
-level-at-requires c κs = omega (arith, c .before .before .loop-test .taken, c .before .before .before .before .before .before .before .before .before .before .before .before .pre .2)
+level-at-requires c κs = omega (
+  arith,
+  c .before .before .loop-test .taken,
+  c .before .before .before .before .before .before .before .before .before .before .before .before .pre .2,
+)
 
 search-level-requires : tie.Need-search-level-requires Inv-loop μ-loop
 search-level-requires c κs =
@@ -42,16 +52,33 @@ search-level-requires c κs =
 loop-again : tie.Need-loop-again Inv-loop μ-loop
 loop-again c =
     let l = c .before .before .before .before .before .before .before .before .before .loop in
-    let e = c .before .before .before .before .search-level .ensures in
-    (sweeping-goes _ _ _ _ _ _ _ _ _ _ _ _ (c .before .before .before .before .before .before .before .before .loop-test .taken) (l .inv .0) (c .before .before .before .before .before .level-at .ensures) _ _ (e .0), e .1, omega (arith, c .before .before .before .before .before .before .before .before .loop-test .taken), search needs, search needs)
+    let e = c .before .before .before .before .search-level .ensures in (
+      sweeping-goes _ _ _ _ _ _ _ _ _ _ _ _ (c .before .before .before .before .before .before .before .before .loop-test .taken)
+          (l .inv .0) (c .before .before .before .before .before .level-at .ensures) _ _ (e .0),
+      e .1,
+      omega (arith, c .before .before .before .before .before .before .before .before .loop-test .taken),
+      search needs,
+      search needs,
+    )
 
 returns : tie.Need-returns Inv-loop μ-loop
 returns c =
     let l = c .before .before .before .before .before .before .before .loop in
-    let e = sweeping-ends _ _ _ _ _ _ _ _ _ (l .m) _ (omega (arith, c .before .before .before .before .before .before .loop-test .left)) (l .inv .0) in
-    (searched _ _ _ _ _ _ _ (c .before .before .before .before .before .before .before .before .begin .ensures) e (c .before .before .close .ensures), l .inv .1 .size)
+    let e = sweeping-ends _ _ _ _ _ _ _ _ _ (l .m) _ (omega (arith, c .before .before .before .before .before .before .loop-test .left)) (l .inv .0) in (
+      searched _ _ _ _ _ _ _ (c .before .before .before .before .before .before .before .before .begin .ensures) e
+          (c .before .before .close .ensures),
+      l .inv .1 .size,
+    )
 
 pub search-levels-spec : {M : Type 1} → statement M
 search-levels-spec =
     tie.close
-    (tie.spec Inv-loop μ-loop (λ c κs. tt) loop-holds level-at-requires search-level-requires (λ c. omega (arith, c .before .before .before .before .before .before .before .before .loop-test .taken, c .before .before .before .before .before .before .before .before .before .before .before .before .before .before .before .before .before .before .pre .3)) (λ c. omega (arith, c .before .before .before .before .before .before .before .before .loop-test .taken)) loop-again (λ c κs. tt) (λ c. search needs) (λ c. search needs) returns)
+    (tie.spec Inv-loop μ-loop (λ c κs. tt) loop-holds level-at-requires search-level-requires
+    (λ c. omega (
+      arith,
+      c .before .before .before .before .before .before .before .before .loop-test .taken,
+      c .before .before .before
+          .before .before .before .before .before .before .before .before .before .before .before .before .before .before .before .pre .3,
+    ))
+    (λ c. omega (arith, c .before .before .before .before .before .before .before .before .loop-test .taken)) loop-again (λ c κs. tt)
+    (λ c. search needs) (λ c. search needs) returns)

@@ -18,4 +18,5 @@ returns c =
     (c .edge3 .ensures ∙ ap (on _) (c .before .edge-ca .ensures))
 
 pub edges-spec : {M : Type 1} → statement M
-edges-spec = tie.close (tie.spec (λ c κs. tt) (λ c κs. c .before .pre) (λ c κs. tt) (λ c κs. c .before .before .before .pre) (λ c κs. tt) (λ c κs. c .before .before .before .before .before .pre) returns)
+edges-spec = tie.close (tie.spec (λ c κs. tt) (λ c κs. c .before .pre) (λ c κs. tt) (λ c κs. c .before .before .before .pre) (λ c κs. tt)
+    (λ c κs. c .before .before .before .before .before .pre) returns)

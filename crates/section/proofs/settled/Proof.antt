@@ -10,12 +10,18 @@ use Rattle.section.proofs.settled.Tie as tie
 returns : tie.Need-returns
 returns c =
     let a = c .before .before .before .before .args in
-    λ e. (c .before .before .before .looks .ensures (c .before .before .if1 .taken), inl (subst (λ (v : Float). le v (a .m) ≡ true) (c .before .cap-on .ensures) (c .if2 .taken)))
+    λ e. (
+      c .before .before .before .looks .ensures (c .before .before .if1 .taken),
+      inl (subst (λ (v : Float). le v (a .m) ≡ true) (c .before .cap-on .ensures) (c .if2 .taken)),
+    )
 
 returns-2 : tie.Need-returns-2
 returns-2 c =
     let a = c .before .before .before .before .args in
-    λ e. (c .before .before .before .looks .ensures (c .before .before .if1 .taken), inr (subst (λ (v : Float). le (v ⊕ a .more) (a .limit) ≡ true) (c .before .cap-on .ensures) e))
+    λ e. (
+      c .before .before .before .looks .ensures (c .before .before .if1 .taken),
+      inr (subst (λ (v : Float). le (v ⊕ a .more) (a .limit) ≡ true) (c .before .cap-on .ensures) e),
+    )
 
 returns-3 : tie.Need-returns-3
 returns-3 c = λ e. absurd (no e)

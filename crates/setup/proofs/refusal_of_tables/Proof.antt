@@ -17,7 +17,8 @@ patch-of-requires c κs =
 cells-usable-requires : tie.Need-cells-usable-requires
 cells-usable-requires c κs =
     let s = c .before .before .before .before in
-    tables-ask (indexOf (now (s .args .mesh)) (s .args .h) (now (s .args .starts)) (now (s .args .members))) (now (s .args .marks)) (s .args .stamp) (s .args .w) _ (c .patch-of .ensures)
+    tables-ask (indexOf (now (s .args .mesh)) (s .args .h) (now (s .args .starts)) (now (s .args .members))) (now (s .args .marks)) (s .args .stamp)
+    (s .args .w) _ (c .patch-of .ensures)
     (headed-is _ _ _ (s .pre .1)) (s .pre .0)
 
 returns : tie.Need-returns

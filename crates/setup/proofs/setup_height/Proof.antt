@@ -27,7 +27,8 @@ returns-2 c =
     let r = w .before in
     let n = r .before .before .before .before in
     let e = n .before .before in
-    let o = answered _ _ _ _ _ (e .before .refusal .ensures) (e .if1 .left) _ _ _ _ _ (n .next-stamp .ensures .1) (n .next-stamp .ensures .0) (r .reach-of .ensures .0) (w .walk-from .ensures .0) in
+    let o = answered _ _ _ _ _ (e .before .refusal .ensures) (e .if1 .left) _ _ _ _ _ (n .next-stamp .ensures .1) (n .next-stamp .ensures .0)
+    (r .reach-of .ensures .0) (w .walk-from .ensures .0) in
     ((o, w .walk-from .ensures .1 .height), setup-promise _ _ _ _ _ _ o)
 
 pub setup-height-spec : {M : Type 1} → statement M

@@ -20,9 +20,11 @@ returns-2 c =
 returns-3 : tie.Need-returns-3
 returns-3 c =
     let d = c .before .before in
-    span-some _ _ _ _ _ _ _ (ap (λ (x : ℕ). x / d .before .before .args .cell) (d .beyond .ensures)) (d .before .if1 .left) _ (c .one-past .ensures) (c .before .if2 .left)
+    span-some _ _ _ _ _ _ _ (ap (λ (x : ℕ). x / d .before .before .args .cell) (d .beyond .ensures)) (d .before .if1 .left) _
+    (c .one-past .ensures) (c .before .if2 .left)
 
 pub span-of-spec : {M : Type 1} → statement M
 span-of-spec =
     tie.close
-    (tie.spec (λ c. search needs) returns (λ c. search needs) (λ c κs. search needs) (λ c. search needs) returns-2 (λ c. search needs) (λ c. search needs) (λ c. search needs) (λ c κs. search needs) returns-3)
+    (tie.spec (λ c. search needs) returns (λ c. search needs) (λ c κs. search needs) (λ c. search needs) returns-2 (λ c. search needs) (λ c. search needs)
+    (λ c. search needs) (λ c κs. search needs) returns-3)

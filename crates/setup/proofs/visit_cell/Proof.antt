@@ -34,8 +34,12 @@ look-at-requires c κs =
 loop-again : tie.Need-loop-again Inv-loop μ-loop
 loop-again c =
     let l = c .before .before .before .before .before .before .loop in
-    let a = look-at-requires (c .before .before .before) (c .before .before .look-at .lifetimes) in
-    (member-turns (l .j) (omega arith) (look-keeps _ _ _ _ (a .1)) (l .inv .0) (c .before .before .look-at .ensures .0), omega arith, omega arith, c .before .before .look-at .ensures .1)
+    let a = look-at-requires (c .before .before .before) (c .before .before .look-at .lifetimes) in (
+      member-turns (l .j) (omega arith) (look-keeps _ _ _ _ (a .1)) (l .inv .0) (c .before .before .look-at .ensures .0),
+      omega arith,
+      omega arith,
+      c .before .before .look-at .ensures .1,
+    )
 
 same-length : tie.Need-same-length Inv-loop μ-loop
 same-length c = c .before .loop .inv .0 .kept .size

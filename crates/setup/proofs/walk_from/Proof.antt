@@ -10,8 +10,13 @@ patch-of-requires c κs = let p = c .before .before .before .before .pre in (p .
 
 visit-requires : tie.Need-visit-requires
 visit-requires c κs =
-    let s = c .before .before .before .before .before in
-    (s .pre .0, rw (c .patch-of .ensures) (s .pre .7), omega (arith, unmarked-length (s .args .stamp) (now (s .args .marks)), s .pre .1), record { met = omega arith; height = s .pre .2 }, s .pre .3)
+    let s = c .before .before .before .before .before in (
+      s .pre .0,
+      rw (c .patch-of .ensures) (s .pre .7),
+      omega (arith, unmarked-length (s .args .stamp) (now (s .args .marks)), s .pre .1),
+      record { met = omega arith; height = s .pre .2 },
+      s .pre .3,
+    )
 
 returns : tie.Need-returns
 returns c = let d = c .before .before in (rw (d .before .patch-of .ensures) at (d .visit .ensures .0), d .visit .ensures .1)

@@ -13,15 +13,19 @@ put-requires-2 : tie.Need-put-requires-2
 put-requires-2 c κs = let a = c .before .before .before .before .before .before .before .args in omega (arith, sections-length (a .b) (now (a .holders)))
 
 put-requires-3 : tie.Need-put-requires-3
-put-requires-3 c κs = let a = c .before .before .before .before .before .before .before .before .before .before .before .args in omega (arith, sections-length (a .b) (now (a .holders)))
+put-requires-3 c κs = let a = c .before .before .before .before .before .before .before .before .before .before .before .args in
+    omega (arith, sections-length (a .b) (now (a .holders)))
 
 put-holders-requires : tie.Need-put-holders-requires
-put-holders-requires c κs = let a = c .before .before .before .before .before .before .before .before .before .before .before .before .before .before .before .args in omega (arith, sections-length (a .b) (now (a .holders)))
+put-holders-requires c κs = let a =
+    c .before .before .before .before .before .before .before .before .before .before .before .before .before .before .before .args in
+    omega (arith, sections-length (a .b) (now (a .holders)))
 
 returns : tie.Need-returns
 unfolding sectionsOf
 returns c =
-    let a = c .before .before .before .before .before .before .before .before .before .before .before .before .before .before .before .before .before .before .args in
+    let a = c .before .before .before .before .before .before .before .before .before .before .before .before .before .before .before
+    .before .before .before .args in
     let h = c .before .before in
     let k = h .before .before .before .before in
     let j = k .before .before .before .before in

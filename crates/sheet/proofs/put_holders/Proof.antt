@@ -35,4 +35,5 @@ returns c =
     (refl, rw (← e) (l .inv .0))
 
 pub put-holders-spec : {M : Type 1} → statement M
-put-holders-spec = tie.close (tie.spec Inv-loop μ-loop loop-holds (λ c κs. omega arith) (λ c. omega arith) (λ c κs. omega arith) (λ c. omega arith) (λ c. omega arith) loop-again (λ c. omega arith) (λ c. c .before .loop .inv .1) returns)
+put-holders-spec = tie.close (tie.spec Inv-loop μ-loop loop-holds (λ c κs. omega arith) (λ c. omega arith) (λ c κs. omega arith) (λ c. omega arith)
+    (λ c. omega arith) loop-again (λ c. omega arith) (λ c. c .before .loop .inv .1) returns)

@@ -28,8 +28,10 @@ returns-5 c = rw (c .match .keys5) (refl, refl)
 returns-6 : tie.Need-returns-6
 unfolding shapeNumber shapeFrom
 returns-6 c =
-    let r = c .match .rest in
-    (rw (ne-eqb _ 0 (r .0 .0 .0 .0 .1), ne-eqb _ 1 (r .0 .0 .0 .1), ne-eqb _ 2 (r .0 .0 .1), ne-eqb _ 3 (r .0 .1), ne-eqb _ 4 (r .1)), omega (arith, r .0 .0 .0 .0 .1, r .0 .0 .0 .1, r .0 .0 .1, r .0 .1, r .1))
+    let r = c .match .rest in (
+      rw (ne-eqb _ 0 (r .0 .0 .0 .0 .1), ne-eqb _ 1 (r .0 .0 .0 .1), ne-eqb _ 2 (r .0 .0 .1), ne-eqb _ 3 (r .0 .1), ne-eqb _ 4 (r .1)),
+      omega (arith, r .0 .0 .0 .0 .1, r .0 .0 .0 .1, r .0 .0 .1, r .0 .1, r .1),
+    )
 
 pub shape-from-spec : {M : Type 1} → statement M
 shape-from-spec = tie.close (tie.spec returns returns-2 returns-3 returns-4 returns-5 returns-6)

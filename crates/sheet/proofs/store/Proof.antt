@@ -18,4 +18,5 @@ returns : tie.Need-returns
 returns c = placed-one _ _ _ (omega arith)
 
 pub store-spec : {M : Type 1} → statement M
-store-spec = tie.close (tie.spec (λ c. search needs) (λ c. search needs) (λ c. search needs) (λ c. search needs) (λ c. search needs) slice-write-sections-2 (λ c. search needs) (λ c. search needs) slice-write-sections-3 (λ c. search needs) (λ c. search needs) slice-write-sections-4 (λ c. search needs) returns)
+store-spec = tie.close (tie.spec (λ c. search needs) (λ c. search needs) (λ c. search needs) (λ c. search needs) (λ c. search needs) slice-write-sections-2
+    (λ c. search needs) (λ c. search needs) slice-write-sections-3 (λ c. search needs) (λ c. search needs) slice-write-sections-4 (λ c. search needs) returns)

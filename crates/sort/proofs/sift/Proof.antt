@@ -32,23 +32,32 @@ later-requires c κs =
     let s = c .before .before .before .before .before in
     (s .pre .0, (within-kept _ _ _ _ (s .pre .1 .0 .0) (c .before .before .loop .inv .moved), c .before .loop-test .taken))
 
-next : (c : tie.After-later Inv-loop μ-loop) → Later (before (c .before .before .before .before .before .before .args .mesh .now)) (c .before .before .before .loop .list) (c .before .before .before .loop .i) (c .before .before .before .before .before .before .args .e) (c .later .result)
-next c = later-is _ (before-strict _ (c .before .before .before .before .before .shared-slice-known .given)) _ _ _ _ (c .before .before .loop-test .taken) (c .later .ensures)
+next : (c : tie.After-later Inv-loop μ-loop)
+    → Later (before (c .before .before .before .before .before .before .args .mesh .now)) (c .before .before .before .loop .list)
+    (c .before .before .before .loop .i) (c .before .before .before .before .before .before .args .e) (c .later .result)
+next c = later-is _ (before-strict _ (c .before .before .before .before .before .shared-slice-known .given)) _ _ _ _
+    (c .before .before .loop-test .taken) (c .later .ensures)
 
 stands-before-requires : tie.Need-stands-before-requires Inv-loop μ-loop
 stands-before-requires c κs =
-    let w = within-kept _ _ _ _ (c .before .before .before .before .before .before .before .pre .1 .0 .0) (c .before .before .before .before .loop .inv .moved) in
+    let w = within-kept _ _ _ _ (c .before .before .before .before .before .before .before .pre .1 .0 .0)
+    (c .before .before .before .before .loop .inv .moved) in
     let t = next (c .before) .inside in
-    let i = c .before .before .before .before .loop .inv .inside in
-    (c .before .before .before .before .before .before .before .pre .0, ((omega (arith, w .table, i), omega (arith, w .table, t)), (ltb-true _ _ (w .numbers _ i), ltb-true _ _ (w .numbers _ t))))
+    let i = c .before .before .before .before .loop .inv .inside in (
+      c .before .before .before .before .before .before .before .pre .0,
+      ((omega (arith, w .table, i), omega (arith, w .table, t)), (ltb-true _ _ (w .numbers _ i), ltb-true _ _ (w .numbers _ t))),
+    )
 
 same-length : tie.Need-same-length Inv-loop μ-loop
 same-length c = c .before .before .before .before .before .before .loop .inv .moved .size
 
 returns : tie.Need-returns Inv-loop μ-loop
 returns c =
-    let l = c .before .before .before .before .before .before .loop .inv in
-    (l .moved, sifting-rests _ (before-strict _ (c .before .before .before .before .before .before .before .before .shared-slice-known .given)) _ _ _ _ _ _ l (next (c .before .before .before)) (bool-called _ _ _ (c .before .stands-before .ensures) (not-true _ (c .if1 .taken))))
+    let l = c .before .before .before .before .before .before .loop .inv in (
+      l .moved,
+      sifting-rests _ (before-strict _ (c .before .before .before .before .before .before .before .before .shared-slice-known .given)) _ _ _ _ _ _ l
+          (next (c .before .before .before)) (bool-called _ _ _ (c .before .stands-before .ensures) (not-true _ (c .if1 .taken))),
+    )
 
 swap-requires : tie.Need-swap-requires Inv-loop μ-loop
 swap-requires c κs =
@@ -62,9 +71,13 @@ loop-less c = let t = next (c .before .before .before .before .before .before .b
 loop-again : tie.Need-loop-again Inv-loop μ-loop
 loop-again c =
     let l = c .before .before .before .before .before .before .before .before .before .before .loop .inv in
-    let w = within-kept _ _ _ _ (c .before .before .before .before .before .before .before .before .before .before .before .before .before .pre .1 .0 .0) (l .moved) in
+    let w = within-kept _ _ _ _
+    (c .before .before .before .before .before .before .before .before .before .before .before .before .before .pre .1 .0 .0) (l .moved) in
     rw (c .before .before .swap .ensures)
-    (sifting-goes _ (before-strict _ (c .before .before .before .before .before .before .before .before .before .before .before .before .shared-slice-known .given)) _ _ _ _ _ _ (w .table) l (next (c .before .before .before .before .before .before .before)) (bool-called _ _ _ (c .before .before .before .before .before .stands-before .ensures) (not-false _ (c .before .before .before .before .if1 .left))))
+    (sifting-goes _ (before-strict _
+    (c .before .before .before .before .before .before .before .before .before .before .before .before .shared-slice-known .given)) _ _ _ _ _ _
+    (w .table) l (next (c .before .before .before .before .before .before .before)) (bool-called _ _ _
+    (c .before .before .before .before .before .stands-before .ensures) (not-false _ (c .before .before .before .before .if1 .left))))
 
 same-length-2 : tie.Need-same-length-2 Inv-loop μ-loop
 same-length-2 c = c .before .loop .inv .moved .size

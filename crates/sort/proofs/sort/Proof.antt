@@ -31,19 +31,30 @@ loop-holds c = sorting-starts _ _ _ (c .before .before .heap .ensures .1) (rearr
 swap-requires : tie.Need-swap-requires Inv-loop μ-loop
 swap-requires c κs =
     let l = c .before .before .loop .inv in
-    let w = within-kept _ _ _ _ (c .before .before .before .before .before .before .before .before .before .pre .1) (c .before .before .before .before .before .heap .ensures .0) in
+    let w = within-kept _ _ _ _ (c .before .before .before .before .before .before .before .before .before .pre .1)
+    (c .before .before .before .before .before .heap .ensures .0) in
     (omega (arith, w .table, l .few, l .moved .size), omega (arith, w .table, l .few, l .moved .size))
 
 sift-requires : tie.Need-sift-requires Inv-loop μ-loop
 sift-requires c κs =
-    let w = within-kept _ _ _ _ (c .before .before .before .before .before .before .before .before .before .before .before .before .before .pre .1) (c .before .before .before .before .before .before .before .before .before .heap .ensures .0) in
-    let r = sorting-ready _ (before-strict _ (c .before .before .before .before .before .before .before .before .before .before .before .before .shared-slice-known .given)) _ _ _ _ _ (c .before .before .before .before .before .before .loop .e) (c .before .before .before .before .before .before .loop .e - 1) w (c .before .before .before .before .before .before .loop .inv) (omega arith) (c .before .before .before .swap .ensures) in
+    let w = within-kept _ _ _ _ (c .before .before .before .before .before .before .before .before .before .before .before .before .before .pre .1)
+    (c .before .before .before .before .before .before .before .before .before .heap .ensures .0) in
+    let r = sorting-ready _ (before-strict _
+    (c .before .before .before .before .before .before .before .before .before .before .before .before .shared-slice-known .given)) _ _ _ _ _
+    (c .before .before .before .before .before .before .loop .e) (c .before .before .before .before .before .before .loop .e - 1) w
+    (c .before .before .before .before .before .before .loop .inv) (omega arith) (c .before .before .before .swap .ensures) in
     (c .before .before .before .before .before .before .before .before .before .before .before .before .before .pre .0, ((r .0, omega arith), r .1))
 
 loop-again : tie.Need-loop-again Inv-loop μ-loop
 loop-again c =
-    let w = within-kept _ _ _ _ (c .before .before .before .before .before .before .before .before .before .before .before .before .before .before .before .before .pre .1) (c .before .before .before .before .before .before .before .before .before .before .before .before .heap .ensures .0) in
-    sorting-goes _ (before-strict _ (c .before .before .before .before .before .before .before .before .before .before .before .before .before .before .before .shared-slice-known .given)) _ _ _ _ _ (c .before .before .before .before .before .before .before .before .before .loop .e) (c .before .before .before .before .before .before .before .before .before .loop .e - 1) w (c .before .before .before .before .before .before .before .before .before .loop .inv) (omega arith) (c .before .before .before .before .before .before .swap .ensures) _ (c .before .before .sift .ensures .0) (c .before .before .sift .ensures .1)
+    let w = within-kept _ _ _ _
+    (c .before .before .before .before .before .before .before .before .before .before .before .before .before .before .before .before .pre .1)
+    (c .before .before .before .before .before .before .before .before .before .before .before .before .heap .ensures .0) in
+    sorting-goes _ (before-strict _ (c .before .before .before .before .before .before .before .before .before .before .before .before .before
+    .before .before .shared-slice-known .given)) _ _ _ _ _ (c .before .before .before .before .before .before .before .before .before .loop .e)
+    (c .before .before .before .before .before .before .before .before .before .loop .e - 1) w
+    (c .before .before .before .before .before .before .before .before .before .loop .inv) (omega arith)
+    (c .before .before .before .before .before .before .swap .ensures) _ (c .before .before .sift .ensures .0) (c .before .before .sift .ensures .1)
 
 same-length : tie.Need-same-length Inv-loop μ-loop
 same-length c = c .before .loop .inv .moved .size ∙ c .before .before .before .before .heap .ensures .0 .size
@@ -52,10 +63,12 @@ returns : tie.Need-returns Inv-loop μ-loop
 returns c =
     let l = c .before .loop .inv in
     let m = rearranged-twice _ _ _ _ (c .before .before .before .before .heap .ensures .0) (l .moved) in (
-      sorted-is _ (before-strict _ (c .before .before .before .before .before .before .before .shared-slice-known .given)) _ _ _ (c .before .before .before .before .before .before .before .before .pre .1 .table) m (λ a b x y z. l .tail a b x (omega arith) z),
+      sorted-is _ (before-strict _ (c .before .before .before .before .before .before .before .shared-slice-known .given)) _ _ _
+          (c .before .before .before .before .before .before .before .before .pre .1 .table) m (λ a b x y z. l .tail a b x (omega arith) z),
       within-kept _ _ _ _ (c .before .before .before .before .before .before .before .before .pre .1) m,
     )
 
 pub sort-spec : {M : Type 1} → statement M
 sort-spec =
-    tie.close (tie.spec Inv-loop μ-loop heap-requires loop-holds (λ c. omega arith) swap-requires sift-requires (λ c. omega arith) loop-again same-length returns)
+    tie.close (tie.spec Inv-loop μ-loop heap-requires loop-holds (λ c. omega arith) swap-requires sift-requires
+    (λ c. omega arith) loop-again same-length returns)

@@ -15,8 +15,11 @@ beyond-requires-2 c κs =
 
 beyond-requires-3 : tie.Need-beyond-requires-3
 beyond-requires-3 c κs =
-    let s = c .before .before in
-    (subst⁻¹ (λ (v : Float). notNegative v ≡ true) (c .beyond2 .ensures) (notNegative-more _ _ (beyond-requires-2 (c .before) (c .beyond2 .lifetimes) .0) (s .pre .2)), s .pre .3)
+    let s = c .before .before in (
+      subst⁻¹ (λ (v : Float). notNegative v ≡ true) (c .beyond2 .ensures)
+          (notNegative-more _ _ (beyond-requires-2 (c .before) (c .beyond2 .lifetimes) .0) (s .pre .2)),
+      s .pre .3,
+    )
 
 returns : tie.Need-returns
 unfolding farther

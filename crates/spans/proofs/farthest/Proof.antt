@@ -13,8 +13,13 @@ far-requires c κs = let g = c .pre in (notNegative-zero, g .ax, g .ay, g .az)
 
 far-requires-2 : tie.Need-far-requires-2
 far-requires-2 c κs =
-    let g = c .before .pre in
-    (subst⁻¹ (λ (v : Float). notNegative v ≡ true) (c .far .ensures) (notNegative-farther _ _ _ _ notNegative-zero (g .ax) (g .ay) (g .az)), g .bx, g .by, g .bz)
+    let g = c .before .pre in (
+      subst⁻¹ (λ (v : Float). notNegative v ≡ true) (c .far .ensures)
+          (notNegative-farther _ _ _ _ notNegative-zero (g .ax) (g .ay) (g .az)),
+      g .bx,
+      g .by,
+      g .bz,
+    )
 
 far-requires-3 : tie.Need-far-requires-3
 far-requires-3 c κs =

@@ -33,4 +33,5 @@ returns-2 c = search-ends _ (c .before .loop .k) (c .before .loop .inv .0) (omeg
 pub first-bad-spec : {M : Type 1} → statement M
 first-bad-spec =
     tie.close
-    (tie.spec Inv-loop μ-loop (λ c. (search-begins _, omega arith)) (λ c. omega arith) (λ c. omega arith) (λ c κs. tt) returns (λ c. omega arith) (λ c. omega arith) loop-again returns-2)
+    (tie.spec Inv-loop μ-loop (λ c. (search-begins _, omega arith)) (λ c. omega arith) (λ c. omega arith) (λ c κs. tt) returns (λ c. omega arith)
+    (λ c. omega arith) loop-again returns-2)

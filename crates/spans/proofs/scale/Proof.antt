@@ -34,4 +34,5 @@ returns c = let l = c .before .loop in let a = c .before .before .before .args i
 pub scale-spec : {M : Type 1} → statement M
 scale-spec =
     tie.close
-    (tie.spec Inv-loop μ-loop (λ c. (scale-none _, omega arith)) (λ c κs. omega arith) farthest-requires (λ c κs. tt) (λ c. omega arith) (λ c. omega arith) loop-again returns)
+    (tie.spec Inv-loop μ-loop (λ c. (scale-none _, omega arith)) (λ c κs. omega arith) farthest-requires (λ c κs. tt) (λ c. omega arith)
+    (λ c. omega arith) loop-again returns)

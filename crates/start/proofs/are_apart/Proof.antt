@@ -31,4 +31,5 @@ pub are-apart-spec : {M : Type 1} → statement M
 are-apart-spec =
     tie.close
     (tie.spec Inv-loop μ-loop (λ c. (apart-none _ _ _, omega arith)) is-apart-requires (λ c e. absurd (no e))
-    (λ c. record { fits = omega (arith, c .before .before .loop-test .taken, c .before .before .before .before .before .before .pre .2) }) (λ c. omega (arith, c .before .before .loop-test .taken)) loop-again returns-2)
+    (λ c. record { fits = omega (arith, c .before .before .loop-test .taken, c .before .before .before .before .before .before .pre .2) })
+    (λ c. omega (arith, c .before .before .loop-test .taken)) loop-again returns-2)

@@ -18,5 +18,7 @@ returns-3 c = handed-raised _ _ _ _ _ _ _ (c .with-floor .ensures) (c .before .b
 pub header-for-spec : {M : Type 1} → statement M
 header-for-spec =
     tie.close
-    (tie.spec Inv-loop μ-loop (λ c. handed-same _ _ _ _ _) (λ c. search needs) (λ c. handed-same _ _ _ _ _) (λ c. omega arith) (λ c κs. search needs) (λ c κs. tt) returns-3
-    (λ c. record { fits = omega (arith, c .before .before .loop-test .taken) }) (λ c. omega (arith, c .before .before .loop-test .taken)) (λ c. omega (arith, c .before .before .loop-test .taken)) (λ c. handed-same _ _ _ _ _))
+    (tie.spec Inv-loop μ-loop (λ c. handed-same _ _ _ _ _) (λ c. search needs) (λ c. handed-same _ _ _ _ _) (λ c. omega arith)
+    (λ c κs. search needs) (λ c κs. tt) returns-3
+    (λ c. record { fits = omega (arith, c .before .before .loop-test .taken) }) (λ c. omega (arith, c .before .before .loop-test .taken))
+    (λ c. omega (arith, c .before .before .loop-test .taken)) (λ c. handed-same _ _ _ _ _))

@@ -33,8 +33,11 @@ returns c = bad _ _ 9 _ (omega arith) (tested _ _ _ _ _ (c .before .before .bits
 
 loop-again : tie.Need-loop-again Inv-loop μ-loop
 loop-again c =
-    let l = c .before .before .before .before .loop in
-    (both _ _ (l .j) 1 _ (l .inv .0) (one _ _ (tested _ _ _ _ _ (c .before .before .bits-at .ensures) (c .before .is-finite .ensures) (not-false _ (c .if1 .left)))) refl, omega arith)
+    let l = c .before .before .before .before .loop in (
+      both _ _ (l .j) 1 _ (l .inv .0)
+          (one _ _ (tested _ _ _ _ _ (c .before .before .bits-at .ensures) (c .before .is-finite .ensures) (not-false _ (c .if1 .left)))) refl,
+      omega arith,
+    )
 
 returns-2 : tie.Need-returns-2 Inv-loop μ-loop
 returns-2 c =

@@ -8,4 +8,5 @@ returns : tie.Need-returns
 returns c = number-at _ _ _ _ (omega arith) (c .u32-at .ensures)
 
 pub bits-at-spec : {M : Type 1} → statement M
-bits-at-spec = tie.close (tie.spec (λ c. search needs) (λ c. search needs) (λ c. search needs) (λ c. search needs) (λ c. search needs) (λ c κs. search needs) returns)
+bits-at-spec = tie.close (tie.spec (λ c. search needs) (λ c. search needs) (λ c. search needs) (λ c. search needs) (λ c. search needs)
+    (λ c κs. search needs) returns)

@@ -34,8 +34,11 @@ widened-requires c κs = rw (c .bits-at .ensures) (c .before .before .before .be
 
 loop-again : tie.Need-loop-again Inv-loop μ-loop
 loop-again c =
-    let l = c .before .before .before .loop in
-    (stored _ _ _ _ _ _ _ (omega arith) (omega arith) (c .widened .ensures .0 ∙ c .before .bits-at .ensures) (l .inv .0), simp length-set (l .inv .1), omega arith)
+    let l = c .before .before .before .loop in (
+      stored _ _ _ _ _ _ _ (omega arith) (omega arith) (c .widened .ensures .0 ∙ c .before .bits-at .ensures) (l .inv .0),
+      simp length-set (l .inv .1),
+      omega arith,
+    )
 
 same-length : tie.Need-same-length Inv-loop μ-loop
 same-length c = c .before .loop .inv .1
@@ -44,4 +47,5 @@ returns : tie.Need-returns Inv-loop μ-loop
 returns c = all-stored _ _ _ _ _ (omega arith) (c .before .loop .inv .0)
 
 pub put-spec : {M : Type 1} → statement M
-put-spec = tie.close (tie.spec Inv-loop μ-loop loop-holds bits-at-requires widened-requires (λ c. omega arith) (λ c. omega arith) (λ c. omega arith) (λ c. omega arith) (λ c. omega arith) (λ c. omega arith) loop-again same-length returns)
+put-spec = tie.close (tie.spec Inv-loop μ-loop loop-holds bits-at-requires widened-requires (λ c. omega arith) (λ c. omega arith) (λ c. omega arith)
+    (λ c. omega arith) (λ c. omega arith) (λ c. omega arith) loop-again same-length returns)

@@ -23,7 +23,8 @@ visit-requires : tie.Need-visit-requires
 visit-requires c κs =
     let n = c .before .before .before .next-stamp in
     let e = c .before .before .before .before .before in
-    ready _ _ _ _ _ _ _ (e .before .refusal .ensures .0) {A = Best} _ _ (atFloor f0) (e .if1 .left) (n .ensures .1) (inside _ _ _ _ _ _ _ (e .before .before .before .before .before .patch-of .ensures))
+    ready _ _ _ _ _ _ _ (e .before .refusal .ensures .0) {A = Best} _ _ (atFloor f0) (e .if1 .left) (n .ensures .1)
+    (inside _ _ _ _ _ _ _ (e .before .before .before .before .before .patch-of .ensures))
 
 returns-2 : tie.Need-returns-2
 unfolding toolStep shapeStep
@@ -33,9 +34,11 @@ returns-2 c =
     let d = e .before .before .before in
     tool-answers _ _ _ _ _ _ _ _ _ _ _ _ _ (d .before .before .before .before .widest .ensures) (d .before .before .before .lowest .ensures)
     (d .before .before .patch-of .ensures) (d .before .is-place .ensures) (d .is-tool .ensures)
-    (height-answered _ _ _ _ _ _ _ (e .before .refusal .ensures .0) _ _ _ _ _ (e .if1 .left) (n .ensures .0) (n .ensures .1) (c .before .before .before .visit .ensures))
+    (height-answered _ _ _ _ _ _ _ (e .before .refusal .ensures .0) _ _ _ _ _ (e .if1 .left) (n .ensures .0) (n .ensures .1)
+    (c .before .before .before .visit .ensures))
 
 pub max-sections-spec : {M : Type 1} → statement M
 max-sections-spec =
     tie.close
-    (tie.spec (λ c κs. tt) (λ c κs. tt) (λ c κs. tt) (λ c κs. tt) (λ c κs. tt) refusal-requires (λ c. search needs) returns (λ c κs. tt) visit-requires (λ c. search needs) returns-2)
+    (tie.spec (λ c κs. tt) (λ c κs. tt) (λ c κs. tt) (λ c κs. tt) (λ c κs. tt) refusal-requires (λ c. search needs) returns (λ c κs. tt) visit-requires
+    (λ c. search needs) returns-2)

@@ -10,7 +10,8 @@ use Rattle.tips.proofs.raise.Statement.{statement}
 use Rattle.tips.proofs.raise.Tie as tie
 
 -- the step of the kind that the match told
-of-kind : (mesh boxes table : List Float) (s k : Shape) (best r : Best) (i : ℕ) → s ≡ k → r ≡ shapeStep mesh boxes k table best i → r ≡ shapeStep mesh boxes s table best i
+of-kind : (mesh boxes table : List Float) (s k : Shape) (best r : Best) (i : ℕ) → s ≡ k → r ≡ shapeStep mesh boxes k table best i
+    → r ≡ shapeStep mesh boxes s table best i
 of-kind mesh boxes table s k best r i e p = p ∙ ap (λ (x : Shape). shapeStep mesh boxes x table best i) (sym e)
 
 returns : tie.Need-returns

@@ -11,12 +11,16 @@ visit-requires c κs = visits _ _ _ _ _ _ _ (c .before .before .before .before .
 
 visit-requires-2 : tie.Need-visit-requires-2
 visit-requires-2 c κs =
-    visits _ _ _ _ _ _ _ (tables-again _ _ _ _ _ _ _ (c .before .before .before .before .before .before .before .before .before .before .before .before .before .before .pre) _ (left-besides _ _ _ _ _ _ _ (c .before .before .before .before .visit .ensures) .size)) _ _ _ (c .begun2 .ensures)
+    visits _ _ _ _ _ _ _ (tables-again _ _ _ _ _ _ _
+    (c .before .before .before .before .before .before .before .before .before .before .before .before .before .before .pre) _
+    (left-besides _ _ _ _ _ _ _ (c .before .before .before .before .visit .ensures) .size)) _ _ _ (c .begun2 .ensures)
 
 returns : tie.Need-returns
 unfolding shapeStep
 returns c m fresh besides =
-    walks-again _ _ (c .before .before .before .before .before .before .before .before .before .before .other-than .ensures) _ m fresh _ _ _ besides _ _ (c .before .before .before .before .before .before .before .visit .ensures) _ _ _ (c .before .before .before .begun2 .ensures) _ _ (c .before .before .visit2 .ensures)
+    walks-again _ _ (c .before .before .before .before .before .before .before .before .before .before .other-than .ensures) _ m fresh _ _ _ besides _ _
+    (c .before .before .before .before .before .before .before .visit .ensures) _ _ _ (c .before .before .before .begun2 .ensures) _ _
+    (c .before .before .visit2 .ensures)
 
 pub walk-back-spec : {M : Type 1} → statement M
 walk-back-spec = tie.close (tie.spec (λ c κs. tt) (λ c κs. tt) visit-requires (λ c κs. tt) visit-requires-2 (λ c. search needs) returns)

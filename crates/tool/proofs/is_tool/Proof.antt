@@ -6,11 +6,13 @@ use Rattle.tool.proofs.is_tool.Tie as tie
 
 returns : tie.Need-returns
 unfolding isTool
-returns c = and-on _ _ _ (eq-eqb _ _ (c .before .before .before .if1 .taken)) (and-on _ _ _ (bool-called _ _ _ (c .before .before .few .ensures) (c .before .if2 .taken)) (c .all-valid .ensures))
+returns c = and-on _ _ _ (eq-eqb _ _ (c .before .before .before .if1 .taken))
+    (and-on _ _ _ (bool-called _ _ _ (c .before .before .few .ensures) (c .before .if2 .taken)) (c .all-valid .ensures))
 
 returns-2 : tie.Need-returns-2
 unfolding isTool
-returns-2 c = and-on _ _ _ (eq-eqb _ _ (c .before .before .if1 .taken)) (and-off _ _ _ (bool-called _ _ _ (c .before .few .ensures) (c .if2 .left)) (c .if2 .left))
+returns-2 c = and-on _ _ _ (eq-eqb _ _ (c .before .before .if1 .taken))
+    (and-off _ _ _ (bool-called _ _ _ (c .before .few .ensures) (c .if2 .left)) (c .if2 .left))
 
 returns-3 : tie.Need-returns-3
 unfolding isTool

@@ -22,11 +22,15 @@ loop-holds c = (all-left _ _, omega arith)
 
 returns : tie.Need-returns Inv-loop μ-loop
 returns c = let l = c .before .before .before .before .loop in
-    every-stops _ (l .i) _ _ (omega arith) (sym (blocks-here _ _ _ (c .before .before .section-at .ensures) _ _ _ _ (c .before .section-blocks .ensures)) ∙ ap not (c .if1 .taken)) (l .inv .0)
+    every-stops _ (l .i) _ _ (omega arith) (sym (blocks-here _ _ _ (c .before .before .section-at .ensures) _ _ _ _ (c .before .section-blocks .ensures))
+    ∙ ap not (c .if1 .taken)) (l .inv .0)
 
 loop-again : tie.Need-loop-again Inv-loop μ-loop
-loop-again c = let l = c .before .before .before .before .loop in
-    (every-goes _ (l .i) _ _ (omega arith) (sym (blocks-here _ _ _ (c .before .before .section-at .ensures) _ _ _ _ (c .before .section-blocks .ensures)) ∙ ap not (c .if1 .left)) (l .inv .0), omega arith)
+loop-again c = let l = c .before .before .before .before .loop in (
+  every-goes _ (l .i) _ _ (omega arith) (sym (blocks-here _ _ _ (c .before .before .section-at .ensures) _ _ _ _ (c .before .section-blocks .ensures))
+      ∙ ap not (c .if1 .left)) (l .inv .0),
+  omega arith,
+)
 
 returns-2 : tie.Need-returns-2 Inv-loop μ-loop
 returns-2 c = every-ends _ (c .before .loop .i) _ _ (omega arith) (c .before .loop .inv .0)

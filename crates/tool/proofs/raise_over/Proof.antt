@@ -18,7 +18,11 @@ unfolding raisedOver
 loop-holds c = (refl, omega arith)
 
 loop-again : tie.Need-loop-again Inv-loop μ-loop
-loop-again c = (higher _ _ _ (c .before .before .section-at .ensures) _ _ _ _ _ _ _ _ _ (c .before .before .before .before .before .loop .inv .0) (c .before .before .before .so-far .ensures) (c .before .section-contact-on .ensures) (c .raise-by .ensures), omega arith)
+loop-again c = (
+  higher _ _ _ (c .before .before .section-at .ensures) _ _ _ _ _ _ _ _ _ (c .before .before .before .before .before .loop .inv .0)
+      (c .before .before .before .so-far .ensures) (c .before .section-contact-on .ensures) (c .raise-by .ensures),
+  omega arith,
+)
 
 returns : tie.Need-returns Inv-loop μ-loop
 returns c = let l = c .before .loop in let e : l .i ≡ sectionsIn (now (c .before .before .before .args .table)) = omega arith in rw e at (l .inv .0)

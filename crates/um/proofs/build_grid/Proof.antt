@@ -29,16 +29,19 @@ fill-grid-requires c κs =
     let g = c .before .before in
     let e = g .before in
     let d = e .before .before in
-    found-gridded _ _ _ (accepted _ _ _ (d .before .before .before .pre)) _ _ _ _ (d .extent-of .ensures) (e .before .size-of .ensures) (e .if1 .left) (g .grid-of .ensures)
+    found-gridded _ _ _ (accepted _ _ _ (d .before .before .before .pre)) _ _ _ _ (d .extent-of .ensures) (e .before .size-of .ensures)
+    (e .if1 .left) (g .grid-of .ensures)
 
 returns-2 : tie.Need-returns-2
 returns-2 c =
     let f = c .before .before .before .before in
     let g = f .before .before .before in
     let e = g .before in
-    gridded-next _ _ _ _ _ _ _ _ (e .before .before .extent-of .ensures) (e .before .size-of .ensures) _ _ (e .if1 .left) (g .grid-of .ensures) (f .fill-grid .ensures)
+    gridded-next _ _ _ _ _ _ _ _ (e .before .before .extent-of .ensures) (e .before .size-of .ensures) _ _ (e .if1 .left)
+    (g .grid-of .ensures) (f .fill-grid .ensures)
 
 pub build-grid-spec : {M : Type 1} → statement M
 build-grid-spec =
     tie.close
-    (tie.spec (λ c κs. search needs) size-of-requires (λ c κs. tt) returns grid-of-requires fill-grid-requires (λ c. search needs) (λ c. search needs) returns-2)
+    (tie.spec (λ c κs. search needs) size-of-requires (λ c κs. tt) returns grid-of-requires fill-grid-requires (λ c. search needs)
+    (λ c. search needs) returns-2)

@@ -41,8 +41,11 @@ loop-again c =
     let d = f .before in
     let s = d .before .before .before .before .before .before .before in
     let l = d .before .before .before .before .loop in
-    let h : l .i - 1 < s .args .n = omega arith in
-    (filled-more _ _ _ _ _ (s .pre .1) _ _ _ _ _ h (filled-as _ _ _ _ _ _ _ _ _ (omega arith) (l .inv .0)) (rw (d .cells-of .ensures) at (f .place-cells .ensures)), omega arith)
+    let h : l .i - 1 < s .args .n = omega arith in (
+      filled-more _ _ _ _ _ (s .pre .1) _ _ _ _ _ h (filled-as _ _ _ _ _ _ _ _ _ (omega arith) (l .inv .0))
+          (rw (d .cells-of .ensures) at (f .place-cells .ensures)),
+      omega arith,
+    )
 
 returns : tie.Need-returns Inv-loop μ-loop
 returns c = filled-as _ _ _ _ _ _ _ _ _ (omega arith) (c .before .loop .inv .0)

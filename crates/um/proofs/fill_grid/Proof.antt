@@ -31,7 +31,8 @@ returns-2 c =
     let q = e .before in
     let t = q .before in
     let s = t .before .before .before in
-    filled-accepted _ _ _ _ _ _ _ (s .pre .0) _ _ (t .total .ensures) (q .refusal-of-members .ensures) _ _ (e .if1 .left) (d .tables .ensures .0) (d .tables .ensures .1)
+    filled-accepted _ _ _ _ _ _ _ (s .pre .0) _ _ (t .total .ensures) (q .refusal-of-members .ensures) _ _ (e .if1 .left)
+    (d .tables .ensures .0) (d .tables .ensures .1)
 
 pub fill-grid-spec : {M : Type 1} → statement M
 fill-grid-spec =

@@ -27,13 +27,15 @@ returns : tie.Need-returns Inv-loop μ-loop
 returns c =
     let d = c .before .before .before in
     found-stops _ _ (d .before .loop .k) _ (omega arith)
-    (ap not (ap isCoordinate (sym (c .before .before .number-at .ensures .0)) ∙ sym (c .before .is-coordinate .ensures)) ∙ c .if1 .taken) (d .before .loop .inv .0)
+    (ap not (ap isCoordinate (sym (c .before .before .number-at .ensures .0)) ∙ sym (c .before .is-coordinate .ensures)) ∙ c .if1 .taken)
+    (d .before .loop .inv .0)
 
 loop-again : tie.Need-loop-again Inv-loop μ-loop
 loop-again c =
     let d = c .before .before .before in (
       found-goes _ _ (d .before .loop .k) _ (omega arith)
-          (ap not (ap isCoordinate (sym (c .before .before .number-at .ensures .0)) ∙ sym (c .before .is-coordinate .ensures)) ∙ c .if1 .left) (d .before .loop .inv .0),
+          (ap not (ap isCoordinate (sym (c .before .before .number-at .ensures .0)) ∙ sym (c .before .is-coordinate .ensures)) ∙ c .if1 .left)
+          (d .before .loop .inv .0),
       omega arith,
       omega arith,
     )

@@ -9,7 +9,8 @@ use Rattle.um.proofs.fits.Tie as tie
 
 returns : tie.Need-returns
 unfolding fits
-returns c = ap (λ (k : ℕ). eqb k 0) (c .refusal-of-grid .ensures ∙ ap₂ (λ (x y : ℕ). refusalOfGrid x y (c .before .before .before .args .lent)) (c .before .before .cells-along .ensures) (c .before .cells-along2 .ensures))
+returns c = ap (λ (k : ℕ). eqb k 0) (c .refusal-of-grid .ensures ∙ ap₂ (λ (x y : ℕ). refusalOfGrid x y (c .before .before .before .args .lent))
+    (c .before .before .cells-along .ensures) (c .before .cells-along2 .ensures))
 
 pub fits-spec : {M : Type 1} → statement M
 fits-spec =

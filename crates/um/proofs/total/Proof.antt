@@ -31,7 +31,8 @@ add-t c = omega (arith, c .before .before .before .before .pre .few)
 loop-again : tie.Need-loop-again Inv-loop μ-loop
 loop-again c =
     let l = c .before .before .before .loop in
-    let a : c .area .result ≡ areaOf (cellsOf (now (c .before .before .before .before .args .mesh)) (c .before .before .before .before .args .g) (l .i)) = c .area .ensures .0 ∙ ap areaOf (c .before .cells-of .ensures) in
+    let a : c .area .result ≡ areaOf (cellsOf (now (c .before .before .before .before .args .mesh)) (c .before .before .before .before .args .g) (l .i)) =
+    c .area .ensures .0 ∙ ap areaOf (c .before .cells-of .ensures) in
     omega (arith, a, total-more (now (c .before .before .before .before .args .mesh)) (c .before .before .before .before .args .g) (l .i))
 
 returns : tie.Need-returns Inv-loop μ-loop
@@ -40,4 +41,5 @@ returns c = let l = c .before .loop in l .inv .0 ∙ ap (totalOf (now (c .before
 pub total-spec : {M : Type 1} → statement M
 total-spec =
     tie.close
-    (tie.spec Inv-loop μ-loop (λ c. (total-none _ _, omega arith, omega arith)) cells-of-requires area-requires add-t (λ c. omega arith) (λ c. omega arith) loop-again returns)
+    (tie.spec Inv-loop μ-loop (λ c. (total-none _ _, omega arith, omega arith)) cells-of-requires area-requires add-t (λ c. omega arith)
+    (λ c. omega arith) loop-again returns)

@@ -11,7 +11,8 @@ use Rattle.whole.proofs.cells_below.Statement.{statement}
 use Rattle.whole.proofs.cells_below.Tie as tie
 
 abbrev Inv-loop : tie.InvT-loop
-Inv-loop starts members n cells c₀ c = (every (cellUsable (λ i. ltb i n) starts members) c (cells - c) ≡ every (cellUsable (λ i. ltb i n) starts members) 0 cells) × (c ≤ cells)
+Inv-loop starts members n cells c₀ c =
+    (every (cellUsable (λ i. ltb i n) starts members) c (cells - c) ≡ every (cellUsable (λ i. ltb i n) starts members) 0 cells) × (c ≤ cells)
 
 abbrev μ-loop : tie.MeasureT-loop
 μ-loop starts members n cells c₀ c = cells - c

@@ -23,5 +23,6 @@ unfolding usableWhole
 returns-3 c = search (branches, bool-called)
 
 pub usable-whole-spec : {M : Type 1} → statement M
-usable-whole-spec = tie.close (tie.spec (λ c κs. tt) (λ c κs. (headed c .nine, omega (arith, headed c .nine, c .before .before .before .before .before .before .pre)))
+usable-whole-spec = tie.close
+    (tie.spec (λ c κs. tt) (λ c κs. (headed c .nine, omega (arith, headed c .nine, c .before .before .before .before .before .before .pre)))
     (λ c. omega (arith, headed (c .before .before) .ranged)) (λ c κs. omega (arith, headed (c .before .before) .room)) returns returns-2 returns-3)

@@ -35,4 +35,5 @@ returns c =
     (job-all (now (a .bytes)) _ _ (now (a .mesh)) (a .floor) (a .radius) (now (a .questions)))
 
 pub put-job-spec : {M : Type 1} → statement M
-put-job-spec = tie.close (tie.spec (λ c. search needs) (λ c. search needs) put-front-requires put-numbers-requires (λ c. search needs) put-numbers-requires-2 (λ c. search needs) returns)
+put-job-spec = tie.close (tie.spec (λ c. search needs) (λ c. search needs) put-front-requires put-numbers-requires (λ c. search needs) put-numbers-requires-2
+    (λ c. search needs) returns)

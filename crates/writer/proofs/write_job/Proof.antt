@@ -35,8 +35,10 @@ returns-2 c =
     let k = d .before .before .before in
     let t = k .before .before in
     let a = t .args in
-    let e = accepted-is (now (a .mesh)) (a .floor) (a .radius) (now (a .questions)) (now (a .bytes)) _ (d .before .refusal .ensures) (d .if1 .left) _ _ (c .size .ensures) (b .put-job .ensures) in
-    let g = all-fit (now (a .mesh)) (a .floor) (a .radius) (now (a .questions)) (passes _ (t .good .1 .0 .1)) (passes _ (t .good .1 .1 .0 .1)) (k .before .shared-slice-known .given) (k .shared-slice-known2 .given) in (
+    let e = accepted-is (now (a .mesh)) (a .floor) (a .radius) (now (a .questions)) (now (a .bytes)) _ (d .before .refusal .ensures) (d .if1 .left) _ _
+    (c .size .ensures) (b .put-job .ensures) in
+    let g = all-fit (now (a .mesh)) (a .floor) (a .radius) (now (a .questions)) (passes _ (t .good .1 .0 .1)) (passes _ (t .good .1 .1 .0 .1))
+    (k .before .shared-slice-known .given) (k .shared-slice-known2 .given) in (
       e,
       (
         reads-back (now (a .mesh)) (a .floor) (a .radius) (now (a .questions)) (now (a .bytes)) g _ e,

@@ -5,7 +5,8 @@ use Rattle.bull.proofs.cap.low_vertex.Tie as tie
 
 returns : tie.Need-returns
 unfolding lowVertex
-returns c = and-on _ _ _ (c .before .before .before .if1 .taken) (and-on _ _ _ (bool-called _ _ _ (c .before .before .is-coordinate .ensures) (c .before .if2 .taken)) (c .is-coordinate2 .ensures))
+returns c = and-on _ _ _ (c .before .before .before .if1 .taken)
+    (and-on _ _ _ (bool-called _ _ _ (c .before .before .is-coordinate .ensures) (c .before .if2 .taken)) (c .is-coordinate2 .ensures))
 
 returns-2 : tie.Need-returns-2
 unfolding lowVertex

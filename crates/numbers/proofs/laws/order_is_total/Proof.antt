@@ -8,7 +8,8 @@ returns : tie.Need-returns
 returns c =
     let a = c .before in (
       c .total-less .ensures,
-      total-order (a .args .x) (a .args .y) (a .args .z) (subst T (sym (a .good .0 .1)) tt) (subst T (sym (a .good .1 .0 .1)) tt) (subst T (sym (a .good .1 .1 .0 .1)) tt),
+      total-order (a .args .x) (a .args .y) (a .args .z) (subst T (sym (a .good .0 .1)) tt) (subst T (sym (a .good .1 .0 .1)) tt)
+          (subst T (sym (a .good .1 .1 .0 .1)) tt),
     )
 
 pub order-is-total-spec : {M : Type 1} → statement M

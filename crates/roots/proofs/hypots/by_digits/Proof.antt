@@ -35,7 +35,8 @@ beside a b e h =
     let w = A .whole in
     let d = digitsOf a * 2 ^ placeOf a in
     let k = packed (digitsOf a) (placeOf a) (weak _ (A .few)) (A .enough) (subst (λ (z : ℕ). z < infiniteBits) (sym w) h) in (
-      ap (ofBits binary64) (sym w) ∙ k .0 ∙ sym (hit (exactly (digitsOf a) (placeOf a) (A .few) (A .enough))) ∙ ap hypotOfCount (sym (add-zero (d * d))) ∙ sizes-finite a 0 h ∙ ap (ofSizes a) (sym e),
+      ap (ofBits binary64) (sym w) ∙ k .0 ∙ sym (hit (exactly (digitsOf a) (placeOf a) (A .few) (A .enough))) ∙ ap hypotOfCount (sym (add-zero (d * d)))
+          ∙ sizes-finite a 0 h ∙ ap (ofSizes a) (sym e),
       subst (λ (z : ℕ). T (not (nanBits binary64 z))) w (k .1),
     )
   where
@@ -51,12 +52,14 @@ returns-2 c = let s = c .before .before in beside (s .args .a) (s .args .b) (c .
 float-from-bits-result-2 : tie.Need-float-from-bits-result-2
 float-from-bits-result-2 c =
     let s = c .before .before .before .before .before in
-    alone (s .args .a) (s .args .b) (s .pre .0) (c .before .before .before .before .if1 .left) (far (s .args .a) (s .args .b) _ _ (c .before .before .place .ensures) (c .before .place2 .ensures) (c .if3 .taken)) .1
+    alone (s .args .a) (s .args .b) (s .pre .0) (c .before .before .before .before .if1 .left)
+    (far (s .args .a) (s .args .b) _ _ (c .before .before .place .ensures) (c .before .place2 .ensures) (c .if3 .taken)) .1
 
 returns-3 : tie.Need-returns-3
 returns-3 c =
     let s = c .before .before .before .before .before in
-    alone (s .args .a) (s .args .b) (s .pre .0) (c .before .before .before .before .if1 .left) (far (s .args .a) (s .args .b) _ _ (c .before .before .place .ensures) (c .before .place2 .ensures) (c .if3 .taken)) .0
+    alone (s .args .a) (s .args .b) (s .pre .0) (c .before .before .before .before .if1 .left)
+    (far (s .args .a) (s .args .b) _ _ (c .before .before .place .ensures) (c .before .place2 .ensures) (c .if3 .taken)) .0
 
 digits-requires : tie.Need-by-digits-requires
 digits-requires c κs =
@@ -75,7 +78,8 @@ digits-requires c κs =
       subst (λ (z : ℕ). z ≤ 2045) (sym p) (A .place),
       less _ (c .if3 .left),
       under _ _,
-      subst (λ (z : ℕ). (c .before .before .place .result ≡ 0) ⊎ (2 ^ 52 ≤ z)) (sym (digits a _ h p)) (subst (λ (z : ℕ). (z ≡ 0) ⊎ (2 ^ 52 ≤ digitsOf a)) (sym p) (A .enough)),
+      subst (λ (z : ℕ). (c .before .before .place .result ≡ 0) ⊎ (2 ^ 52 ≤ z)) (sym (digits a _ h p))
+          (subst (λ (z : ℕ). (z ≡ 0) ⊎ (2 ^ 52 ≤ digitsOf a)) (sym p) (A .enough)),
     )
   where
     less : (n : ℕ) → n < 27 → n ≤ 26
@@ -100,7 +104,8 @@ returns-4 c =
     place : (a b p q : ℕ) → b ≤ a → p ≡ placeOf a → q ≡ placeOf b → p - (p - q) ≡ placeOf b
     place a b p q h e f = omega arith
 
-    same : (m m′ n n′ p p′ q q′ : ℕ) → m ≡ m′ → n ≡ n′ → p ≡ p′ → q ≡ q′ → hypotOfCount (m * 2 ^ p * (m * 2 ^ p) + n * 2 ^ q * (n * 2 ^ q)) ≡ hypotOfCount (m′ * 2 ^ p′ * (m′ * 2 ^ p′) + n′ * 2 ^ q′ * (n′ * 2 ^ q′))
+    same : (m m′ n n′ p p′ q q′ : ℕ) → m ≡ m′ → n ≡ n′ → p ≡ p′ → q ≡ q′
+        → hypotOfCount (m * 2 ^ p * (m * 2 ^ p) + n * 2 ^ q * (n * 2 ^ q)) ≡ hypotOfCount (m′ * 2 ^ p′ * (m′ * 2 ^ p′) + n′ * 2 ^ q′ * (n′ * 2 ^ q′))
     same m m′ n n′ p p′ q q′ a b c d = rw (a, b, c, d)
 
 pub by-digits-spec : {M : Type 1} → statement M

@@ -25,7 +25,8 @@ digits a h = go a (bitAnd a (2 ^ 52 - 1)) (and-mask a 52) h
 
 -- what the guard lets through
 module _ (a b k i s t : ℕ) (A : 28 ≤ a / 2 ^ 52) (A′ : a / 2 ^ 52 < 2046) (D : b / 2 ^ 52 + k ≡ a / 2 ^ 52) (K : k ≤ 26) (I : i ≤ 1)
-    (S : Settled s (4 * ((bitAnd a (2 ^ 52 - 1) + 2 ^ 52) * (bitAnd a (2 ^ 52 - 1) + 2 ^ 52) * 4 ^ k + (bitAnd b (2 ^ 52 - 1) + 2 ^ 52) * (bitAnd b (2 ^ 52 - 1) + 2 ^ 52))) (4 ^ (k + i)))
+    (S : Settled s (4 * ((bitAnd a (2 ^ 52 - 1) + 2 ^ 52) * (bitAnd a (2 ^ 52 - 1) + 2 ^ 52) * 4 ^ k + (bitAnd b (2 ^ 52 - 1) + 2 ^ 52)
+    * (bitAnd b (2 ^ 52 - 1) + 2 ^ 52))) (4 ^ (k + i)))
     (e : (t + (2 ^ 52 + 1)) % 2 ^ 64 ≡ s) (l : t < 2 ^ 52 - 1) where
   low : 2 ^ 52 < s
   low = omega arith
@@ -37,7 +38,8 @@ module _ (a b k i s t : ℕ) (A : 28 ≤ a / 2 ^ 52) (A′ : a / 2 ^ 52 < 2046) 
   hits =
       guarded (digitsOf a) (digitsOf b) (placeOf a) k i s (omega arith)
       (subst (λ (z : ℕ). Settled s (4 * (z * z * 4 ^ k + digitsOf b * digitsOf b)) (4 ^ (k + i))) (digits a (omega arith))
-      (subst (λ (z : ℕ). Settled s (4 * ((bitAnd a (2 ^ 52 - 1) + 2 ^ 52) * (bitAnd a (2 ^ 52 - 1) + 2 ^ 52) * 4 ^ k + z * z)) (4 ^ (k + i))) (digits b (omega arith)) S))
+      (subst (λ (z : ℕ). Settled s (4 * ((bitAnd a (2 ^ 52 - 1) + 2 ^ 52) * (bitAnd a (2 ^ 52 - 1) + 2 ^ 52) * 4 ^ k + z * z)) (4 ^ (k + i)))
+      (digits b (omega arith)) S))
       low high
 
   place : placeOf a - k ≡ placeOf b
@@ -51,14 +53,21 @@ module _ (a b k i s t : ℕ) (A : 28 ≤ a / 2 ^ 52) (A′ : a / 2 ^ 52 < 2046) 
 
   pub good : (ofBits binary64 ((placeOf a + i) * 2 ^ 52 % 2 ^ 64 + s) ≡ ofSizes a b) × T (not (nanBits binary64 ((placeOf a + i) * 2 ^ 52 % 2 ^ 64 + s)))
   good =
-      let r = result-is (sumOf (digitsOf a) (digitsOf b) (placeOf a) k) (placeOf a + i) s hits (omega arith) under in
-      (r .0 ∙ ap (λ (z : ℕ). hypotOfCount (digitsOf a * 2 ^ placeOf a * (digitsOf a * 2 ^ placeOf a) + digitsOf b * 2 ^ z * (digitsOf b * 2 ^ z))) place ∙ sizes-finite a b below, r .1)
+      let r = result-is (sumOf (digitsOf a) (digitsOf b) (placeOf a) k) (placeOf a + i) s hits (omega arith) under in (
+        r .0 ∙ ap (λ (z : ℕ). hypotOfCount (digitsOf a * 2 ^ placeOf a * (digitsOf a * 2 ^ placeOf a) + digitsOf b * 2 ^ z * (digitsOf b * 2 ^ z))) place
+            ∙ sizes-finite a b below,
+        r .1,
+      )
 
-passed : (c : tie.Then1) → (ofBits binary64 ((placeOf (c .before .before .before .before .args .a) + c .before .before .before .guessed .result .over) * 2 ^ 52 % 2 ^ 64 + c .before .before .checked .result) ≡ ofSizes (c .before .before .before .before .args .a) (c .before .before .before .before .args .b)) × T (not (nanBits binary64 ((placeOf (c .before .before .before .before .args .a) + c .before .before .before .guessed .result .over) * 2 ^ 52 % 2 ^ 64 + c .before .before .checked .result)))
+passed : (c : tie.Then1) → (ofBits binary64 ((placeOf (c .before .before .before .before .args .a) + c .before .before .before .guessed .result .over) * 2
+    ^ 52 % 2 ^ 64 + c .before .before .checked .result) ≡ ofSizes (c .before .before .before .before .args .a) (c .before .before .before .before .args .b))
+    × T (not (nanBits binary64 ((placeOf (c .before .before .before .before .args .a) + c .before .before .before .guessed .result .over) * 2 ^ 52 % 2 ^ 64
+    + c .before .before .checked .result)))
 passed c =
     let s = c .before .before .before .before in
     let g = c .before .before .before .guessed in
-    good (s .args .a) (s .args .b) (s .args .k) (g .result .over) (c .before .before .checked .result) (c .before .wrapping-sub-u64 .result) (s .pre .1) (s .pre .2) (s .pre .3) (s .pre .4) (g .ensures .0)
+    good (s .args .a) (s .args .b) (s .args .k) (g .result .over) (c .before .before .checked .result) (c .before .wrapping-sub-u64 .result) (s .pre .1)
+    (s .pre .2) (s .pre .3) (s .pre .4) (g .ensures .0)
     (c .before .before .checked .ensures) (c .before .wrapping-sub-u64 .ensures) (c .if1 .taken)
 
 pub by-guess-spec : {M : Type 1} → statement M
@@ -68,7 +77,14 @@ by-guess-spec =
     (λ c κs. c .pre .5)
     (λ c. omega (arith, wide (c .before .args .a)))
     (λ c. omega (arith, wide (c .before .args .b)))
-    (λ c κs. (omega (arith, wide (c .before .args .a)), omega (arith, wide (c .before .args .b)), c .before .pre .4, c .guessed .ensures .0, c .guessed .ensures .1, c .guessed .ensures .2))
+    (λ c κs. (
+      omega (arith, wide (c .before .args .a)),
+      omega (arith, wide (c .before .args .b)),
+      c .before .pre .4,
+      c .guessed .ensures .0,
+      c .guessed .ensures .1,
+      c .guessed .ensures .2,
+    ))
     (λ c. search needs)
     (λ c κs. tt)
     (λ c. search needs)

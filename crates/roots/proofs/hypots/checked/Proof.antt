@@ -15,7 +15,13 @@ half : (n p : ℕ) → n < 2 ^ 53 → 2 * n / p < 2 ^ 54
 half n p h = let a = div-le-self (2 * n) p in omega arith
 
 columns-requires : tie.Need-columns-requires
-columns-requires c κs = (twice (c .args .m) (c .args .i) (c .pre .0), half (c .args .n) _ (c .pre .1), mask-lt (c .args .n * 2 ^ (28 - (c .args .k + c .args .i)) % 2 ^ 64) 27, c .pre .4, c .pre .5)
+columns-requires c κs = (
+  twice (c .args .m) (c .args .i) (c .pre .0),
+  half (c .args .n) _ (c .pre .1),
+  mask-lt (c .args .n * 2 ^ (28 - (c .args .k + c .args .i)) % 2 ^ 64) 27,
+  c .pre .4,
+  c .pre .5,
+)
 
 returns : tie.Need-returns
 returns c =

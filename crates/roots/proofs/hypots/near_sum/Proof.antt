@@ -27,6 +27,7 @@ near-sum-spec =
     (λ c. subst (λ (b : ℕ). T (not (nanBits binary64 b))) (first (c .args .m)) (made-no-nan false 1022 (c .args .m) (lit< tt) (c .pre .0)))
     (λ c. search needs)
     (λ c. search needs)
-    (λ c. subst (λ (b : ℕ). T (not (nanBits binary64 b))) (second (c .args .k) (c .args .n) (c .pre .2)) (made-no-nan false (1022 - c .args .k) (c .args .n) (low (c .args .k)) (c .pre .1)))
+    (λ c. subst (λ (b : ℕ). T (not (nanBits binary64 b))) (second (c .args .k) (c .args .n) (c .pre .2))
+    (made-no-nan false (1022 - c .args .k) (c .args .n) (low (c .args .k)) (c .pre .1)))
     (λ c. unfold ofBits isNan in tt)
     (λ c. no-nan _ (c .if1 .left)))

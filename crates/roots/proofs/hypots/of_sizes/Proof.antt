@@ -42,7 +42,8 @@ apart-by : (a b : ℕ) → b ≤ a → b / 2 ^ 52 + (a / 2 ^ 52 - b / 2 ^ 52) �
 apart-by a b h = omega arith
 
 near-sum-requires : tie.Need-near-sum-requires
-near-sum-requires c κs = let s = c .before .before .before .before .before in (mask-lt (s .args .a) 52, mask-lt (s .args .b) 52, omega (arith, c .before .before .if2 .left))
+near-sum-requires c κs = let s = c .before .before .before .before .before in
+    (mask-lt (s .args .a) 52, mask-lt (s .args .b) 52, omega (arith, c .before .before .if2 .left))
 
 by-guess-requires : tie.Need-by-guess-requires
 by-guess-requires c κs =

@@ -25,7 +25,8 @@ returns-4 c =
     let h = d .before .before in
     let s = h .before in
     inr
-    (settles (s .args .c2) (s .args .c1) (s .args .c0) (s .args .s) (bitAnd (s .args .s) (2 ^ 26 - 1)) (h .wrapping-sub-u64 .result) (d .wrapping-sub-u642 .result) (u .wrapping-sub-u643 .result) (e .steps .result .count) (w .wrapping-sub-u644 .result)
+    (settles (s .args .c2) (s .args .c1) (s .args .c0) (s .args .s) (bitAnd (s .args .s) (2 ^ 26 - 1)) (h .wrapping-sub-u64 .result)
+    (d .wrapping-sub-u642 .result) (u .wrapping-sub-u643 .result) (e .steps .result .count) (w .wrapping-sub-u644 .result)
     (small s) (s .pre .3) (s .pre .4)
     (h .wrapping-sub-u64 .ensures) (d .before .if1 .left)
     (d .wrapping-sub-u642 .ensures) (u .before .if2 .left)

@@ -10,7 +10,8 @@ returns : tie.Need-returns
 returns c =
     let a = c .before in (
       c .hypot .ensures,
-      λ p q. subst (λ (r : Float). HypotBetween (a .args .x) (a .args .y) r) (sym (c .hypot .ensures)) (hypot-between (a .args .x) (a .args .y) (subst T (sym (a .good .0 .1)) tt) (subst T (sym (a .good .1 .0 .1)) tt) p q),
+      λ p q. subst (λ (r : Float). HypotBetween (a .args .x) (a .args .y) r) (sym (c .hypot .ensures))
+          (hypot-between (a .args .x) (a .args .y) (subst T (sym (a .good .0 .1)) tt) (subst T (sym (a .good .1 .0 .1)) tt) p q),
     )
 
 pub hypot-is-nearest-spec : {M : Type 1} → statement M

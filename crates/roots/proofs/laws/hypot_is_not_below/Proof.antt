@@ -13,7 +13,8 @@ returns c =
     let g = subst T (sym (a .good .1 .0 .1)) tt in (
       c .hypot .ensures,
       hypot-zero (a .args .x) f,
-      λ p q. subst (λ (r : Float). T (le (absOf (a .args .x)) r) × T (le (absOf (a .args .y)) r)) (sym (c .hypot .ensures)) (hypot-least (a .args .x) (a .args .y) f g p q),
+      λ p q. subst (λ (r : Float). T (le (absOf (a .args .x)) r) × T (le (absOf (a .args .y)) r)) (sym (c .hypot .ensures))
+          (hypot-least (a .args .x) (a .args .y) f g p q),
     )
 
 pub hypot-is-not-below-spec : {M : Type 1} → statement M

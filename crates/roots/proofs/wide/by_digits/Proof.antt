@@ -1,5 +1,5 @@
--- `by_digits` meets its contract: the nearest root of the sum, lowered to 109 digits, is the significand (`Scales.antt`); of w * 2^52 nothing is lowered, and there are no ties
--- (`plain` in `Rooting.antt`).
+-- `by_digits` meets its contract: the nearest root of the sum, lowered to 109 digits, is the significand (`Scales.antt`); of w * 2^52 nothing is lowered, and
+-- there are no ties (`plain` in `Rooting.antt`).
 use mathlib.Core.Path.{_≡_, refl, ap, _∙_, subst}
 use mathlib.Core.Bool.{false, not}
 use Prim.Native.Nat.{ℕ, zero, suc, _+_, _-_, _*_, _/_, _%_, _^_, _≤_, _<_}
@@ -31,11 +31,14 @@ top h w e H = go (h / 2 ^ 54) refl e
     go (suc (suc j)) f g = absurd (omega arith)
 
 -- the sum of two squares
-hits : (c : tie.After-nearest-root) → c .before .before .before .before .args .w ≡ 0 → Hits (sumOf (c .before .before .before .before .args .m) (c .before .before .before .before .args .n) (c .before .before .before .before .args .p) (c .before .before .before .before .args .k)) (c .before .before .before .before .args .p + c .before .before .before .under-root .result .hi / 2 ^ 54) (c .nearest-root .result)
+hits : (c : tie.After-nearest-root) → c .before .before .before .before .args .w ≡ 0 → Hits (sumOf (c .before .before .before .before .args .m)
+    (c .before .before .before .before .args .n) (c .before .before .before .before .args .p) (c .before .before .before .before .args .k))
+    (c .before .before .before .before .args .p + c .before .before .before .under-root .result .hi / 2 ^ 54) (c .nearest-root .result)
 hits c e =
     let v = c .before .before .before .under-root in
     let s = c .before .before .before .before in
-    by-sum (s .args .m) (s .args .n) (s .args .p) (s .args .k) _ _ _ _ (s .pre .1) (s .pre .2) (s .pre .6) (s .pre .5) (v .ensures .2 .0 e) (c .before .lowered .ensures .2) (c .nearest-root .ensures) (more (v .result .hi) (v .result .lo) (v .ensures .0) (v .ensures .1))
+    by-sum (s .args .m) (s .args .n) (s .args .p) (s .args .k) _ _ _ _ (s .pre .1) (s .pre .2) (s .pre .6) (s .pre .5) (v .ensures .2 .0 e)
+    (c .before .lowered .ensures .2) (c .nearest-root .ensures) (more (v .result .hi) (v .result .lo) (v .ensures .0) (v .ensures .1))
 
 place : (c : tie.After-nearest-root) → c .before .before .before .before .args .p + c .before .before .before .under-root .result .hi / 2 ^ 54 ≤ 2046
 place c = sum _ _ (c .before .before .before .before .pre .3) (c .before .before .before .under-root .ensures .0)
@@ -53,7 +56,8 @@ few c = let l = low (c .before) in even-le _ 2 (c .nearest-root .result) (lit< t
     under h l a b = omega arith
 
 -- one number
-plainly : (w p vh vl t q : ℕ) → w < 2 ^ 54 → vl < 2 ^ 55 → vh * 2 ^ 55 + vl ≡ 8 * (w * 2 ^ 52) → Lowered (vh * 2 ^ 55 + vl) t (2 * (vh / 2 ^ 54)) → NearestEven t 2 q → 0 < w → (vh / 2 ^ 54 ≡ 0) × Nearest (w * 2 ^ 52) q
+plainly : (w p vh vl t q : ℕ) → w < 2 ^ 54 → vl < 2 ^ 55 → vh * 2 ^ 55 + vl ≡ 8 * (w * 2 ^ 52) → Lowered (vh * 2 ^ 55 + vl) t (2 * (vh / 2 ^ 54))
+    → NearestEven t 2 q → 0 < w → (vh / 2 ^ 54 ≡ 0) × Nearest (w * 2 ^ 52) q
 plainly w p vh vl t q W L e l a z =
     let j : vh / 2 ^ 54 ≡ 0 = omega arith in
     let b : Lowered (8 * (w * 2 ^ 52)) t (2 * 0) = subst (λ (x : ℕ). Lowered x t (2 * 0)) e (subst (λ (x : ℕ). Lowered (vh * 2 ^ 55 + vl) t (2 * x)) j l) in
@@ -62,11 +66,13 @@ plainly w p vh vl t q W L e l a z =
     some : (w : ℕ) → 0 < w → 0 < w * 2 ^ 52
     some w h = omega arith
 
-one : (c : tie.After-nearest-root) → 0 < c .before .before .before .before .args .w → (c .before .before .before .under-root .result .hi / 2 ^ 54 ≡ 0) × Nearest (c .before .before .before .before .args .w * 2 ^ 52) (c .nearest-root .result)
+one : (c : tie.After-nearest-root) → 0 < c .before .before .before .before .args .w → (c .before .before .before .under-root .result .hi / 2 ^ 54 ≡ 0)
+    × Nearest (c .before .before .before .before .args .w * 2 ^ 52) (c .nearest-root .result)
 one c z =
     let s = c .before .before .before .before in
     let v = c .before .before .before .under-root in
-    plainly (s .args .w) (s .args .p) (v .result .hi) (v .result .lo) _ (c .nearest-root .result) (s .pre .0) (v .ensures .1) (v .ensures .2 .1 z) (c .before .lowered .ensures .2) (c .nearest-root .ensures) z
+    plainly (s .args .w) (s .args .p) (v .result .hi) (v .result .lo) _ (c .nearest-root .result) (s .pre .0) (v .ensures .1) (v .ensures .2 .1 z)
+    (c .before .lowered .ensures .2) (c .nearest-root .ensures) z
 
 returns : tie.Need-returns
 returns c =

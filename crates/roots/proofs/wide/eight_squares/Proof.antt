@@ -13,7 +13,8 @@ parts c = eight (c .args .x) (bitAnd (c .args .x) (2 ^ 26 - 1)) (and-mask (c .ar
 low-lt : (m bb : ℕ) → m < 2 ^ 25 → bb < 2 ^ 52 → m * 2 ^ 30 % 2 ^ 64 + 8 * bb < 2 ^ 60
 low-lt m bb h k = omega arith
 
-low-fits : (c : tie.Start) → bitAnd (c .args .x / 2 ^ 26 * bitAnd (c .args .x) (2 ^ 26 - 1)) (2 ^ 25 - 1) * 2 ^ 30 % 2 ^ 64 + 8 * (bitAnd (c .args .x) (2 ^ 26 - 1) * bitAnd (c .args .x) (2 ^ 26 - 1)) < 2 ^ 60
+low-fits : (c : tie.Start) → bitAnd (c .args .x / 2 ^ 26 * bitAnd (c .args .x) (2 ^ 26 - 1))
+    (2 ^ 25 - 1) * 2 ^ 30 % 2 ^ 64 + 8 * (bitAnd (c .args .x) (2 ^ 26 - 1) * bitAnd (c .args .x) (2 ^ 26 - 1)) < 2 ^ 60
 low-fits c = low-lt _ _ (mask-lt (c .args .x / 2 ^ 26 * bitAnd (c .args .x) (2 ^ 26 - 1)) 25) (parts c .low)
 
 returns : tie.Need-returns

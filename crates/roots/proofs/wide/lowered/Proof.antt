@@ -8,13 +8,19 @@ use Rattle.roots.proofs.wide.lowered.Tie as tie
 
 returns : tie.Need-returns
 returns c =
-    let a = c .before in
-    (refl, raw-lt (a .args .v .hi) (a .args .v .lo) (a .args .c) (a .pre .0) (a .pre .1) (a .pre .2), lowered-exact (a .args .v .hi) (a .args .v .lo) (a .args .c) (a .pre .0) (a .pre .1) (a .pre .2) (c .if1 .taken))
+    let a = c .before in (
+      refl,
+      raw-lt (a .args .v .hi) (a .args .v .lo) (a .args .c) (a .pre .0) (a .pre .1) (a .pre .2),
+      lowered-exact (a .args .v .hi) (a .args .v .lo) (a .args .c) (a .pre .0) (a .pre .1) (a .pre .2) (c .if1 .taken),
+    )
 
 returns-2 : tie.Need-returns-2
 returns-2 c =
-    let a = c .before in
-    (refl, odd-lt (a .args .v .hi) (a .args .v .lo) (a .args .c) (a .pre .0) (a .pre .1) (a .pre .2), lowered-odd (a .args .v .hi) (a .args .v .lo) (a .args .c) (a .pre .0) (a .pre .1) (a .pre .2) (c .if1 .left))
+    let a = c .before in (
+      refl,
+      odd-lt (a .args .v .hi) (a .args .v .lo) (a .args .c) (a .pre .0) (a .pre .1) (a .pre .2),
+      lowered-odd (a .args .v .hi) (a .args .v .lo) (a .args .c) (a .pre .0) (a .pre .1) (a .pre .2) (c .if1 .left),
+    )
 
 pub lowered-spec : {M : Type 1} → statement M
 lowered-spec =

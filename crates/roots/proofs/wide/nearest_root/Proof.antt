@@ -1,5 +1,5 @@
--- `nearest_root` meets its contract. The invariant: q, rest, low and the weight of the last digit found are as in `Rooting.antt`, and r, the weight of the next digit, is half of
--- that weight. The measure is r.
+-- `nearest_root` meets its contract. The invariant: q, rest, low and the weight of the last digit found are as in `Rooting.antt`, and r, the weight of the next
+-- digit, is half of that weight. The measure is r.
 use mathlib.Core.Path.{_≡_}
 use mathlib.Core.Logic.{⊎-elim}
 use Prim.Native.Nat.{ℕ, _+_, _*_, _/_, _^_, _≤_, _<_}
@@ -34,7 +34,8 @@ add-q : tie.Need-add-q Inv-loop μ-loop
 add-q c = omega (arith, small (c .before .before) .1)
 
 mul-rest-2 : tie.Need-mul-rest-2 Inv-loop μ-loop
-mul-rest-2 c = ⊎-elim (λ w. omega (arith, small (c .before .before .before) .0)) (λ w. omega (arith, small (c .before .before .before) .0)) (c .before .if1 .came)
+mul-rest-2 c = ⊎-elim (λ w. omega (arith, small (c .before .before .before) .0))
+    (λ w. omega (arith, small (c .before .before .before) .0)) (c .before .if1 .came)
 
 add-rest-2 : tie.Need-add-rest-2 Inv-loop μ-loop
 add-rest-2 c = let s = small (c .before .before .before .before) .0 in ⊎-elim (λ w. omega arith) (λ w. omega arith) (c .before .before .if1 .came)
@@ -56,7 +57,8 @@ loop-again c =
     (c .if2 .came))
     (x .before .loop-test .taken) (l .loop .inv)
 
-ended : (c : tie.At-loop Inv-loop μ-loop) → c .loop .r ≡ 0 → (c .before .args .hi * 2 ^ 55 + c .before .args .lo ≡ 2 * (c .loop .q * c .loop .q) + c .loop .rest) × (c .before .args .hi * 2 ^ 55 + c .before .args .lo < 2 * ((c .loop .q + 1) * (c .loop .q + 1)))
+ended : (c : tie.At-loop Inv-loop μ-loop) → c .loop .r ≡ 0 → (c .before .args .hi * 2 ^ 55 + c .before .args .lo
+    ≡ 2 * (c .loop .q * c .loop .q) + c .loop .rest) × (c .before .args .hi * 2 ^ 55 + c .before .args .lo < 2 * ((c .loop .q + 1) * (c .loop .q + 1)))
 ended c e = last _ (c .loop .rest) (c .loop .low) (c .loop .q) (c .loop .r) (c .loop .inv) e
 
 half-small : (q r b : ℕ) → q + r ≤ 2 ^ 54 → b ≤ 1 → q / 2 + b < 2 ^ 64

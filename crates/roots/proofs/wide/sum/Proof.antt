@@ -26,16 +26,20 @@ returns c =
     let k = l .before .before .before .args .k in
     let s : x .result .hi * 2 ^ 55 + x .result .lo + (y .result .hi * 2 ^ 55 + y .result .lo) ≡ z .result .hi * 2 ^ 55 + z .result .lo =
     total (x .result .hi) (x .result .lo) (y .result .hi) (y .result .lo) _ (z .ensures .1) in
-    let w : Lowered (8 * (n * n)) (y .result .hi * 2 ^ 55 + y .result .lo) (2 * k) = subst (λ (v : ℕ). Lowered v (y .result .hi * 2 ^ 55 + y .result .lo) (2 * k)) (l .before .eight-squares2 .ensures .2) (y .ensures .2) in (
-      top (x .result .hi) (x .result .lo) (y .result .hi) (y .result .lo) (z .result .hi) (z .result .lo) (x .ensures .0) (x .ensures .1) (high l) (y .ensures .1) s,
+    let w : Lowered (8 * (n * n)) (y .result .hi * 2 ^ 55 + y .result .lo) (2 * k) =
+    subst (λ (v : ℕ). Lowered v (y .result .hi * 2 ^ 55 + y .result .lo) (2 * k)) (l .before .eight-squares2 .ensures .2) (y .ensures .2) in (
+      top (x .result .hi) (x .result .lo) (y .result .hi) (y .result .lo) (z .result .hi) (z .result .lo) (x .ensures .0) (x .ensures .1)
+          (high l) (y .ensures .1) s,
       z .ensures .0,
-      subst (λ (v : ℕ). Lowered (8 * (m * m) * 2 ^ (2 * k) + 8 * (n * n)) v (2 * k)) (ap (λ (v : ℕ). v + (y .result .hi * 2 ^ 55 + y .result .lo)) (sym (x .ensures .2)) ∙ s) (lowered-add (8 * (m * m)) _ _ (2 * k) (even (m * m)) w),
+      subst (λ (v : ℕ). Lowered (8 * (m * m) * 2 ^ (2 * k) + 8 * (n * n)) v (2 * k))
+          (ap (λ (v : ℕ). v + (y .result .hi * 2 ^ 55 + y .result .lo)) (sym (x .ensures .2)) ∙ s) (lowered-add (8 * (m * m)) _ _ (2 * k) (even (m * m)) w),
     )
   where
     total : (xh xl yh yl z : ℕ) → z ≡ (xh + yh) * 2 ^ 55 + (xl + yl) → xh * 2 ^ 55 + xl + (yh * 2 ^ 55 + yl) ≡ z
     total xh xl yh yl z e = omega arith
 
-    top : (xh xl yh yl zh zl : ℕ) → xh < 2 ^ 54 → xl < 2 ^ 55 → yh < 2 ^ 54 → yl < 2 ^ 55 → xh * 2 ^ 55 + xl + (yh * 2 ^ 55 + yl) ≡ zh * 2 ^ 55 + zl → zh < 2 ^ 55
+    top : (xh xl yh yl zh zl : ℕ) → xh < 2 ^ 54 → xl < 2 ^ 55 → yh < 2 ^ 54 → yl < 2 ^ 55
+        → xh * 2 ^ 55 + xl + (yh * 2 ^ 55 + yl) ≡ zh * 2 ^ 55 + zl → zh < 2 ^ 55
     top xh xl yh yl zh zl a b c d e = omega arith
 
     even : (n : ℕ) → 8 * n % 2 ≡ 0
@@ -51,5 +55,9 @@ sum-spec =
     (λ c κs. search needs)
     (λ c. omega (arith, c .before .before .before .before .eight-squares .ensures .0, high (c .before .before)))
     (λ c. search needs)
-    (λ c κs. (omega (arith, c .before .before .before .before .before .before .eight-squares .ensures .0, high (c .before .before .before .before)), omega (arith, c .before .before .before .before .before .before .eight-squares .ensures .1, c .before .before .before .before .lowered .ensures .1)))
+    (λ c κs. (
+      omega (arith, c .before .before .before .before .before .before .eight-squares .ensures .0, high (c .before .before .before .before)),
+      omega
+          (arith, c .before .before .before .before .before .before .eight-squares .ensures .1, c .before .before .before .before .lowered .ensures .1),
+    ))
     returns)

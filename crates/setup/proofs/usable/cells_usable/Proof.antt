@@ -11,7 +11,8 @@ use Rattle.setup.proofs.usable.cells_usable.Tie as tie
 
 abbrev Inv-loop : tie.InvT-loop
 Inv-loop mesh n starts members marks stamp columns x0 x1 y0 y1 y₀ y =
-    every (rowUsable (memberUsable mesh n marks stamp) starts members columns x0 x1) y (y1 - y) ≡ cellsUsable (memberUsable mesh n marks stamp) starts members columns (record { x0 = x0; x1 = x1; y0 = y0; y1 = y1 })
+    every (rowUsable (memberUsable mesh n marks stamp) starts members columns x0 x1) y (y1 - y)
+    ≡ cellsUsable (memberUsable mesh n marks stamp) starts members columns (record { x0 = x0; x1 = x1; y0 = y0; y1 = y1 })
 
 abbrev μ-loop : tie.MeasureT-loop
 μ-loop mesh n starts members marks stamp columns x0 x1 y0 y1 y₀ y = y1 - y
@@ -37,5 +38,9 @@ pub cells-usable-spec : {M : Type 1} → statement M
 cells-usable-spec =
     tie.close
     (tie.spec Inv-loop μ-loop loop-holds
-    (λ c κs. let s = c .before .before .before .before .before in (s .pre .0, s .pre .1, omega (arith, in-rows (s .args .columns) (s .args .p .x1) (c .before .loop .y) (s .args .p .y1) (s .pre .2) (c .loop-test .taken), s .pre .3)))
+    (λ c κs. let s = c .before .before .before .before .before in (
+      s .pre .0,
+      s .pre .1,
+      omega (arith, in-rows (s .args .columns) (s .args .p .x1) (c .before .loop .y) (s .args .p .y1) (s .pre .2) (c .loop-test .taken), s .pre .3),
+    ))
     returns (λ c. omega arith) (λ c. omega arith) loop-again returns-2)

@@ -7,7 +7,10 @@ use Rattle.setup.proofs.usable.counts_in.Statement.{statement}
 use Rattle.setup.proofs.usable.counts_in.Tie as tie
 
 mul-is-from : tie.Need-mul-is-from
-mul-is-from c = omega (arith, few-cells _ _ (sym (c .before .before .before .is-from .ensures) ∙ c .before .before .if1 .taken) (sym (c .before .is-from2 .ensures) ∙ c .if2 .taken))
+mul-is-from c = omega (
+  arith,
+  few-cells _ _ (sym (c .before .before .before .is-from .ensures) ∙ c .before .before .if1 .taken) (sym (c .before .is-from2 .ensures) ∙ c .if2 .taken),
+)
 
 returns : tie.Need-returns
 unfolding countsIn

@@ -24,4 +24,5 @@ returns-3 c = search (branches, bool-called)
 pub head-usable-spec : {M : Type 1} → statement M
 head-usable-spec =
     tie.close
-    (tie.spec (λ c κs. tt) (λ c. omega (arith, ranged c)) (λ c. omega (arith, ranged (c .before))) (λ c. omega (arith, ranged (c .before))) returns returns-2 returns-3)
+    (tie.spec (λ c κs. tt) (λ c. omega (arith, ranged c)) (λ c. omega (arith, ranged (c .before)))
+    (λ c. omega (arith, ranged (c .before))) returns returns-2 returns-3)

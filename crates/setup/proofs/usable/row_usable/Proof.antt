@@ -11,7 +11,8 @@ use Rattle.setup.proofs.usable.row_usable.Tie as tie
 
 abbrev Inv-loop : tie.InvT-loop
 Inv-loop mesh n starts members marks stamp columns x0 x1 y x₀ x =
-    every (λ k. cellUsable (memberUsable mesh n marks stamp) starts members (y * columns + k)) x (x1 - x) ≡ rowUsable (memberUsable mesh n marks stamp) starts members columns x0 x1 y
+    every (λ k. cellUsable (memberUsable mesh n marks stamp) starts members (y * columns + k)) x (x1 - x)
+    ≡ rowUsable (memberUsable mesh n marks stamp) starts members columns x0 x1 y
 
 abbrev μ-loop : tie.MeasureT-loop
 μ-loop mesh n starts members marks stamp columns x0 x1 y x₀ x = x1 - x

@@ -26,12 +26,17 @@ loop-holds c =
 returns : tie.Need-returns Inv-loop μ-loop
 returns c =
     let l = c .before .before .before .before .loop in
-    every-stops _ (l .k) _ _ (omega arith) (failed _ _ (c .before .is-coordinate .ensures ∙ ap isCoordinate (c .before .before .number-at .ensures .0)) (c .if1 .taken)) (l .inv .0)
+    every-stops _ (l .k) _ _ (omega arith)
+    (failed _ _ (c .before .is-coordinate .ensures ∙ ap isCoordinate (c .before .before .number-at .ensures .0)) (c .if1 .taken)) (l .inv .0)
 
 loop-again : tie.Need-loop-again Inv-loop μ-loop
 loop-again c =
-    let l = c .before .before .before .before .loop in
-    (every-goes _ (l .k) _ _ (omega arith) (passed _ _ (c .before .is-coordinate .ensures ∙ ap isCoordinate (c .before .before .number-at .ensures .0)) (c .if1 .left)) (l .inv .0), omega arith, omega arith)
+    let l = c .before .before .before .before .loop in (
+      every-goes _ (l .k) _ _ (omega arith) (passed _ _ (c .before .is-coordinate .ensures ∙ ap isCoordinate (c .before .before .number-at .ensures .0))
+          (c .if1 .left)) (l .inv .0),
+      omega arith,
+      omega arith,
+    )
 
 returns-2 : tie.Need-returns-2 Inv-loop μ-loop
 returns-2 c = every-ends _ (c .before .loop .k) _ _ (omega arith) (c .before .loop .inv .0)
@@ -39,4 +44,5 @@ returns-2 c = every-ends _ (c .before .loop .k) _ _ (omega arith) (c .before .lo
 pub triangle-usable-spec : {M : Type 1} → statement M
 triangle-usable-spec =
     tie.close
-    (tie.spec Inv-loop μ-loop (λ c. omega arith) (λ c. omega arith) (λ c. omega arith) loop-holds (λ c κs. omega arith) (λ c κs. tt) returns (λ c. omega arith) (λ c. omega arith) loop-again returns-2)
+    (tie.spec Inv-loop μ-loop (λ c. omega arith) (λ c. omega arith) (λ c. omega arith) loop-holds (λ c κs. omega arith) (λ c κs. tt) returns (λ c. omega arith)
+    (λ c. omega arith) loop-again returns-2)
