@@ -17,8 +17,8 @@ use Rattle.plane.specs.declared.Contact.{Contact}
 use Rattle.plane.specs.declared.Contact.the-variants.{Nothing, Height}
 use Rattle.plane.specs.Contacts.{exceedsOf, takeOf}
 use Rattle.plane.proofs.Higher.{same-waits}
-use Rattle.above.specs.Above.{offerOf}
-use Rattle.above.specs.Inside.{limitOf}
+use Rattle.above.specs.Above.{offerOf, soFar}
+use Rattle.above.specs.Inside.{limitOf, touchesOf}
 
 -- a / A < b / B <= c / C
 cross : (a b c A B C : ℕ) → 0 < A → 0 < C → a * B < b * A → b * C ≤ c * B → a * C < c * A
@@ -219,3 +219,12 @@ raises-same b s f a (Height z t) =
     by-test (exceedsOf z b)
     (λ e. ap (raising b f a) (takes b z s t e) ∙ refl)
     (λ e. ap (raising b f a) (waits b z s t e) ∙ (rw (same-waits b, e)))
+
+-- ---- what is on top of a best so far and touches something is the contact itself
+pub own : (f : Float) (c r : Contact) → r ≡ offerOf (soFar f) c → touchesOf r ≡ true → r ≡ c
+unfolding touchesOf offerOf
+own f Nothing r e h = absurd (no (sym (ap touchesOf e) ∙ h))
+own f (Height z t) r e h =
+    by-test (exceedsOf z f)
+    (λ g. e ∙ takes f z _ t g)
+    (λ g. absurd (no (sym (ap touchesOf (e ∙ waits f z _ t g)) ∙ h)))

@@ -1,4 +1,6 @@
 -- What lets a candidate be left out; no answer is defined here.
+use mathlib.Core.Bool.{Bool, false, not}
+use lib.Dec.{eqb}
 use lib.Ieee.{Float}
 use Rattle.numbers.specs.Reals.{_⊘_, f0}
 use Rattle.plane.specs.declared.Contact.{Contact}
@@ -8,3 +10,8 @@ use Rattle.plane.specs.declared.Contact.the-variants.{Nothing, Height}
 unfoldable pub limitOf : Contact → Float
 limitOf Nothing = f0 ⊘ f0
 limitOf (Height b t) = b
+
+-- Whether a contact is with a triangle: a best so far touches nothing, kind 0.
+unfoldable pub touchesOf : Contact → Bool
+touchesOf Nothing = false
+touchesOf (Height z t) = not (eqb (t .kind) 0)

@@ -1,7 +1,7 @@
 // A contact on top of a best so far: the candidates of one triangle go on from where the search stands, so that what cannot exceed it is left out.
 ghost use mathlib.Core.Path.{_≡_};
 ghost use Rattle.above.specs.Above.{offerOf, soFar};
-ghost use Rattle.above.specs.Inside.{limitOf};
+ghost use Rattle.above.specs.Inside.{limitOf, touchesOf};
 use plane::Contact;
 use plane::Touch;
 
@@ -29,5 +29,15 @@ pub fn limit(c: Contact) -> f64
     match c {
         Contact::Nothing => 0.0 / 0.0,
         Contact::Height(b, _) => b,
+    }
+}
+
+// Whether a contact is with a triangle: a best so far touches nothing.
+pub fn touches(c: Contact) -> bool
+    ensures { λ r. ⌜ r ≡ touchesOf c ⌝ }
+{
+    match c {
+        Contact::Nothing => false,
+        Contact::Height(_, t) => t.kind != 0,
     }
 }

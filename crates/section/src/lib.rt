@@ -363,7 +363,7 @@ fn at(s: Section, x: f64, y: f64, e: Edge, flat: f64, t: f64) -> f64
 }
 
 // The candidate of the facet.
-fn facet(s: Section, x: f64, y: f64, t: Triangle, f: Facing) -> Contact
+pub fn facet(s: Section, x: f64, y: f64, t: Triangle, f: Facing) -> Contact
     ensures { λ c. ⌜ c ≡ sectionFacet s x y t f ⌝ }
 {
     match f {

@@ -2,14 +2,18 @@
 ghost use mathlib.Core.Path.{_≡_};
 ghost use Rattle.golden.specs.Search.{rises, goldenStart, goldenStep};
 ghost use Rattle.golden.specs.Upper.{bracketStart, bracketStep, bracketRun, concaveMaxUpper};
+ghost use Rattle.section.specs.Section.{sectionContact};
 ghost use Rattle.section_gap.specs.Blocks.{sectionGap, sectionSearched, sideGap, boxFar, sectionBlocks};
 use cutters::Stretch;
 use golden::Bracket;
 use golden::Golden;
 use plane::Bounds;
+use plane::Contact;
 use plane::Triangle;
 use reach::Chord;
 use section::Section;
+
+mod guess;
 
 // Whether a triangle, with its box b, blocks the section k on the chord.
 pub fn section_blocks(t: Triangle, b: Bounds, m: Chord, k: Section) -> bool
@@ -122,5 +126,17 @@ fn gap(t: Triangle, m: Chord, k: Section, u: f64) -> f64
 {
     let x = m.ax + u * (m.bx - m.ax);
     let y = m.ay + u * (m.by - m.ay);
-    reach::gap_of(m, u, section::section_contact(t, x, y, k))
+    reach::gap_of(m, u, contact(t, x, y, k))
+}
+
+// The contact by itself. What lies lower than a guess of it is left out, unless the contact lies lower too.
+fn contact(t: Triangle, x: f64, y: f64, k: Section) -> Contact
+    ensures { λ c. ⌜ c ≡ sectionContact t x y k ⌝ }
+{
+    let on = above::so_far(guess::start_of(t, x, y, k));
+    let c = section::section_contact_on(t, x, y, k, on);
+    if above::touches(c) {
+        return c;
+    }
+    section::section_contact(t, x, y, k)
 }
