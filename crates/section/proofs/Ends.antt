@@ -38,7 +38,7 @@ unfolding profileOf heightOver
 far-height s d e h = rw (e, h)
 
 module _ (s : Section) (v : Valid s) (g : T (fits binary64 (s .z0))) where
-  surface-up : (d d′ : Float) → T (le d d′) → T (le d′ (s .r1)) → T (le (heightOver (profileOf s d)) (heightOver (profileOf s d′)))
+  pub surface-up : (d d′ : Float) → T (le d d′) → T (le d′ (s .r1)) → T (le (heightOver (profileOf s d)) (heightOver (profileOf s d′)))
   surface-up d d′ k m =
       by-test (le d (s .r0))
       (λ e. rw (near-height s d e) (height-all s v g (λ h. T (le (s .z0) h)) (λ h a b. a) d′ m))
@@ -87,7 +87,7 @@ module _ (s : Section) (v : Valid s) (g : T (fits binary64 (s .z0))) where
         (sub-mono binary64 z high (heightOver (profileOf s d)) (zh .1) (high-fine e x y lo hi p q tame) f (zh .0))
 
 -- ---- a cap that is a number
-no-number : isNan (f0 ⊘ f0) ≡ false → ⊥
+pub no-number : isNan (f0 ⊘ f0) ≡ false → ⊥
 unfolding ofBits div isNan
 no-number h = no (sym h)
 

@@ -4,3 +4,4 @@ pub mod Goings
 pub mod Ends
 pub mod Rims
 pub mod Giving
+pub mod Slides

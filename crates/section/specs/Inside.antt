@@ -3,17 +3,21 @@ use mathlib.Core.Bool.{Bool, true, false, cond}
 use mathlib.Core.Logic.{_⊎_}
 use mathlib.Core.Path.{_≡_}
 use lib.Dec.{T}
-use lib.Ieee.{Float, binary64, le, fits, isNan}
+use lib.Ieee.{Float, binary64, lt, le, fits, isNan}
 use Rattle.numbers.specs.Reals.{_⊕_, _⊖_, _⊗_, _⊘_, f0, f1, minOf, maxOf, absOf}
 use Rattle.golden.specs.Phi.{phi60}
 use Rattle.roots.specs.Hypot.{hypotOf}
 use Rattle.plane.specs.declared.Contact.{Contact}
+use Rattle.plane.specs.Ranges.{isCoordinate, isRadius}
+use Rattle.golden.specs.declared.Golden.{Golden}
 use Rattle.above.specs.Above.{offerOf}
 use Rattle.above.specs.Inside.{limitOf}
 use Rattle.cutters.specs.declared.Edge.{Edge}
 use Rattle.cutters.specs.Touch.{length2}
 use Rattle.caps.specs.Inside.{rootMost, highOn, leastOn, tameOn, tameRise}
 use Rattle.section.specs.declared.Section.{Section}
+use Rattle.section.specs.declared.slide.Fence.{Fence}
+use Rattle.section.specs.declared.slide.Loose.{Loose}
 use Rattle.section.specs.declared.Surface.the-variants.{Beyond}
 use Rattle.section.specs.Section.{validSection, profileOf, heightOver, sectionAt}
 
@@ -62,3 +66,30 @@ pub record Begun (s : Section) (low x y : Float) (e : Edge) (flat lo hi m : Floa
   pub firm : Firm s low
   pub flat-to : FlatTo s flat
   pub ends : m ≡ maxOf (sectionAt s x y e lo) (sectionAt s x y e hi)
+
+-- A height z of ordinary size, and a distance d between two numbers of ordinary size.
+pub record Around (z near far d : Float) : Type 0 where
+  pub height : isCoordinate z ≡ true
+  pub small : isRadius near ≡ true
+  pub large : isRadius far ≡ true
+  pub low : T (le near d)
+  pub high : T (le d far)
+
+-- A fence holds the height v: what of it is a number is at most v, or at least.
+pub record Held (p : Fence) (v : Float) : Type 0 where
+  pub at-least : isNan (p .low) ≡ false → T (le (p .low) v)
+  pub at-most : isNan (p .high) ≡ false → T (le v (p .high))
+
+-- The bracket g with the values of f at its inner points.
+unfoldable pub valuedAt : (Float → Float) → Golden → Golden
+valuedAt f g = record { a = g .a; b = g .b; x1 = g .x1; x2 = g .x2; f1 = f (g .x1); f2 = f (g .x2) }
+
+-- w has the places of the bracket q, whose values its fences hold.
+pub record Loosely (f : Float → Float) (q : Golden) (w : Loose) : Type 0 where
+  pub spots : valuedAt f (w .g) ≡ q
+  pub first : Held (w .one) (f (w .g .x1))
+  pub second : Held (w .two) (f (w .g .x2))
+
+-- Whether the fences tell that a step drops the left part, or the right one.
+unfoldable pub goesOf : Bool → Loose → Bool
+goesOf left w = cond left (lt (w .one .high) (w .two .low)) (le (w .two .high) (w .one .low))

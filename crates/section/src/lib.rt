@@ -1,9 +1,10 @@
 // A section of a tool: its profile, its validity, and its contact with one triangle.
 ghost use mathlib.Core.Bool.{true};
 ghost use mathlib.Core.Path.{_≡_};
+ghost use Prim.Native.Nat.{_≤_};
 ghost use Rattle.numbers.specs.Reals.{_⊕_};
 ghost use Rattle.above.specs.Above.{offerOf};
-ghost use Rattle.golden.specs.Search.{rises, goldenStart, goldenStep, goldenMax, goldenMaxBound};
+ghost use Rattle.golden.specs.Search.{rises, goldenStart, goldenStep, goldenAt, goldenMax, goldenMaxBound};
 ghost use Rattle.caps.specs.Inside.{InnerOf, Alike};
 ghost use Rattle.section.specs.Inside.{FlatTo, Firm, Clear, capOf, AsGood, Under, Begun};
 ghost use Rattle.section.specs.Section.{within, positiveReach, validSection, profileOf, heightOver, sectionUnder, sectionVertex};
@@ -18,8 +19,10 @@ use golden::Golden;
 use plane::Contact;
 use plane::Touch;
 use plane::Triangle;
+use slide::Stage;
 
 mod low;
+mod slide;
 
 // A part of a tool seen from below: level to r0 at z0 over the tip, then rising to r1.
 pub struct Section {
@@ -271,7 +274,7 @@ fn flat_of(s: Section) -> f64
 }
 
 // The same with the number `flat` of the section, m being the larger end's height. The search is given up once nothing that it can still find exceeds that, or,
-// with `more` added, the limit.
+// with `more` added, the limit. After its first steps it may run to an end.
 fn search_on(
     s: Section,
     low: f64,
@@ -289,7 +292,36 @@ fn search_on(
     ensures { λ r. ⌜ Alike limit (r ⊕ more) (goldenMax (sectionAt s x y e) lo hi 60 ⊕ more) ⌝ }
 {
     let mut g = start(s, x, y, e, flat, lo, hi);
-    for n in 0..60usize {
+    for n in 0..5usize {
+        if settled(s, low, x, y, e, m, more, limit, g, n) {
+            return m;
+        }
+        g = step(s, x, y, e, flat, g);
+    }
+    let from = slide::slid(s, low, x, y, e, flat, lo, hi, Stage { g, n: 5 });
+    search_last(s, low, x, y, e, flat, lo, hi, m, more, limit, from)
+}
+
+// The same from a later step on.
+fn search_last(
+    s: Section,
+    low: f64,
+    x: f64,
+    y: f64,
+    e: Edge,
+    flat: f64,
+    lo: f64,
+    hi: f64,
+    m: f64,
+    more: f64,
+    limit: f64,
+    from: Stage,
+) -> f64
+    requires { ⌜ (Begun s low x y e flat lo hi m) × (from .g ≡ goldenAt rises (sectionAt s x y e) lo hi (from .n)) × (from .n ≤ 60) ⌝ }
+    ensures { λ r. ⌜ Alike limit (r ⊕ more) (goldenMax (sectionAt s x y e) lo hi 60 ⊕ more) ⌝ }
+{
+    let mut g = from.g;
+    for n in from.n..60usize {
         if settled(s, low, x, y, e, m, more, limit, g, n) {
             return m;
         }

@@ -52,7 +52,7 @@ pub fn cap_on(s: Section, low: f64, x: f64, y: f64, e: Edge, lo: f64, hi: f64) -
 }
 
 // The height z less that of the surface at the distance d.
-fn over(s: Section, z: f64, d: f64) -> f64
+pub fn over(s: Section, z: f64, d: f64) -> f64
     ensures { λ r. ⌜ r ≡ overOf s z d ⌝ }
 {
     z - crate::height_over(crate::profile(s, d))

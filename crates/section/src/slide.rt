@@ -1,0 +1,215 @@
+// A search along an edge that runs to an end of its stretch. Which way its steps go is seen from bounds of the tip's height, for which squares do and no
+// distance is taken.
+ghost use mathlib.Core.Bool.{true};
+ghost use mathlib.Core.Path.{_≡_};
+ghost use Prim.Native.Nat.{_≤_};
+ghost use Rattle.numbers.specs.Reals.{minOf};
+ghost use Rattle.roots.specs.Hypot.{hypotOf};
+ghost use Rattle.golden.specs.Search.{rises, goldenStep, goldenAt};
+ghost use Rattle.section.specs.Section.{sectionAt};
+ghost use Rattle.section.specs.Inside.{Firm, FlatTo, overOf, Around, Held, valuedAt, Loosely, goesOf};
+use crate::Section;
+use cutters::Edge;
+use golden::Golden;
+
+// 2^-47, more than what a distance and its square lose by rounding
+const SLACK: f64 = 7.105427357601002e-15;
+
+// How the distance from the axis goes on from a place of an edge: by `slope` times the way, and up to `bend` times the way's square more. A guess, of which
+// nothing is asked.
+pub struct Course {
+    pub at: f64,
+    pub distance: f64,
+    pub slope: f64,
+    pub bend: f64,
+}
+
+// Two numbers between which a height lies, or two NaNs.
+pub struct Fence {
+    pub low: f64,
+    pub high: f64,
+}
+
+// A bracket whose values are not worked out, with the fences of both.
+pub struct Loose {
+    pub g: Golden,
+    pub one: Fence,
+    pub two: Fence,
+}
+
+// A search after n steps.
+pub struct Stage {
+    pub g: Golden,
+    pub n: usize,
+}
+
+// The search after n steps, or after more where it runs to an end of lo..hi.
+pub fn slid(
+    s: Section,
+    low: f64,
+    x: f64,
+    y: f64,
+    e: Edge,
+    flat: f64,
+    lo: f64,
+    hi: f64,
+    from: Stage,
+) -> Stage
+    requires { ⌜ (Firm s low) × (FlatTo s flat) × (from .g ≡ goldenAt rises (sectionAt s x y e) lo hi (from .n)) × (from .n ≤ 60) ⌝ }
+    ensures { λ r. ⌜ (r .g ≡ goldenAt rises (sectionAt s x y e) lo hi (r .n)) × (r .n ≤ 60) ⌝ }
+{
+    let g = from.g;
+    if g.b == hi {
+        return run(s, low, x, y, e, flat, lo, hi, true, tangent(x, y, e, hi), from);
+    }
+    if g.a == lo {
+        return run(s, low, x, y, e, flat, lo, hi, false, tangent(x, y, e, lo), from);
+    }
+    from
+}
+
+// How the distance goes on from the edge's point at t.
+fn tangent(x: f64, y: f64, e: Edge, t: f64) -> Course {
+    let ex = e.bx - e.ax;
+    let ey = e.by - e.ay;
+    let dx = e.ax + t * ex - x;
+    let dy = e.ay + t * ey - y;
+    let d = roots::hypot(dx, dy);
+    Course {
+        at: t,
+        distance: d,
+        slope: (dx * ex + dy * ey) / d,
+        bend: (ex * ex + ey * ey) / d,
+    }
+}
+
+// The search as far as the fences tell that each step drops the left part, or that each drops the right one.
+fn run(
+    s: Section,
+    low: f64,
+    x: f64,
+    y: f64,
+    e: Edge,
+    flat: f64,
+    lo: f64,
+    hi: f64,
+    left: bool,
+    k: Course,
+    from: Stage,
+) -> Stage
+    requires { ⌜ (Firm s low) × (FlatTo s flat) × (from .g ≡ goldenAt rises (sectionAt s x y e) lo hi (from .n)) × (from .n ≤ 60) ⌝ }
+    ensures { λ r. ⌜ (r .g ≡ goldenAt rises (sectionAt s x y e) lo hi (r .n)) × (r .n ≤ 60) ⌝ }
+{
+    let mut w = first(s, low, x, y, e, k, from.g);
+    for n in from.n..60usize {
+        if !goes(left, w) {
+            return Stage {
+                g: valued(s, x, y, e, flat, w),
+                n,
+            };
+        }
+        w = next(s, low, x, y, e, k, left, w);
+    }
+    Stage {
+        g: valued(s, x, y, e, flat, w),
+        n: 60,
+    }
+}
+
+// A bracket with the fences of its values.
+fn first(s: Section, low: f64, x: f64, y: f64, e: Edge, k: Course, g: Golden) -> Loose
+    requires { ⌜ Firm s low ⌝ }
+    ensures { λ w. ⌜ Loosely (sectionAt s x y e) (valuedAt (sectionAt s x y e) g) w ⌝ }
+{
+    let one = bounds_at(s, low, x, y, e, k, g.x1);
+    let two = bounds_at(s, low, x, y, e, k, g.x2);
+    Loose { g, one, two }
+}
+
+// Whether the fences tell that a step drops the left part, or the right one.
+fn goes(left: bool, w: Loose) -> bool
+    ensures { λ r. ⌜ r ≡ goesOf left w ⌝ }
+{
+    let one = w.one;
+    let two = w.two;
+    if left {
+        return one.high < two.low;
+    }
+    two.high <= one.low
+}
+
+// The bracket after such a step.
+fn next(s: Section, low: f64, x: f64, y: f64, e: Edge, k: Course, left: bool, w: Loose) -> Loose
+    requires { ⌜ (Firm s low) × (goesOf left w ≡ true) ⌝ }
+    ensures { λ r. ⌜ ((q : Golden) → Loosely (sectionAt s x y e) q w → Loosely (sectionAt s x y e) (goldenStep rises (sectionAt s x y e) q) r) ⌝ }
+{
+    let one = w.one;
+    let two = w.two;
+    let p = golden::probe(left, w.g);
+    let g = golden::narrowed(left, w.g, p, 0.0);
+    let v = bounds_at(s, low, x, y, e, k, p);
+    if left {
+        return Loose { g, one: two, two: v };
+    }
+    Loose { g, one: v, two: one }
+}
+
+// The bracket with its values.
+fn valued(s: Section, x: f64, y: f64, e: Edge, flat: f64, w: Loose) -> Golden
+    requires { ⌜ FlatTo s flat ⌝ }
+    ensures { λ r. ⌜ r ≡ valuedAt (sectionAt s x y e) (w .g) ⌝ }
+{
+    let g = w.g;
+    Golden {
+        a: g.a,
+        b: g.b,
+        x1: g.x1,
+        x2: g.x2,
+        f1: crate::at(s, x, y, e, flat, g.x1),
+        f2: crate::at(s, x, y, e, flat, g.x2),
+    }
+}
+
+// Two numbers between which the tip's height over the edge's point at t lies, if the distance there is as k has it.
+fn bounds_at(s: Section, low: f64, x: f64, y: f64, e: Edge, k: Course, t: f64) -> Fence
+    requires { ⌜ Firm s low ⌝ }
+    ensures { λ r. ⌜ Held r (sectionAt s x y e t) ⌝ }
+{
+    let z = e.az + t * (e.bz - e.az);
+    let dx = e.ax + t * (e.bx - e.ax) - x;
+    let dy = e.ay + t * (e.by - e.ay) - y;
+    let way = t - k.at;
+    let d = k.distance + way * k.slope;
+    let slack = k.distance * SLACK;
+    let near = d - slack;
+    let far = d + way * way * k.bend + slack;
+    if 0.0 <= low {
+        if lies(z, dx, dy, near, far) {
+            return Fence {
+                low: over(s, z, far),
+                high: over(s, z, near),
+            };
+        }
+    }
+    Fence {
+        low: 0.0 / 0.0,
+        high: 0.0 / 0.0,
+    }
+}
+
+// Whether the height z is of ordinary size and the squares show that the distance of dx and dy lies from near to far.
+fn lies(z: f64, dx: f64, dy: f64, near: f64, far: f64) -> bool
+    ensures { λ r. ⌜ (r ≡ true → Around z near far (hypotOf dx dy)) ⌝ }
+{
+    let q = dx * dx + dy * dy;
+    plane::is_coordinate(z)
+        && (plane::is_radius(near)
+            && (plane::is_radius(far) && (q >= bound::beyond(near) && q <= bound::within(far))))
+}
+
+// The height z less that of the surface at the distance d, or at the rim where that is nearer.
+fn over(s: Section, z: f64, d: f64) -> f64
+    ensures { λ r. ⌜ r ≡ overOf s z (minOf d (s .r1)) ⌝ }
+{
+    crate::low::over(s, z, numbers::min(d, s.r1))
+}
