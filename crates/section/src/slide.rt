@@ -1,5 +1,4 @@
-// A search along an edge that runs to an end of its stretch. Which way its steps go is seen from bounds of the tip's height, for which squares do and no
-// distance is taken.
+// A search along an edge, as far as it can be followed without distances: which way its steps go is seen from fences of the tip's height, for which squares do.
 ghost use mathlib.Core.Bool.{true};
 ghost use mathlib.Core.Path.{_≡_};
 ghost use Prim.Native.Nat.{_≤_};
@@ -15,13 +14,14 @@ use golden::Golden;
 // 2^-47, more than what a distance and its square lose by rounding
 const SLACK: f64 = 7.105427357601002e-15;
 
-// How the distance from the axis goes on from a place of an edge: by `slope` times the way, and up to `bend` times the way's square more. A guess, of which
-// nothing is asked.
+// How the distance from the axis goes on from a place of an edge: by `slope` times the way and `curve` times its square, within `spread` times its third power.
+// A guess, of which nothing is asked.
 pub struct Course {
     pub at: f64,
     pub distance: f64,
     pub slope: f64,
-    pub bend: f64,
+    pub curve: f64,
+    pub spread: f64,
 }
 
 // Two numbers between which a height lies, or two NaNs.
@@ -43,7 +43,7 @@ pub struct Stage {
     pub n: usize,
 }
 
-// The search after n steps, or after more where it runs to an end of lo..hi.
+// The search from where it stands on, as far as the fences tell which way each step goes.
 pub fn slid(
     s: Section,
     low: f64,
@@ -58,50 +58,10 @@ pub fn slid(
     requires { ⌜ (Firm s low) × (FlatTo s flat) × (from .g ≡ goldenAt rises (sectionAt s x y e) lo hi (from .n)) × (from .n ≤ 60) ⌝ }
     ensures { λ r. ⌜ (r .g ≡ goldenAt rises (sectionAt s x y e) lo hi (r .n)) × (r .n ≤ 60) ⌝ }
 {
-    let g = from.g;
-    if g.b == hi {
-        return run(s, low, x, y, e, flat, lo, hi, true, tangent(x, y, e, hi), from);
-    }
-    if g.a == lo {
-        return run(s, low, x, y, e, flat, lo, hi, false, tangent(x, y, e, lo), from);
-    }
-    from
-}
-
-// How the distance goes on from the edge's point at t.
-fn tangent(x: f64, y: f64, e: Edge, t: f64) -> Course {
-    let ex = e.bx - e.ax;
-    let ey = e.by - e.ay;
-    let dx = e.ax + t * ex - x;
-    let dy = e.ay + t * ey - y;
-    let d = roots::hypot(dx, dy);
-    Course {
-        at: t,
-        distance: d,
-        slope: (dx * ex + dy * ey) / d,
-        bend: (ex * ex + ey * ey) / d,
-    }
-}
-
-// The search as far as the fences tell that each step drops the left part, or that each drops the right one.
-fn run(
-    s: Section,
-    low: f64,
-    x: f64,
-    y: f64,
-    e: Edge,
-    flat: f64,
-    lo: f64,
-    hi: f64,
-    left: bool,
-    k: Course,
-    from: Stage,
-) -> Stage
-    requires { ⌜ (Firm s low) × (FlatTo s flat) × (from .g ≡ goldenAt rises (sectionAt s x y e) lo hi (from .n)) × (from .n ≤ 60) ⌝ }
-    ensures { λ r. ⌜ (r .g ≡ goldenAt rises (sectionAt s x y e) lo hi (r .n)) × (r .n ≤ 60) ⌝ }
-{
+    let k = course_from(x, y, e, aim(from.g, lo, hi));
     let mut w = first(s, low, x, y, e, k, from.g);
     for n in from.n..60usize {
+        let left = seems(w);
         if !goes(left, w) {
             return Stage {
                 g: valued(s, x, y, e, flat, w),
@@ -114,6 +74,43 @@ fn run(
         g: valued(s, x, y, e, flat, w),
         n: 60,
     }
+}
+
+// Where the search seems to end: at an end of lo..hi, or near the better inner point.
+fn aim(g: Golden, lo: f64, hi: f64) -> f64 {
+    if g.b == hi {
+        return hi;
+    }
+    if g.a == lo {
+        return lo;
+    }
+    if g.f1 < g.f2 { g.x2 } else { g.x1 }
+}
+
+// How the distance goes on from the edge's point at t.
+fn course_from(x: f64, y: f64, e: Edge, t: f64) -> Course {
+    let ex = e.bx - e.ax;
+    let ey = e.by - e.ay;
+    let dx = e.ax + t * ex - x;
+    let dy = e.ay + t * ey - y;
+    let d = roots::hypot(dx, dy);
+    let over = 0.5 / d;
+    let slope = 2.0 * over * (dx * ex + dy * ey);
+    let length = ex * ex + ey * ey;
+    Course {
+        at: t,
+        distance: d,
+        slope,
+        curve: over * (length - slope * slope),
+        spread: 2.0 * over * over * length * (numbers::abs(ex) + numbers::abs(ey)),
+    }
+}
+
+// Whether a step seems to drop the left part.
+fn seems(w: Loose) -> bool {
+    let one = w.one;
+    let two = w.two;
+    one.high < two.low
 }
 
 // A bracket with the fences of its values.
@@ -149,9 +146,17 @@ fn next(s: Section, low: f64, x: f64, y: f64, e: Edge, k: Course, left: bool, w:
     let g = golden::narrowed(left, w.g, p, 0.0);
     let v = bounds_at(s, low, x, y, e, k, p);
     if left {
-        return Loose { g, one: two, two: v };
+        return Loose {
+            g,
+            one: two,
+            two: v,
+        };
     }
-    Loose { g, one: v, two: one }
+    Loose {
+        g,
+        one: v,
+        two: one,
+    }
 }
 
 // The bracket with its values.
@@ -179,10 +184,10 @@ fn bounds_at(s: Section, low: f64, x: f64, y: f64, e: Edge, k: Course, t: f64) -
     let dx = e.ax + t * (e.bx - e.ax) - x;
     let dy = e.ay + t * (e.by - e.ay) - y;
     let way = t - k.at;
-    let d = k.distance + way * k.slope;
-    let slack = k.distance * SLACK;
+    let d = k.distance + way * (k.slope + way * k.curve);
+    let slack = k.distance * SLACK + numbers::abs(way) * way * way * k.spread;
     let near = d - slack;
-    let far = d + way * way * k.bend + slack;
+    let far = d + slack;
     if 0.0 <= low {
         if lies(z, dx, dy, near, far) {
             return Fence {

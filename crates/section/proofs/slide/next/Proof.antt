@@ -3,12 +3,12 @@ use Rattle.section.proofs.slide.next.Statement.{statement}
 use Rattle.section.proofs.slide.next.Tie as tie
 
 returns : tie.Need-returns
-returns c = 
+returns c =
     let a = c .before .before .before .before .before .before in
     goes-right _ _ _ _ _ _ _ (a .pre .1) (c .before .before .before .probe .ensures) (c .before .before .narrowed .ensures) (c .before .bounds-at .ensures) (c .if1 .taken)
 
 returns-2 : tie.Need-returns-2
-returns-2 c = 
+returns-2 c =
     let a = c .before .before .before .before .before .before in
     goes-left _ _ _ _ _ _ _ (a .pre .1) (c .before .before .before .probe .ensures) (c .before .before .narrowed .ensures) (c .before .bounds-at .ensures) (c .if1 .left)
 
