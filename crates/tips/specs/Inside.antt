@@ -7,6 +7,7 @@ use lib.Ieee.{Float, le}
 use lib.ListN.{length, getD}
 use Rattle.numbers.specs.Reals.{_⊘_, f0, f1}
 use Rattle.plane.specs.declared.Triangle.{Triangle}
+use Rattle.plane.specs.declared.Bounds.{Bounds}
 use Rattle.plane.specs.Mesh.{triangleOf}
 use Rattle.rules.specs.Every.{times}
 use Rattle.tops.specs.Inside.{isStart, isParted}
@@ -21,17 +22,17 @@ use Rattle.query.specs.declared.Patch.{Patch}
 use Rattle.ask.specs.Ask.{atFloor}
 use Rattle.tips.specs.declared.Sight.{Sight}
 use Rattle.tips.specs.declared.Shape.{Shape}
-use Rattle.tips.specs.declared.Shape.the-variants.{Nose, Sections, Corners, From}
+use Rattle.tips.specs.declared.Shape.the-variants.{Nose, Sections, Guess, From}
 use Rattle.tips.specs.Contact.{bullRaised, bullStep, toolStep}
 
 -- ---- a walk of a cutter that begins above the floor
 
--- The height so far with the tips over a triangle's vertices: a guess of what the walk will find.
-unfoldable pub cornersRaised : Triangle → Float → Sight → Best → Best
-cornersRaised t top g best = cond (le top (best .height)) best (atFloor (sightedOf (g .nose) (g .limit) t (best .height)))
+-- The height so far with tips over a triangle: a guess of what the walk will find.
+unfoldable pub guessRaised : Triangle → Bounds → Sight → Best → Best
+guessRaised t b g best = cond (le (b .top) (best .height)) best (atFloor (sightedOf (g .nose) (g .limit) t b (best .height)))
 
-unfoldable pub cornersStep : List Float → List Float → Sight → Best → ℕ → Best
-cornersStep mesh boxes g best i = cornersRaised (triangleOf mesh i) (boxAt boxes i .top) g best
+unfoldable pub guessStep : List Float → List Float → Sight → Best → ℕ → Best
+guessStep mesh boxes g best i = guessRaised (triangleOf mesh i) (boxAt boxes i) g best
 
 -- Where a walk that began too high has come to: no height raises it, and it names nothing.
 abbrev pub lost : Best
@@ -75,5 +76,5 @@ pub record Ready (mesh boxes : List Float) (starts members : List ℕ) (columns 
 unfoldable pub shapeStep : List Float → List Float → Shape → List Float → Best → ℕ → Best
 shapeStep mesh boxes (Nose k) table best i = bullStep mesh boxes k best i
 shapeStep mesh boxes (Sections a) table best i = toolStep mesh boxes a table best i
-shapeStep mesh boxes (Corners g) table best i = cornersStep mesh boxes g best i
+shapeStep mesh boxes (Guess g) table best i = guessStep mesh boxes g best i
 shapeStep mesh boxes (From g) table best i = fromStep mesh boxes g best i

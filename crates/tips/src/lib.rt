@@ -10,7 +10,7 @@ ghost use Rattle.grid.specs.Index.{indexOf};
 ghost use Rattle.ask.specs.Ask.{ended, atFloor};
 ghost use Rattle.tips.specs.Contact.{bullRaised, bullStep, isStand, maxBullOf, BullPromise, toolRaised};
 ghost use Rattle.tips.specs.Contact.{toolStep, isPlace, maxSectionsOf, SectionsPromise};
-ghost use Rattle.tips.specs.Inside.{shapeStep, cornersRaised, cornersStep, firstRaised, fromRaised, fromStep, mayBegin, Fresh, Besides, Tables, Ready};
+ghost use Rattle.tips.specs.Inside.{shapeStep, guessStep, firstRaised, fromRaised, fromStep, mayBegin, Fresh, Besides, Tables, Ready};
 use ask::Answer;
 use bull::Bull;
 use grid::Header;
@@ -19,7 +19,7 @@ use plane::Triangle;
 use query::Patch;
 use walk::Seen;
 
-// 2^-10: how far under the highest tip over a vertex a walk begins. Nearer to it more triangles could have their contact on either side of that.
+// 2^-10: how far under the guess a walk begins. Nearer to it more triangles could have their contact on either side of that.
 const AHEAD: f64 = 0.0009765625;
 
 // Where a tool stands, and the lowest z0 of its sections.
@@ -29,18 +29,18 @@ pub struct Axis {
     pub low: f64,
 }
 
-// A bull-nose cutter with a number beside it: from which sum of squares on a vertex is out of reach, or the height at which a walk begins.
+// A bull-nose cutter with a number beside it: from which sum of squares on a place is out of reach, or the height at which a walk begins.
 pub struct Sight {
     pub nose: Bull,
     pub limit: f64,
 }
 
 // The tool of a question: a bull-nose cutter, or sections, whose table is handed beside it (and is empty for a cutter). Of a cutter there are two walks
-// more: one that only looks at vertices, and one that begins above the floor.
+// more: one that guesses what the answer will be, and one that begins above the floor.
 pub enum Shape {
     Nose(Bull),
     Sections(Axis),
-    Corners(Sight),
+    Guess(Sight),
     From(Sight),
 }
 
@@ -270,23 +270,19 @@ fn raise_tool(mesh: &[f64], boxes: &[f64], a: Axis, table: &[f64], best: Best, i
     )
 }
 
-// The height so far with the vertices of triangle i.
-fn raise_corners(mesh: &[f64], boxes: &[f64], g: Sight, best: Best, i: u32) -> Best
+// The guess so far with triangle i.
+fn raise_guess(mesh: &[f64], boxes: &[f64], g: Sight, best: Best, i: u32) -> Best
     requires { ⌜ (9 * i + 9 ≤ length (now mesh)) × (5 * i + 5 ≤ length (now boxes)) ⌝ }
-    ensures { λ r. ⌜ r ≡ cornersStep (now (mesh .entry)) (now (boxes .entry)) g best i ⌝ }
+    ensures { λ r. ⌜ r ≡ guessStep (now (mesh .entry)) (now (boxes .entry)) g best i ⌝ }
 {
+    let z = best.height;
+    let k = g.nose;
+    let far = g.limit;
     let b = grid::box_at(boxes, i as usize);
-    raise_corners_on(plane::triangle_at(mesh, i as usize), b.top, g, best)
-}
-
-// The same, with the triangle's top given.
-fn raise_corners_on(t: Triangle, top: f64, g: Sight, best: Best) -> Best
-    ensures { λ r. ⌜ r ≡ cornersRaised t top g best ⌝ }
-{
-    if best.height >= top {
+    if z >= b.top {
         return best;
     }
-    at(ahead::sighted(g.nose, g.limit, t, best.height))
+    at(ahead::sighted(k, far, plane::triangle_at(mesh, i as usize), b, z))
 }
 
 // A best so far of the height z that names nothing.
@@ -338,7 +334,7 @@ fn raise(mesh: &[f64], boxes: &[f64], shape: Shape, table: &[f64], best: Best, i
     match shape {
         Shape::Nose(k) => raise_bull(mesh, boxes, k, best, i),
         Shape::Sections(a) => raise_tool(mesh, boxes, a, table, best, i),
-        Shape::Corners(g) => raise_corners(mesh, boxes, g, best, i),
+        Shape::Guess(g) => raise_guess(mesh, boxes, g, best, i),
         Shape::From(g) => raise_from(mesh, boxes, g, best, i),
     }
 }
@@ -393,8 +389,8 @@ fn cell(
     found
 }
 
-// The walk of a cutter. A first one, under another stamp, looks at vertices alone; where that allows it the walk begins just under what it found, so
-// that triangles that lie lower are left out without a contact. `none` is an empty table.
+// The walk of a cutter. A first one, under another stamp, guesses the answer; where that allows it the walk begins just under the guess, so that triangles
+// that lie lower are left out without a contact. `none` is an empty table.
 fn walk_nose(
     mesh: &[f64],
     starts: &[u32],
@@ -427,7 +423,7 @@ fn walk_nose(
         other,
         columns,
         p,
-        Shape::Corners(g),
+        Shape::Guess(g),
         none,
         begun(floor),
     );
@@ -554,7 +550,7 @@ fn walk_back(
         aside,
         columns,
         p,
-        Shape::Corners(g),
+        Shape::Guess(g),
         none,
         begun(1.0 / 0.0),
     );

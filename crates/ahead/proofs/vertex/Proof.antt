@@ -14,8 +14,7 @@ returns-2 c = left _ _ _ _ (c .before .if1 .left) (taken _ _ _ _ (c .if2 .taken)
 
 returns-3 : tie.Need-returns-3
 unfolding sightedVertex
-returns-3 c = left _ _ _ _ (c .before .before .before .if1 .left)
-    (left _ _ _ _ (c .before .before .if2 .left) (rw (c .over .ensures, c .before .hypot .ensures)))
+returns-3 c = left _ _ _ _ (c .before .before .if1 .left) (left _ _ _ _ (c .before .if2 .left) (c .tip .ensures))
 
 pub vertex-spec : {M : Type 1} → statement M
-vertex-spec = tie.close (tie.spec returns returns-2 (λ c κs. tt) (λ c κs. tt) returns-3)
+vertex-spec = tie.close (tie.spec returns returns-2 (λ c κs. tt) returns-3)

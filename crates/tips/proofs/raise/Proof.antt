@@ -24,7 +24,7 @@ returns-2 c = of-kind _ _ _ _ _ _ _ _ (c .before .before .shape2 .given .1) (c .
 
 returns-3 : tie.Need-returns-3
 unfolding shapeStep
-returns-3 c = of-kind _ _ _ _ _ _ _ _ (c .before .before .shape3 .given .1) (c .raise-corners .ensures)
+returns-3 c = of-kind _ _ _ _ _ _ _ _ (c .before .before .shape3 .given .1) (c .raise-guess .ensures)
 
 returns-4 : tie.Need-returns-4
 unfolding shapeStep
