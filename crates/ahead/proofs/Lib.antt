@@ -3,3 +3,4 @@ pub mod Resting
 pub mod Under
 pub mod Same
 pub mod Parted
+pub mod Own

@@ -46,44 +46,46 @@ module _ (f : Float) (b : Begun f) where
   unfolding isApart
   apart-low z h n = by-test (lt f z) (λ l. absurd (n l)) (λ l. low-is f z (rw l at h))
 
-  module _ (k : Bull) (level : le f0 (baseOf k) ≡ true) (fit : T (fits binary64 (k .rc))) (t : Triangle) (top : Float) (h : isParted f top t ≡ true) where
-    -- its top is not above f
-    module _ (u : le top f ≡ true) where
-      lows : Low f (t .az) × Low f (t .bz) × Low f (t .cz)
-      unfolding isParted liesLow
-      lows =
-          let l : liesLow (f ⊖ margin) t ≡ true = rw u at h in
-          let p = both-true (isLow (f ⊖ margin) (t .az)) _ l in
-          let q = both-true (isLow (f ⊖ margin) (t .bz)) _ (p .1) in
-          (low-is f (t .az) (p .0), low-is f (t .bz) (q .0), low-is f (t .cz) (q .1))
+  module _ (k : Bull) (level : le f0 (baseOf k) ≡ true) (fit : T (fits binary64 (k .rc))) (t : Triangle) where
+    low-edge : (e : Edge) → isApart (f ⊖ margin) f (e .az) ≡ true → isApart (f ⊖ margin) f (e .bz) ≡ true → le (maxOf (e .az) (e .bz)) f ≡ true
+        → Under f (edgeOf k e)
+    low-edge e p q l =
+        edge-low f b k level fit e (apart-low (e .az) p (not-first (e .az) (e .bz) f l)) (apart-low (e .bz) q (not-second (e .az) (e .bz) f l))
 
-      pub parted-under : (c : Float) → Under f (bullContactAbove t k c)
-      parted-under c =
-          let x = lows .0 in
-          let y = lows .1 in
-          let z = lows .2 in
-          contact-under f (number f b) k t c (vertices-under f b k level fit t x y z)
-          (edge-low f b k level fit (edgeAb t) x y, edge-low f b k level fit (edgeBc t) y z, edge-low f b k level fit (edgeCa t) z x)
-          (facet-low f b k level fit t x y z (facingOf t))
+    -- each corner is above f or lies low
+    pub apart-same : liesApart (f ⊖ margin) f t ≡ true → (c : Float) → exceedsOf c f ≡ false
+        → offerOf (soFar f) (bullContactAbove t k c) ≡ offerOf (soFar f) (bullContactAbove t k f)
+    unfolding liesApart
+    apart-same h c l =
+        let p = both-true (isApart (f ⊖ margin) f (t .az)) _ h in
+        let q = both-true (isApart (f ⊖ margin) f (t .bz)) _ (p .1) in
+        let x = p .0 in
+        let y = q .0 in
+        let z = q .1 in
+        contact-same f (number f b) k t c l (low-edge (edgeAb t) x y, low-edge (edgeBc t) y z, low-edge (edgeCa t) z x)
 
-    -- it is
-    module _ (u : le top f ≡ false) where
-      aparts : (isApart (f ⊖ margin) f (t .az) ≡ true) × (isApart (f ⊖ margin) f (t .bz) ≡ true) × (isApart (f ⊖ margin) f (t .cz) ≡ true)
-      unfolding isParted liesApart
-      aparts =
-          let l : liesApart (f ⊖ margin) f t ≡ true = rw u at h in
-          let p = both-true (isApart (f ⊖ margin) f (t .az)) _ l in
-          let q = both-true (isApart (f ⊖ margin) f (t .bz)) _ (p .1) in
-          (p .0, q .0, q .1)
+    module _ (top : Float) (h : isParted f top t ≡ true) where
+      -- its top is not above f
+      module _ (u : le top f ≡ true) where
+        lows : Low f (t .az) × Low f (t .bz) × Low f (t .cz)
+        unfolding isParted liesLow
+        lows =
+            let l : liesLow (f ⊖ margin) t ≡ true = rw u at h in
+            let p = both-true (isLow (f ⊖ margin) (t .az)) _ l in
+            let q = both-true (isLow (f ⊖ margin) (t .bz)) _ (p .1) in
+            (low-is f (t .az) (p .0), low-is f (t .bz) (q .0), low-is f (t .cz) (q .1))
 
-      low-edge : (e : Edge) → isApart (f ⊖ margin) f (e .az) ≡ true → isApart (f ⊖ margin) f (e .bz) ≡ true
-          → le (maxOf (e .az) (e .bz)) f ≡ true → Under f (edgeOf k e)
-      low-edge e p q l =
-          edge-low f b k level fit e (apart-low (e .az) p (not-first (e .az) (e .bz) f l)) (apart-low (e .bz) q (not-second (e .az) (e .bz) f l))
+        pub parted-under : (c : Float) → Under f (bullContactAbove t k c)
+        parted-under c =
+            let x = lows .0 in
+            let y = lows .1 in
+            let z = lows .2 in
+            contact-under f (number f b) k t c (vertices-under f b k level fit t x y z)
+            (edge-low f b k level fit (edgeAb t) x y, edge-low f b k level fit (edgeBc t) y z, edge-low f b k level fit (edgeCa t) z x)
+            (facet-low f b k level fit t x y z (facingOf t))
 
-      pub parted-same : (c : Float) → exceedsOf c f ≡ false → offerOf (soFar f) (bullContactAbove t k c) ≡ offerOf (soFar f) (bullContactAbove t k f)
-      parted-same c l =
-          let x = aparts .0 in
-          let y = aparts .1 in
-          let z = aparts .2 in
-          contact-same f (number f b) k t c l (low-edge (edgeAb t) x y, low-edge (edgeBc t) y z, low-edge (edgeCa t) z x)
+      -- it is
+      module _ (u : le top f ≡ false) where
+        pub parted-same : (c : Float) → exceedsOf c f ≡ false → offerOf (soFar f) (bullContactAbove t k c) ≡ offerOf (soFar f) (bullContactAbove t k f)
+        unfolding isParted
+        parted-same = apart-same (rw u at h)

@@ -11,6 +11,8 @@ use Rattle.cutters.specs.Touch.{edgeAb, edgeBc, edgeCa}
 use Rattle.bound.specs.Inside.{nearerOf}
 use Rattle.bull.specs.declared.Bull.{Bull}
 use Rattle.bull.specs.Bull.{bullProfile}
+use Rattle.bull.specs.Inside.{baseOf}
+use Rattle.tops.specs.Inside.{margin, isStart, liesApart}
 use Rattle.ahead.specs.declared.Lean.{Lean}
 
 -- ---- vertices
@@ -134,3 +136,9 @@ unfoldable pub sightedOf : Bull → Float → Triangle → Bounds → Float → 
 sightedOf k far t x b =
     let z = sightedVertices k far t b in
     cond (le (x .top) z) z (cond (isLarge k far x) (sightedMore k far t z) z)
+
+-- ---- one contact by itself
+
+-- Whether the candidates of a triangle may begin at `from`: each corner lies above it, or so low that no tip over it is above.
+unfoldable pub beginsAt : Triangle → Bull → Float → Bool
+beginsAt t k from = isStart from && (le f0 (baseOf k) && liesApart (from ⊖ margin) from t)

@@ -12,6 +12,8 @@ use cutters::Rest;
 use plane::Bounds;
 use plane::Triangle;
 
+pub mod alone;
+
 // 2^-60: up to this square a slope counts as none
 const LEVEL: f64 = 0.000000000000000000867361737988403547205962240695953369140625;
 

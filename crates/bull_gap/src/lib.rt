@@ -110,5 +110,5 @@ fn gap(t: Triangle, m: Chord, r: f64, rc: f64, s: f64) -> f64
 {
     let x = m.ax + s * (m.bx - m.ax);
     let y = m.ay + s * (m.by - m.ay);
-    reach::gap_of(m, s, bull::bull_contact(t, Bull { x, y, r, rc }))
+    reach::gap_of(m, s, ahead::alone::contact(t, Bull { x, y, r, rc }))
 }

@@ -43,7 +43,7 @@ fn is_apart(low: f64, from: f64, z: f64) -> bool
 }
 
 // Whether all corners of a triangle are.
-fn lies_apart(low: f64, from: f64, t: Triangle) -> bool
+pub fn lies_apart(low: f64, from: f64, t: Triangle) -> bool
     ensures { λ r. ⌜ r ≡ liesApart low from t ⌝ }
 {
     is_apart(low, from, t.az) && (is_apart(low, from, t.bz) && is_apart(low, from, t.cz))
