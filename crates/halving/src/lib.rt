@@ -1,6 +1,7 @@
 // Halving: the pieces of one run, kept or dropped, over a stack of 33 entries.
 ghost use mathlib.Core.Path.{_≡_};
 ghost use Rattle.grid.specs.Index.{indexOf};
+ghost use Rattle.crests.specs.Inside.{Crested};
 ghost use Rattle.runs.specs.Pieces.{piecesOf};
 ghost use Rattle.runs.specs.Chains.{Whole};
 ghost use Rattle.runs.specs.Inside.{work, takenAll};
@@ -25,13 +26,15 @@ pub fn halve(
     starts: &[u32],
     members: &[u32],
     boxes: &[f64],
+    crests: &[f64],
     marks: &mut [u32],
     runs: &mut [f64],
     a: Aim,
     r: Run,
     s: Stand,
 ) -> Stand
-    requires { ⌜ Askable (indexOf (now mesh) h (now starts) (now members) (now boxes)) × Marked (h .n) (s .stamp) (now marks) ⌝ }
+    requires { ⌜ Askable (indexOf (now mesh) h (now starts) (now members) (now boxes)) × Marked (h .n) (s .stamp) (now marks)
+        × Crested (now starts) (now members) (now boxes) (h .columns) (h .rows) (now crests) ⌝ }
     ensures { λ e. ⌜ (work (now (runs .exit)) (e .tally)
         ≡ takenAll (work (now (runs .entry)) (s .tally))
         (piecesOf (clear (heightUnder (indexOf (now (mesh .entry)) h (now (starts .entry)) (now (members .entry)) (now (boxes .entry)))) a) (a .least) 32 r))
@@ -61,7 +64,19 @@ pub fn halve(
             z,
         };
         let k = left[t];
-        let j = probe::judge(mesh, h, starts, members, boxes, marks, stamp, a, piece, k);
+        let j = probe::judge(
+            mesh,
+            h,
+            starts,
+            members,
+            boxes,
+            crests,
+            marks,
+            stamp,
+            a,
+            piece,
+            k,
+        );
         stamp = j.stamp;
         if j.split {
             let half = runs::first_half(piece);

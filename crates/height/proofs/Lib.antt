@@ -3,4 +3,3 @@ pub mod Sweeping
 pub mod Answering
 pub mod Heights
 pub mod Demanding
-pub mod Halting

@@ -1,17 +1,14 @@
 // The swept-disk height: the highest part point under a disk swept from p to q, at least the floor.
 ghost use mathlib.Core.Path.{_≡_};
 ghost use Prim.Native.Nat.{_+_, _*_, _≤_, _<_};
-ghost use mathlib.Core.Bool.{false};
-ghost use lib.Ieee.{inf, lt};
 ghost use lib.ListN.{length};
 ghost use Rattle.walk.specs.Walk.{block, fold, nextStamp};
 ghost use Rattle.walk.specs.Inside.{seen, look, Below, Room, Walkable};
 ghost use Rattle.grid.specs.Index.{indexOf};
 ghost use Rattle.ask.specs.Ask.{ended};
-ghost use Rattle.query.specs.Looked.{within};
 ghost use Rattle.height.specs.Demand.{DiskPromise};
-ghost use Rattle.height.specs.Sweep.{sweep, patchFor, capsuleFor, diskStep, sweepWalk};
-ghost use Rattle.height.specs.Inside.{walkLeft, Sweepable, capsuleRun, Halted};
+ghost use Rattle.height.specs.Sweep.{sweep, patchFor, diskStep, capsuleWalk, sweepWalk};
+ghost use Rattle.height.specs.Inside.{walkLeft, Sweepable};
 ghost use Rattle.height.specs.Height.{arePoints, isSweep, maxHeightOf};
 use ask::Answer;
 use capsule::Capsule;
@@ -83,7 +80,6 @@ pub fn max_height(
         stamp,
         capsule::capsule_of(px, py, qx, qy, r, h.eps),
         p,
-        no_limit(),
     );
     let best = s.best;
     Answer {
@@ -131,56 +127,7 @@ pub fn swept_height(
         stamp,
         capsule::capsule_of(px, py, qx, qy, r, h.eps),
         p,
-        no_limit(),
     )
-}
-
-// The same walk, left once the best is above the limit. What the whole walk finds is then above it too.
-pub fn swept_until(
-    mesh: &[f64],
-    h: Header,
-    starts: &[u32],
-    members: &[u32],
-    boxes: &[f64],
-    marks: &mut [u32],
-    stamp: u32,
-    px: f64,
-    py: f64,
-    qx: f64,
-    qy: f64,
-    r: f64,
-    limit: f64,
-) -> Swept
-    requires { ⌜ (length (now mesh) ≡ length (now marks) * 9) × (length (now marks) ≤ 65536)
-        × Sweepable (indexOf (now mesh) h (now starts) (now members) (now boxes)) (length (now marks)) (patchFor h (sweep px py qx qy r))
-        × (length (now boxes) ≡ length (now marks) * 5) ⌝ }
-    ensures { λ s. ⌜ Halted
-        (capsuleRun (indexOf (now (mesh .entry)) h (now (starts .entry)) (now (members .entry)) (now (boxes .entry))) (now (marks .entry)) stamp
-        (capsuleFor h (sweep px py qx qy r)))
-        (within (indexOf (now (mesh .entry)) h (now (starts .entry)) (now (members .entry)) (now (boxes .entry))) (patchFor h (sweep px py qx qy r)))
-        limit (walkLeft s (now (marks .exit)))
-        × (s .stamp ≡ nextStamp stamp) ⌝ }
-{
-    let p = query::patch_of(h, px, py, qx, qy, r);
-    sweep_in(
-        mesh,
-        h,
-        starts,
-        members,
-        boxes,
-        marks,
-        stamp,
-        capsule::capsule_of(px, py, qx, qy, r, h.eps),
-        p,
-        limit,
-    )
-}
-
-// A limit that no best is above.
-fn no_limit() -> f64
-    ensures { λ l. ⌜ l ≡ inf false ⌝ }
-{
-    f64::from_bits(0x7ff0_0000_0000_0000)
 }
 
 // Whether the numbers of a sweep are in their ranges.
@@ -197,7 +144,7 @@ fn are_points(px: f64, py: f64, qx: f64, qy: f64) -> bool
     plane::is_point(px) && (plane::is_point(py) && (plane::is_point(qx) && plane::is_point(qy)))
 }
 
-// The walk of a sweep over the cells p: it begins at the floor, with the next stamp, and is left once the best is above the limit.
+// The walk of a sweep over the cells p: it begins at the floor, with the next stamp.
 fn sweep_in(
     mesh: &[f64],
     h: Header,
@@ -208,15 +155,12 @@ fn sweep_in(
     stamp: u32,
     q: Capsule,
     p: Patch,
-    limit: f64,
 ) -> Swept
     requires { ⌜ (length (now mesh) ≡ length (now marks) * 9) × (length (now marks) ≤ 65536)
         × Sweepable (indexOf (now mesh) h (now starts) (now members) (now boxes)) (length (now marks)) p
         × (length (now boxes) ≡ length (now marks) * 5) ⌝ }
-    ensures { λ s. ⌜ Halted
-        (capsuleRun (indexOf (now (mesh .entry)) h (now (starts .entry)) (now (members .entry)) (now (boxes .entry))) (now (marks .entry)) stamp q)
-        (within (indexOf (now (mesh .entry)) h (now (starts .entry)) (now (members .entry)) (now (boxes .entry))) p)
-        limit (walkLeft s (now (marks .exit)))
+    ensures { λ s. ⌜ (walkLeft s (now (marks .exit))
+        ≡ capsuleWalk (indexOf (now (mesh .entry)) h (now (starts .entry)) (now (members .entry)) (now (boxes .entry))) (now (marks .entry)) stamp q p)
         × (s .stamp ≡ nextStamp stamp) ⌝ }
 {
     let columns = h.columns;
@@ -241,7 +185,6 @@ fn sweep_in(
         p,
         q,
         first,
-        limit,
     );
     let best = found.best;
     Swept {
@@ -293,7 +236,7 @@ fn look_at(
 }
 
 // The step over one cell: looks at each of its numbers.
-fn visit_cell(
+pub fn visit_cell(
     mesh: &[f64],
     boxes: &[f64],
     part: &[u32],
@@ -314,15 +257,7 @@ fn visit_cell(
     found
 }
 
-// Whether the best is above the limit.
-fn is_above(s: Seen, limit: f64) -> bool
-    ensures { λ r. ⌜ r ≡ lt limit (s .best .height) ⌝ }
-{
-    let best = s.best;
-    best.height > limit
-}
-
-// The walk over the cells of a patch: rows, then columns, then the numbers of each cell. No row is begun with a best above the limit.
+// The walk over the cells of a patch: rows, then columns, then the numbers of each cell.
 fn visit(
     mesh: &[f64],
     starts: &[u32],
@@ -334,13 +269,12 @@ fn visit(
     p: Patch,
     q: Capsule,
     s: Seen,
-    limit: f64,
 ) -> Seen
     requires { ⌜ (length (now mesh) ≡ length (now marks) * 9)
         × Walkable (now starts) (now members) (length (now marks)) columns (p .x0) (p .x1) (p .y0) (p .y1)
         × Room stamp (seen (now marks) s) × (length (now boxes) ≡ length (now marks) * 5) ⌝ }
-    ensures { λ r. ⌜ Halted (fold (look stamp (diskStep (now (mesh .entry)) (now (boxes .entry)) q)) (seen (now (marks .entry)) s))
-        (block (now (starts .entry)) (now (members .entry)) columns (p .x0) (p .x1) (p .y0) (p .y1)) limit (seen (now (marks .exit)) r) ⌝ }
+    ensures { λ r. ⌜ seen (now (marks .exit)) r ≡ fold (look stamp (diskStep (now (mesh .entry)) (now (boxes .entry)) q)) (seen (now (marks .entry)) s)
+        (block (now (starts .entry)) (now (members .entry)) columns (p .x0) (p .x1) (p .y0) (p .y1)) ⌝ }
 {
     let x0 = p.x0;
     let x1 = p.x1;
@@ -348,9 +282,6 @@ fn visit(
     let y1 = p.y1;
     let mut found = s;
     for y in y0..y1 {
-        if is_above(found, limit) {
-            return found;
-        }
         for x in x0..x1 {
             let part = walk::stretch(starts, members, y * columns + x);
             found = visit_cell(mesh, boxes, part, marks, stamp, q, found);

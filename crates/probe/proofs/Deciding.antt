@@ -17,7 +17,6 @@ use Rattle.order.proofs.Ranges.{sub-mono}
 use Rattle.order.proofs.Extremes.{le-self, lt-le}
 use Rattle.order.proofs.Order.{le-trans}
 use Rattle.bound.proofs.Along.{sub-parts}
-use Rattle.height.proofs.Halting.{none-above}
 use Rattle.runs.specs.declared.Run.{Run}
 use Rattle.rows.specs.declared.Lane.{Lane}
 use Rattle.rows.specs.Lanes.{between}
@@ -47,6 +46,13 @@ decided-sample under a l k limit h z r e b d q =
     ∙ (⊎-elim (λ i. ap test i) (λ p. b h (p .0) ∙ sym (b (under r) (p .1))) d ∙ ap (λ (s : Run). test (under s)) e)
 
 -- ---- limits over a level
+-- no height is above infinity
+none-above : (x : Float) → lt (inf false) x ≡ true → ⊥
+unfolding lt
+none-above nan h = no h
+none-above (inf s) h = no h
+none-above (fin s m e) h = no h
+
 pub beyond-none : (level tolerance : Float) → BeyondLevel level tolerance (ofBits binary64 0x7ff0_0000_0000_0000)
 unfolding ofBits
 beyond-none level tolerance v h = absurd (none-above v h)

@@ -1,6 +1,7 @@
 // Heights asked along rows, with the search's own marks: whether a sample is on the level, and what becomes of a piece of a run.
 ghost use mathlib.Core.Path.{_≡_};
 ghost use Rattle.grid.specs.Index.{indexOf};
+ghost use Rattle.crests.specs.Inside.{Crested};
 ghost use Rattle.probe.specs.Probe.{heightUnder, onLevel, clear};
 ghost use Rattle.probe.specs.Inside.{Askable, Marked, splitsOf, Decides, BeyondLevel};
 ghost use mathlib.Core.Bool.{true};
@@ -42,21 +43,24 @@ fn ask(
     starts: &[u32],
     members: &[u32],
     boxes: &[f64],
+    crests: &[f64],
     marks: &mut [u32],
     stamp: u32,
     r: Run,
     limit: f64,
 ) -> Asked
-    requires { ⌜ Askable (indexOf (now mesh) h (now starts) (now members) (now boxes)) × Marked (h .n) stamp (now marks) ⌝ }
+    requires { ⌜ Askable (indexOf (now mesh) h (now starts) (now members) (now boxes)) × Marked (h .n) stamp (now marks)
+        × Crested (now starts) (now members) (now boxes) (h .columns) (h .rows) (now crests) ⌝ }
     ensures { λ a. ⌜ Decides limit (heightUnder (indexOf (now (mesh .entry)) h (now (starts .entry)) (now (members .entry)) (now (boxes .entry))) r) (a .height)
         × Marked (h .n) (a .stamp) (now (marks .exit)) ⌝ }
 {
-    let s = height::swept_until(
+    let s = crests::swept_until(
         mesh,
         h,
         starts,
         members,
         boxes,
+        crests,
         marks,
         stamp,
         r.ax,
@@ -80,13 +84,15 @@ pub fn sample(
     starts: &[u32],
     members: &[u32],
     boxes: &[f64],
+    crests: &[f64],
     marks: &mut [u32],
     stamp: u32,
     a: Aim,
     l: Lane,
     k: usize,
 ) -> Reading
-    requires { ⌜ Askable (indexOf (now mesh) h (now starts) (now members) (now boxes)) × Marked (h .n) stamp (now marks) ⌝ }
+    requires { ⌜ Askable (indexOf (now mesh) h (now starts) (now members) (now boxes)) × Marked (h .n) stamp (now marks)
+        × Crested (now starts) (now members) (now boxes) (h .columns) (h .rows) (now crests) ⌝ }
     ensures { λ o. ⌜ (o .on ≡ onLevel (heightUnder (indexOf (now (mesh .entry)) h (now (starts .entry)) (now (members .entry)) (now (boxes .entry)))) a l k)
         × Marked (h .n) (o .stamp) (now (marks .exit)) ⌝ }
 {
@@ -97,6 +103,7 @@ pub fn sample(
         starts,
         members,
         boxes,
+        crests,
         marks,
         stamp,
         rows::run_between(l, k, k),
@@ -137,18 +144,31 @@ pub fn judge(
     starts: &[u32],
     members: &[u32],
     boxes: &[f64],
+    crests: &[f64],
     marks: &mut [u32],
     stamp: u32,
     a: Aim,
     r: Run,
     left: u32,
 ) -> Judged
-    requires { ⌜ Askable (indexOf (now mesh) h (now starts) (now members) (now boxes)) × Marked (h .n) stamp (now marks) ⌝ }
+    requires { ⌜ Askable (indexOf (now mesh) h (now starts) (now members) (now boxes)) × Marked (h .n) stamp (now marks)
+        × Crested (now starts) (now members) (now boxes) (h .columns) (h .rows) (now crests) ⌝ }
     ensures { λ j. ⌜ (j .kept ≡ clear (heightUnder (indexOf (now (mesh .entry)) h (now (starts .entry)) (now (members .entry)) (now (boxes .entry)))) a r)
         × (j .split ≡ splitsOf (j .kept) (a .least) left r) × Marked (h .n) (j .stamp) (now (marks .exit)) ⌝ }
 {
     let limit = r.z + a.tolerance;
-    let t = ask(mesh, h, starts, members, boxes, marks, stamp, r, limit);
+    let t = ask(
+        mesh,
+        h,
+        starts,
+        members,
+        boxes,
+        crests,
+        marks,
+        stamp,
+        r,
+        limit,
+    );
     let kept = t.height <= limit;
     Judged {
         split: splits(kept, a.least, left, r),

@@ -2,8 +2,10 @@
 ghost use mathlib.Core.Path.{_≡_};
 ghost use mathlib.Core.List.{map};
 ghost use mathlib.Core.Bool.{true, false};
-ghost use Prim.Native.Nat.{_+_, _≤_};
+ghost use Prim.Native.Nat.{_+_, _*_, _≤_, _<_};
+ghost use lib.ListN.{length};
 ghost use Rattle.grid.specs.Index.{indexOf};
+ghost use Rattle.crests.specs.Inside.{Crested};
 ghost use Rattle.rows.specs.Stretches.{stretchesOf};
 ghost use Rattle.probe.specs.Probe.{heightUnder, onLevel};
 ghost use Rattle.probe.specs.Inside.{Askable, Marked};
@@ -40,6 +42,7 @@ fn end_stretch(
     starts: &[u32],
     members: &[u32],
     boxes: &[f64],
+    crests: &[f64],
     marks: &mut [u32],
     runs: &mut [f64],
     a: Aim,
@@ -49,7 +52,8 @@ fn end_stretch(
     w: Walked,
 ) -> Walked
     requires { ⌜ Askable (indexOf (now mesh) h (now starts) (now members) (now boxes)) × Marked (h .n) (w .stand .stamp) (now marks) × (w .k ≤ j) ×
-        (j ≤ l .samples + 1) ⌝ }
+        (j ≤ l .samples + 1)
+        × Crested (now starts) (now members) (now boxes) (h .columns) (h .rows) (now crests) ⌝ }
     ensures { λ e. ⌜ Ended (heightUnder (indexOf (now (mesh .entry)) h (now (starts .entry)) (now (members .entry)) (now (boxes .entry)))) a l forward j w
         (now (runs .entry)) e (now (runs .exit)) × Marked (h .n) (e .stand .stamp) (now (marks .exit)) ⌝ }
 {
@@ -72,6 +76,7 @@ fn end_stretch(
         starts,
         members,
         boxes,
+        crests,
         marks,
         runs,
         a,
@@ -92,6 +97,7 @@ fn advance(
     starts: &[u32],
     members: &[u32],
     boxes: &[f64],
+    crests: &[f64],
     marks: &mut [u32],
     runs: &mut [f64],
     a: Aim,
@@ -101,7 +107,8 @@ fn advance(
     w: Walked,
 ) -> Walked
     requires { ⌜ Askable (indexOf (now mesh) h (now starts) (now members) (now boxes)) × Marked (h .n) (w .stand .stamp) (now marks) × (w .k ≤ j)
-        × (j ≤ l .samples) × (l .samples ≤ 65535) ⌝ }
+        × (j ≤ l .samples) × (l .samples ≤ 65535)
+        × Crested (now starts) (now members) (now boxes) (h .columns) (h .rows) (now crests) ⌝ }
     ensures { λ e. ⌜ Advanced (heightUnder (indexOf (now (mesh .entry)) h (now (starts .entry)) (now (members .entry)) (now (boxes .entry)))) a l forward j w
         (now (runs .entry)) e (now (runs .exit)) × Marked (h .n) (e .stand .stamp) (now (marks .exit)) ⌝ }
 {
@@ -116,6 +123,7 @@ fn advance(
         starts,
         members,
         boxes,
+        crests,
         marks,
         s.stamp,
         a,
@@ -139,6 +147,7 @@ fn advance(
         starts,
         members,
         boxes,
+        crests,
         marks,
         runs,
         a,
@@ -156,6 +165,7 @@ pub fn walk_row(
     starts: &[u32],
     members: &[u32],
     boxes: &[f64],
+    crests: &[f64],
     marks: &mut [u32],
     runs: &mut [f64],
     a: Aim,
@@ -163,11 +173,11 @@ pub fn walk_row(
     forward: bool,
     s: Stand,
 ) -> Walked
-    requires { ⌜ Askable (indexOf (now mesh) h (now starts) (now members) (now boxes)) × Marked (h .n) (s .stamp) (now marks) × (l .samples ≤ 65535) ⌝ }
-    ensures { λ e. ⌜ Trodden (heightUnder (indexOf (now (mesh .entry)) h (now (starts .entry)) (now (members .entry)) (now (boxes .entry)))) a l
-        (map (numbered forward (l .samples)) (stretchesOf (λ j. onLevel (heightUnder
-        (indexOf (now (mesh .entry)) h (now (starts .entry)) (now (members .entry)) (now (boxes .entry)))) a l (numberOf forward (l .samples) j))
-        (l .samples))) (now (runs .entry)) s (now (runs .exit)) e × Marked (h .n) (e .stand .stamp) (now (marks .exit)) ⌝ }
+    requires { ⌜ Askable (indexOf (now mesh) h (now starts) (now members) (now boxes)) × Marked (h .n) (s .stamp) (now marks) × (l .samples ≤ 65535)
+        × Crested (now starts) (now members) (now boxes) (h .columns) (h .rows) (now crests) ⌝ }
+    ensures { λ e. ⌜ Trodden (heightUnder (indexOf (now (mesh .entry)) h (now (starts .entry)) (now (members .entry)) (now (boxes .entry)))) a l (map (numbered forward (l .samples))
+        (stretchesOf (λ j. onLevel (heightUnder (indexOf (now (mesh .entry)) h (now (starts .entry)) (now (members .entry)) (now (boxes .entry)))) a l
+        (numberOf forward (l .samples) j)) (l .samples))) (now (runs .entry)) s (now (runs .exit)) e × Marked (h .n) (e .stand .stamp) (now (marks .exit)) ⌝ }
 {
     let samples = l.samples;
     let mut w = Walked {
@@ -182,6 +192,7 @@ pub fn walk_row(
             starts,
             members,
             boxes,
+            crests,
             marks,
             runs,
             a,
@@ -197,6 +208,7 @@ pub fn walk_row(
         starts,
         members,
         boxes,
+        crests,
         marks,
         runs,
         a,

@@ -23,6 +23,7 @@ use Rattle.probe.specs.Inside.{Askable, Marked}
 use Rattle.start.specs.Inside.{withFloor, Serves}
 use Rattle.row_runs.specs.Search.{Found, piecesAlong, empty, directed, rowFound, rowsFound, levelFound, aimOf, laneOf}
 use Rattle.row_runs.specs.Inside.{Coarse}
+use Rattle.crests.specs.Inside.{Crested}
 use Rattle.search.specs.declared.Swept.{Swept}
 use Rattle.search.specs.Inside.{from, Takes}
 
@@ -106,3 +107,7 @@ module _ (mesh : List Float) (h : Header) (starts members : List ℕ) (boxes : L
       ∙ level-same _ _ p axis (h .r) l (from s) (subst (λ (b : Aim). Serves (heightUnder (indexOf mesh h starts members boxes))
       (heightUnder (indexOf mesh g starts members boxes)) b (l .z ⊕ p .«stock_to_leave»)) d v) in
       subst (λ (f : Found). Takes t s f t′ s′) e q
+
+-- the crests do not turn on the floor
+pub crests-there : (starts members : List ℕ) (boxes crests : List Float) (h : Header) {g : Header} → g ≡ withFloor h (g .floor) → Crested starts members boxes (h .columns) (h .rows) crests → Crested starts members boxes (g .columns) (g .rows) crests
+crests-there starts members boxes crests h {g} e c = subst (λ (k : Header). Crested starts members boxes (k .columns) (k .rows) crests) (sym e) c

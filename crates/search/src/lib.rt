@@ -5,6 +5,7 @@ ghost use mathlib.Core.Path.{_≡_};
 ghost use Prim.Native.Nat.{_*_, _≤_, _<_};
 ghost use lib.ListN.{length};
 ghost use Rattle.grid.specs.Index.{indexOf};
+ghost use Rattle.crests.specs.Inside.{Crested};
 ghost use Rattle.parameters.specs.Terms.{tooFine, anyOf};
 ghost use Rattle.parameters.specs.Inside.{levelsIn};
 ghost use Rattle.probe.specs.Probe.{heightUnder};
@@ -54,6 +55,8 @@ pub fn search_levels(
         (record { rows = 0; pieces = [] })
         (levelsIn (now (levels .entry)) 0 count)) (now (runs .exit)) y × (length (now (marks .exit)) ≡ h .n) ⌝ }
 {
+    let mut crests = [crests::DEEPEST; 8192];
+    crests::fill(h, starts, members, boxes, &mut crests);
     let stand = Stand {
         tally: runs::begin(),
         stamp: 0,
@@ -66,6 +69,7 @@ pub fn search_levels(
             starts,
             members,
             boxes,
+            &crests,
             marks,
             runs,
             p,
@@ -88,6 +92,7 @@ fn search_level(
     starts: &[u32],
     members: &[u32],
     boxes: &[f64],
+    crests: &[f64],
     marks: &mut [u32],
     runs: &mut [f64],
     p: Parameters,
@@ -95,11 +100,12 @@ fn search_level(
     level: Level,
     s: Swept,
 ) -> Swept
-    requires { ⌜ Askable (indexOf (now mesh) h (now starts) (now members) (now boxes)) × Marked (h .n) (s .stand .stamp) (now marks)
-        × Coarse p axis (h .r) level × (s .rows ≤ 4294967296) ⌝ }
+    requires { ⌜ Askable (indexOf (now mesh) h (now starts) (now members) (now boxes)) × Marked (h .n) (s .stand .stamp) (now marks) × Coarse p axis (h .r) level
+        × (s .rows ≤ 4294967296)
+        × Crested (now starts) (now members) (now boxes) (h .columns) (h .rows) (now crests) ⌝ }
     ensures { λ e. ⌜ Takes (now (runs .entry)) s
-        (levelFound (heightUnder (indexOf (now (mesh .entry)) h (now (starts .entry)) (now (members .entry)) (now (boxes .entry)))) p axis (h .r)
-        (from s) level) (now (runs .exit)) e × Marked (h .n) (e .stand .stamp) (now (marks .exit)) ⌝ }
+        (levelFound (heightUnder (indexOf (now (mesh .entry)) h (now (starts .entry)) (now (members .entry)) (now (boxes .entry)))) p axis (h .r) (from s) level)
+        (now (runs .exit)) e × Marked (h .n) (e .stand .stamp) (now (marks .exit)) ⌝ }
 {
     let a = row_runs::aim_of(p, h.r, level);
     let l = row_runs::lane_of(p, axis, h.r, level, 0);
@@ -119,6 +125,7 @@ fn search_level(
         starts,
         members,
         boxes,
+        crests,
         marks,
         runs,
         p,
@@ -135,6 +142,7 @@ fn search_rows(
     starts: &[u32],
     members: &[u32],
     boxes: &[f64],
+    crests: &[f64],
     marks: &mut [u32],
     runs: &mut [f64],
     p: Parameters,
@@ -142,11 +150,12 @@ fn search_rows(
     level: Level,
     s: Swept,
 ) -> Swept
-    requires { ⌜ Askable (indexOf (now mesh) h (now starts) (now members) (now boxes)) × Marked (h .n) (s .stand .stamp) (now marks)
-        × Coarse p axis (h .r) level × (s .rows ≤ 4294967296) ⌝ }
+    requires { ⌜ Askable (indexOf (now mesh) h (now starts) (now members) (now boxes)) × Marked (h .n) (s .stand .stamp) (now marks) × Coarse p axis (h .r) level
+        × (s .rows ≤ 4294967296)
+        × Crested (now starts) (now members) (now boxes) (h .columns) (h .rows) (now crests) ⌝ }
     ensures { λ e. ⌜ Takes (now (runs .entry)) s
-        (levelFound (heightUnder (indexOf (now (mesh .entry)) h (now (starts .entry)) (now (members .entry)) (now (boxes .entry)))) p axis (h .r)
-        (from s) level) (now (runs .exit)) e × Marked (h .n) (e .stand .stamp) (now (marks .exit)) ⌝ }
+        (levelFound (heightUnder (indexOf (now (mesh .entry)) h (now (starts .entry)) (now (members .entry)) (now (boxes .entry)))) p axis (h .r) (from s) level)
+        (now (runs .exit)) e × Marked (h .n) (e .stand .stamp) (now (marks .exit)) ⌝ }
 {
     let r = h.r;
     let a = row_runs::aim_of(p, r, level);
@@ -159,6 +168,7 @@ fn search_rows(
             starts,
             members,
             boxes,
+            crests,
             marks,
             runs,
             a,
@@ -176,6 +186,7 @@ fn search_row(
     starts: &[u32],
     members: &[u32],
     boxes: &[f64],
+    crests: &[f64],
     marks: &mut [u32],
     runs: &mut [f64],
     a: Aim,
@@ -183,7 +194,8 @@ fn search_row(
     s: Swept,
 ) -> Swept
     requires { ⌜ Askable (indexOf (now mesh) h (now starts) (now members) (now boxes)) × Marked (h .n) (s .stand .stamp) (now marks) × (l .samples ≤ 65535)
-        × (s .rows < 8589934592) ⌝ }
+        × (s .rows < 8589934592)
+        × Crested (now starts) (now members) (now boxes) (h .columns) (h .rows) (now crests) ⌝ }
     ensures { λ e. ⌜ Takes (now (runs .entry)) s
         (rowFound (heightUnder (indexOf (now (mesh .entry)) h (now (starts .entry)) (now (members .entry)) (now (boxes .entry)))) a (from s) l)
         (now (runs .exit)) e × Marked (h .n) (e .stand .stamp) (now (marks .exit)) ⌝ }
@@ -197,6 +209,7 @@ fn search_row(
         starts,
         members,
         boxes,
+        crests,
         marks,
         runs,
         a,

@@ -1,8 +1,6 @@
 use borrow.Author.Needs.{needs}
 use Rattle.query.proofs.Patches.{patch-inside}
 use Rattle.height.proofs.Answering.{may-sweep, refused, answered}
-use Rattle.height.specs.Sweep.{capsuleWalk}
-use Rattle.height.proofs.Halting.{never-halts}
 use Rattle.height.proofs.max_height.Statement.{statement}
 use Rattle.height.proofs.max_height.Tie as tie
 
@@ -16,20 +14,18 @@ returns c =
 
 sweep-in-requires : tie.Need-sweep-in-requires
 sweep-in-requires c κs =
-    let d = c .before .before .before .before in
+    let d = c .before .before .before in
     let i = refusal-requires (d .before) (d .refusal .lifetimes) in
-    may-sweep _ _ _ _ _ _ (d .refusal .ensures .0) (c .before .before .before .if1 .left) (i .0) (i .1)
+    may-sweep _ _ _ _ _ _ (d .refusal .ensures .0) (c .before .before .if1 .left) (i .0) (i .1)
 
 returns-2 : tie.Need-returns-2
 returns-2 c =
     let s = c .before .before .before in
-    let k = s .before .before in
+    let k = s .before in
     let d = k .before .before .before in
-    answered _ _ _ _ _ _ (d .refusal .ensures .0) _ (d .before .before .before .patch-of .ensures)
-    (d .before .before .is-sweep .ensures) (k .before .before .if1 .left) _ _ _ (k .capsule-of .ensures) (unfold capsuleWalk in
-    never-halts _ _ _ _ (s .before .no-limit .ensures) (s .sweep-in .ensures .0)) (s .sweep-in .ensures .1)
+    answered _ _ _ _ _ _ (d .refusal .ensures .0) _ (d .before .before .before .patch-of .ensures) (d .before .before .is-sweep .ensures) (k .before .before .if1 .left) _ _ _ (k .capsule-of .ensures) (s .sweep-in .ensures .0) (s .sweep-in .ensures .1)
 
 pub max-height-spec : {M : Type 1} → statement M
 max-height-spec =
     tie.close
-    (tie.spec (λ c κs. tt) (λ c κs. tt) refusal-requires (λ c. search needs) returns (λ c κs. tt) (λ c κs. tt) sweep-in-requires (λ c. search needs) returns-2)
+    (tie.spec (λ c κs. tt) (λ c κs. tt) refusal-requires (λ c. search needs) returns (λ c κs. tt) sweep-in-requires (λ c. search needs) returns-2)

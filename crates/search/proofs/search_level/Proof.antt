@@ -2,20 +2,20 @@
 use mathlib.Core.Path.{ap}
 use borrow.Author.Needs.{needs}
 use Rattle.grid.specs.declared.Header.{Header}
-use Rattle.search.proofs.Starting.{rows-ask, marks-there, level-there}
+use Rattle.search.proofs.Starting.{rows-ask, marks-there, crests-there, level-there}
 use Rattle.search.proofs.search_level.Statement.{statement}
 use Rattle.search.proofs.search_level.Tie as tie
 
 header-for-requires : tie.Need-header-for-requires
 header-for-requires c κs =
-    let s = c .before .before .before .before .before .before .before .before .before .before .before in
+    let s = c .before .before .before .before .before .before .before .before .before .before .before .before in
     (s .pre .0 .nine, s .pre .0 .five, s .pre .0 .few)
 
 search-rows-requires : tie.Need-search-rows-requires
 search-rows-requires c κs =
-    let s = c .before .before .before .before .before .before .before .before .before .before .before .before .before .before in
+    let s = c .before .before .before .before .before .before .before .before .before .before .before .before .before .before .before in
     let a = rows-ask _ _ _ _ _ _ (c .before .before .header-for .ensures .0) _ _ _ _ _ (s .pre .0) (s .pre .1) (s .pre .2) in
-    (a .0, a .1, a .2, s .pre .3)
+    (a .0, a .1, a .2, s .pre .3, crests-there (s .args .starts .now) (s .args .members .now) (s .args .boxes .now) (s .args .crests .now) (s .args .h) (c .before .before .header-for .ensures .0) (s .pre .4))
 
 returns : tie.Need-returns
 returns c =
