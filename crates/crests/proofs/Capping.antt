@@ -1,14 +1,14 @@
 -- Crests and tops: what is at least a crest is at least what the crest caps.
-use mathlib.Core.Bool.{true, false}
+use mathlib.Core.Bool.{true}
 use mathlib.Core.List.{List}
-use mathlib.Core.Path.{_≡_, refl, ap, sym, _∙_, subst}
+use mathlib.Core.Path.{_≡_, ap, sym, _∙_, subst}
 use Prim.Native.Nat.{ℕ, _+_, _*_, _≤_, _<_}
 use native.Mathlib.Omega.{arith}
 use borrow.Author.Tests.{eqb-true, eqb-false}
 use lib.Dec.{T, eqb}
 use lib.Ieee.{Float, nan, lt, le, eq}
 use lib.Ieee.Bits.{is-true}
-use lib.ListN.{length, getD, set, length-set}
+use lib.ListN.{length, getD, set}
 use lib.Seq.{getD-set-same, getD-set-other}
 use Rattle.numbers.specs.Reals.{num}
 use Rattle.rules.proofs.Branches.{by-test, no}
@@ -66,7 +66,8 @@ module _ (starts members : List ℕ) (boxes : List Float) (columns : ℕ) where
   pub rowed-more : (y x : ℕ) (crests new : List Float) → Rowed y x crests → length new ≡ 8192 → ((j : ℕ) → Caps (num new j) (num crests j))
       → (part : List ℕ) → part ≡ cell starts members (y * columns + x) → CapsAll boxes (num new (placeOf (y * columns + x))) part → Rowed y (x + 1) new
   rowed-more y x crests new g s up part q p =
-      let here : CapsAll boxes (num new (placeOf (y * columns + x))) (cell starts members (y * columns + x)) = subst (CapsAll boxes (num new (placeOf (y * columns + x)))) q p in
+      let here : CapsAll boxes (num new (placeOf (y * columns + x))) (cell starts members (y * columns + x)) =
+      subst (CapsAll boxes (num new (placeOf (y * columns + x)))) q p in
       record {
         size = s;
         behind = λ u v h l k m. caps-on _ _ _ (up (placeOf (v * columns + u))) (g .behind u v h l k m);
@@ -100,7 +101,8 @@ module _ (boxes : List Float) (part : List ℕ) (crest : Float) where
   pub capped-none : Capped 0 crest
   capped-none = record { first = λ v h. h; each = λ k l. absurd (omega arith) }
 
-  pub capped-more : (j : ℕ) (old new : Float) (b : Bounds) → Capped j old → b ≡ boxAt boxes (getD part j 0) → Caps new old × Caps new (b .top) → Capped (j + 1) new
+  pub capped-more : (j : ℕ) (old new : Float) (b : Bounds) → Capped j old → b ≡ boxAt boxes (getD part j 0)
+      → Caps new old × Caps new (b .top) → Capped (j + 1) new
   capped-more j old new b g e p =
       record {
         first = caps-on new old crest (p .0) (g .first);

@@ -10,7 +10,6 @@ use lib.Dec.{eqb, ltb}
 use lib.Ieee.{Float, lt, le}
 use lib.ListN.{length, getD, replicate, length-replicate, getD-replicate, List·getD-eq-default}
 use Rattle.rules.proofs.Branches.{by-test}
-use Rattle.numbers.specs.Reals.{num}
 use Rattle.plane.specs.declared.Best.{Best}
 use Rattle.capsule.specs.declared.Capsule.{Capsule}
 use Rattle.walk.specs.Walk.{Walk, over, fold, nextStamp, readyMarks}
@@ -28,7 +27,8 @@ module _ (mesh boxes : List Float) (q : Capsule) (stamp : ℕ) (w : Walk Best) (
   passed-low crest r g e t =
       record { value = sym (fold-low mesh boxes q ms (w .value) (λ k l. g k l (w .value .height) (sym e ∙ t))); fair = f; size = refl; room = refl }
 
-  pub walked-on : (w′ : Walk Best) → w′ ≡ fold (look stamp (diskStep mesh boxes q)) w ms → Below (length (w .marks)) ms → Goes stamp (diskStep mesh boxes q) w ms w′
+  pub walked-on : (w′ : Walk Best) → w′ ≡ fold (look stamp (diskStep mesh boxes q)) w ms → Below (length (w .marks)) ms
+      → Goes stamp (diskStep mesh boxes q) w ms w′
   walked-on w′ e b =
       let g = fold-fair mesh boxes q stamp ms w f in
       let k = cell-keeps stamp (diskStep mesh boxes q) ms e b in
@@ -54,12 +54,14 @@ module _ {stamp : ℕ} {step : Best → ℕ → Best} {w₀ : Walk Best} {all : 
   pub along-starts : Fair stamp step w₀ → Along stamp step w₀ all w₀ all
   along-starts f = record { same = refl; fair = f; kept = kept-same stamp w₀ }
 
-  pub along-turns : (f : ℕ → List ℕ) (a b : ℕ) {w w′ : Walk Best} → a < b → Along stamp step w₀ all w (over f a (b - a)) → Goes stamp step w (f a) w′ → Along stamp step w₀ all w′ (over f (a + 1) (b - (a + 1)))
+  pub along-turns : (f : ℕ → List ℕ) (a b : ℕ) {w w′ : Walk Best} → a < b → Along stamp step w₀ all w (over f a (b - a)) → Goes stamp step w (f a) w′
+      → Along stamp step w₀ all w′ (over f (a + 1) (b - (a + 1)))
   unfolding over
   along-turns f a b {w} {w′} h g e =
       let n : b - a ≡ suc (b - (a + 1)) = omega arith in
       record {
-        same = ap (λ (v : Best). fold step v (over f (a + 1) (b - (a + 1)))) (e .value) ∙ (sym (fold-append step (f a) (over f (a + 1) (b - (a + 1))) (w .value)) ∙ (rw n at (g .same)));
+        same = ap (λ (v : Best). fold step v (over f (a + 1) (b - (a + 1)))) (e .value)
+            ∙ (sym (fold-append step (f a) (over f (a + 1) (b - (a + 1))) (w .value)) ∙ (rw n at (g .same)));
         fair = e .fair;
         kept = kept-trans (g .kept) (goes-kept e);
       }
@@ -72,7 +74,8 @@ module _ {stamp : ℕ} {step : Best → ℕ → Best} {w₀ : Walk Best} {all : 
   unfolding fold
   gone-starts f = record { front = []; whole = refl; value = refl; fair = f; kept = kept-same stamp w₀ }
 
-  pub gone-turns : (f : ℕ → List ℕ) (a b : ℕ) {w w′ : Walk Best} → a < b → Gone stamp step w₀ all w (over f a (b - a)) → w′ .value ≡ fold step (w .value) (f a) → Fair stamp step w′ → Kept stamp w w′ → Gone stamp step w₀ all w′ (over f (a + 1) (b - (a + 1)))
+  pub gone-turns : (f : ℕ → List ℕ) (a b : ℕ) {w w′ : Walk Best} → a < b → Gone stamp step w₀ all w (over f a (b - a)) → w′ .value ≡ fold step (w .value) (f a)
+      → Fair stamp step w′ → Kept stamp w w′ → Gone stamp step w₀ all w′ (over f (a + 1) (b - (a + 1)))
   unfolding over
   gone-turns f a b {w} {w′} h g e i k =
       let n : b - a ≡ suc (b - (a + 1)) = omega arith in
@@ -84,13 +87,15 @@ module _ {stamp : ℕ} {step : Best → ℕ → Best} {w₀ : Walk Best} {all : 
         kept = kept-trans (g .kept) k;
       }
 
-  pub gone-ends : (f : ℕ → List ℕ) (a b : ℕ) (limit : Float) {w : Walk Best} → b ≤ a → Gone stamp step w₀ all w (over f a (b - a)) → Passed step (w₀ .value) all limit (w .value)
+  pub gone-ends : (f : ℕ → List ℕ) (a b : ℕ) (limit : Float) {w : Walk Best} → b ≤ a → Gone stamp step w₀ all w (over f a (b - a))
+      → Passed step (w₀ .value) all limit (w .value)
   unfolding over
   gone-ends f a b limit h g =
       let n : b - a ≡ 0 = omega arith in
       record { front = g .front; rest = []; whole = rw n at (g .whole); value = g .value; why = inl refl }
 
-  pub gone-halts : (limit : Float) (rest : List ℕ) {w : Walk Best} → lt limit (w .value .height) ≡ true → Gone stamp step w₀ all w rest → Passed step (w₀ .value) all limit (w .value)
+  pub gone-halts : (limit : Float) (rest : List ℕ) {w : Walk Best} → lt limit (w .value .height) ≡ true → Gone stamp step w₀ all w rest
+      → Passed step (w₀ .value) all limit (w .value)
   gone-halts limit rest h g = record { front = g .front; rest = rest; whole = g .whole; value = g .value; why = inr h }
 
 -- ---- the marks that a walk begins with have its stamp nowhere
@@ -108,15 +113,19 @@ ready-low marks stamp m i = by (eqb stamp 4294967295)
     by true = rw (zeros (length marks) i) (omega arith)
     by false = omega (arith, m i)
 
-pub fair-start : (step : Best → ℕ → Best) (marks m : List ℕ) (stamp next count : ℕ) (v : Best) → NoneAbove stamp marks → m ≡ readyMarks marks stamp → next ≡ nextStamp stamp → Fair next step (record { marks = m; count = count; value = v })
+pub fair-start : (step : Best → ℕ → Best) (marks m : List ℕ) (stamp next count : ℕ) (v : Best) → NoneAbove stamp marks → m ≡ readyMarks marks stamp
+    → next ≡ nextStamp stamp → Fair next step (record { marks = m; count = count; value = v })
 fair-start step marks m stamp next count v h e f =
     let l : (i : ℕ) → getD m i 0 < next = λ i. rw (e, f) (ready-low marks stamp h i) in
     record { settled = λ i z. absurd (omega (arith, l i)); below = λ i. omega (arith, l i) }
 
 -- what the walk may rely on as it begins
-pub pass-ready : (mesh boxes : List Float) (starts members : List ℕ) (q : Capsule) (marks m : List ℕ) (stamp next columns x0 x1 y0 y1 : ℕ) (v : Best) → m ≡ readyMarks marks stamp → next ≡ nextStamp stamp
-    → length mesh ≡ length marks * 9 → length boxes ≡ length marks * 5 → length marks ≤ 65536 → Walkable starts members (length marks) columns x0 x1 y0 y1 → NoneAbove stamp marks
-    → (length mesh ≡ length m * 9) × (length boxes ≡ length m * 5) × Walkable starts members (length m) columns x0 x1 y0 y1 × Room next (seen m (record { count = 0; best = v })) × Fair next (diskStep mesh boxes q) (seen m (record { count = 0; best = v }))
+pub pass-ready : (mesh boxes : List Float) (starts members : List ℕ) (q : Capsule) (marks m : List ℕ) (stamp next columns x0 x1 y0 y1 : ℕ) (v : Best)
+    → m ≡ readyMarks marks stamp → next ≡ nextStamp stamp
+    → length mesh ≡ length marks * 9 → length boxes ≡ length marks * 5 → length marks ≤ 65536
+    → Walkable starts members (length marks) columns x0 x1 y0 y1 → NoneAbove stamp marks
+    → (length mesh ≡ length m * 9) × (length boxes ≡ length m * 5) × Walkable starts members (length m) columns x0 x1 y0 y1
+    × Room next (seen m (record { count = 0; best = v })) × Fair next (diskStep mesh boxes q) (seen m (record { count = 0; best = v }))
 pass-ready mesh boxes starts members q marks m stamp next columns x0 x1 y0 y1 v e f nine five few w h =
     let l : length m ≡ length marks = ap length e ∙ ready-length marks stamp in
     (omega arith, omega arith, rw l w, omega (arith, unmarked-length next m), fair-start (diskStep mesh boxes q) marks m stamp next 0 v h e f)

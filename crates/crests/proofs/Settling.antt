@@ -1,16 +1,16 @@
 -- Looking at a triangle a second time changes nothing, so a walk's best is that of its list taken one after the other, marks or not; and triangles whose tops
 -- are not above the best change nothing.
-use mathlib.Core.Bool.{Bool, true, false, cond}
-use mathlib.Core.List.{List, [], _∷_, _++_}
+use mathlib.Core.Bool.{true, false}
+use mathlib.Core.List.{List, [], _∷_}
 use mathlib.Core.Logic.{_⊎_, inl, inr, ⊎-elim}
 use mathlib.Core.Path.{_≡_, refl, ap, sym, _∙_, subst}
-use Prim.Native.Nat.{ℕ, suc, _+_, _≤_, _<_}
+use Prim.Native.Nat.{ℕ, suc, _<_}
 use native.Mathlib.Omega.{arith}
 use borrow.Author.Tests.{eqb-true, eqb-false, ltb-true, ltb-false}
 use lib.Dec.{T, eqb, ltb}
 use lib.Ieee.{Float, nan, inf, fin, lt, le, eq, isNan}
 use lib.Ieee.Bits.{is-true}
-use lib.ListN.{length, getD, set, length-set}
+use lib.ListN.{length, getD}
 use lib.Seq.{getD-set-same, getD-set-other, set-out}
 use Rattle.rules.proofs.Branches.{by-test, either, no}
 use Rattle.order.proofs.Order.{le-trans}
@@ -138,7 +138,8 @@ module _ (mesh boxes : List Float) (q : Capsule) where
         (λ e. (sym (f .settled i (eqb-true _ _ e)), f))
         (λ e. (refl, struck-fair w i f))
 
-    pub fold-fair : (ms : List ℕ) (w : Walk Best) → Fair stamp step w → (fold (look stamp step) w ms .value ≡ fold step (w .value) ms) × Fair stamp step (fold (look stamp step) w ms)
+    pub fold-fair : (ms : List ℕ) (w : Walk Best) → Fair stamp step w → (fold (look stamp step) w ms .value ≡ fold step (w .value) ms)
+        × Fair stamp step (fold (look stamp step) w ms)
     unfolding fold
     fold-fair [] w f = (refl, f)
     fold-fair (i ∷ ms) w f =

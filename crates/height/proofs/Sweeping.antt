@@ -20,11 +20,13 @@ use Rattle.height.specs.Inside.{Sweepable}
 
 module _ (ix : Index) (marks : List ℕ) (stamp : ℕ) (p : Patch) (m : List ℕ) (next : ℕ) (e : m ≡ readyMarks marks stamp) where
   pub sweep-ready : length (ix .mesh) ≡ length marks * 9 → length marks ≤ 65536 → Sweepable ix (length marks) p → length (ix .boxes) ≡ length marks * 5
-      → (length (ix .mesh) ≡ length m * 9) × Sweepable ix (length m) p × Room next (seen m (record { count = 0; best = atFloor (ix .header .floor) })) × (length (ix .boxes) ≡ length m * 5)
+      → (length (ix .mesh) ≡ length m * 9) × Sweepable ix (length m) p × Room next (seen m (record { count = 0; best = atFloor (ix .header .floor) }))
+      × (length (ix .boxes) ≡ length m * 5)
   sweep-ready nine few walk five =
       let l : length m ≡ length marks = ap length e ∙ ready-length marks stamp in
       (omega arith, rw l walk, omega (arith, unmarked-length next m), omega arith)
 
-  pub sweep-is : (q : Capsule) (w : Walk Best) → next ≡ nextStamp stamp → w ≡ fold (look next (diskStep (ix .mesh) (ix .boxes) q)) (seen m (record { count = 0; best = atFloor (ix .header .floor) })) (within ix p) → w ≡ capsuleWalk ix marks stamp q p
+  pub sweep-is : (q : Capsule) (w : Walk Best) → next ≡ nextStamp stamp → w ≡ fold (look next (diskStep (ix .mesh) (ix .boxes) q))
+      (seen m (record { count = 0; best = atFloor (ix .header .floor) })) (within ix p) → w ≡ capsuleWalk ix marks stamp q p
   unfolding capsuleWalk
   sweep-is q w n f = f ∙ walk-is next (diskStep (ix .mesh) (ix .boxes) q) _ _ ∙ (rw (e, n))

@@ -2,7 +2,7 @@
 use mathlib.Core.Bool.{Bool, true, false, cond}
 use mathlib.Core.List.{List, [], _∷_, _++_, append-nil}
 use mathlib.Core.Logic.{_⊎_, inl, inr, ⊎-elim}
-use mathlib.Core.Path.{_≡_, refl, sym, ap, _∙_, subst}
+use mathlib.Core.Path.{_≡_, refl, sym, ap, _∙_}
 use Prim.Native.Nat.{ℕ, _+_, _≤_, _<_}
 use native.Mathlib.Omega.{arith}
 use borrow.Author.Tests.{eqb-true, eqb-false, eq-eqb, ne-eqb, ltb-true, ltb-false}
@@ -70,17 +70,23 @@ looked-same s m t k [] a = refl
 looked-same s m t k (i ∷ ms) a =
     by (eqb (getD m i 0) s) (eqb (getD k i 0) t) (a .same i) (looked-same s m t k ms a) (looked-same s (set m i s) t (set k i t) ms (alike-set s m t k i a))
   where
-    by : (b d : Bool) → b ≡ d → looked s m ms ≡ looked t k ms → looked s (set m i s) ms ≡ looked t (set k i t) ms → cond b (looked s m ms) (i ∷ looked s (set m i s) ms) ≡ cond d (looked t k ms) (i ∷ looked t (set k i t) ms)
+    by : (b d : Bool) → b ≡ d → looked s m ms ≡ looked t k ms → looked s (set m i s) ms ≡ looked t (set k i t) ms
+        → cond b (looked s m ms) (i ∷ looked s (set m i s) ms) ≡ cond d (looked t k ms) (i ∷ looked t (set k i t) ms)
     by b d e p q = rw (e, p, q)
 
 -- marks that are not above the stamp, made ready for the next walk, and wiped ones
-pub ready-alike : (n stamp : ℕ) (marks : List ℕ) → Marked n stamp marks → Alike (nextStamp stamp) (readyMarks marks stamp) (nextStamp 0) (readyMarks (replicate n 0) 0)
+pub ready-alike : (n stamp : ℕ) (marks : List ℕ) → Marked n stamp marks
+    → Alike (nextStamp stamp) (readyMarks marks stamp) (nextStamp 0) (readyMarks (replicate n 0) 0)
 unfolding nextStamp readyMarks
 ready-alike n stamp marks m =
     by (eqb stamp 4294967295) refl
   where
     by : (b : Bool) → eqb stamp 4294967295 ≡ b → Alike (cond b 1 (stamp + 1)) (cond b (replicate (length marks) 0) marks) (0 + 1) (replicate n 0)
-    by true e = record { size = rw (length-replicate {A = ℕ} (length marks) 0, length-replicate {A = ℕ} n 0) (m .size); same = λ i. rw (zeros (length marks) i, zeros n i) }
+    by true e = record {
+      size = rw (length-replicate {A = ℕ} (length marks) 0, length-replicate {A = ℕ} n 0) (m .size);
+      same =
+          λ i. rw (zeros (length marks) i, zeros n i);
+    }
     by false e =
         record {
           size = rw (length-replicate {A = ℕ} n 0) (m .size);
@@ -105,11 +111,13 @@ marked-below s n (i ∷ is) m l b =
     (λ (e : eqb j i ≡ false). rw (getD-set-other m i j s 0 (eqb-false j i e)) (b j))
     (on-or-off (eqb j i)))
 
-pub ready-below : (n stamp : ℕ) (marks : List ℕ) → Marked n stamp marks → (length (readyMarks marks stamp) ≡ n) × ((i : ℕ) → getD (readyMarks marks stamp) i 0 ≤ nextStamp stamp)
+pub ready-below : (n stamp : ℕ) (marks : List ℕ) → Marked n stamp marks
+    → (length (readyMarks marks stamp) ≡ n) × ((i : ℕ) → getD (readyMarks marks stamp) i 0 ≤ nextStamp stamp)
 unfolding nextStamp readyMarks
 ready-below n stamp marks m = by (eqb stamp 4294967295)
   where
-    by : (b : Bool) → (length (cond b (replicate (length marks) 0) marks) ≡ n) × ((i : ℕ) → getD (cond b (replicate (length marks) 0) marks) i 0 ≤ cond b 1 (stamp + 1))
+    by : (b : Bool) → (length (cond b (replicate (length marks) 0) marks) ≡ n)
+        × ((i : ℕ) → getD (cond b (replicate (length marks) 0) marks) i 0 ≤ cond b 1 (stamp + 1))
     by true = (length-replicate {A = ℕ} (length marks) 0 ∙ m .size, (λ i. rw (zeros (length marks) i) (omega arith)))
     by false = (m .size, (λ i. omega (arith, m .below i)))
 
@@ -132,7 +140,9 @@ module _ (ix : Index) (stamp : ℕ) (marks : List ℕ) (m : Marked (ix .header .
   pub swept-value : sweepWalk ix marks stamp under .value .height ≡ heightUnder ix r
   unfolding heightUnder sweepWalk capsuleWalk walked
   swept-value =
-      ap (λ (is : List ℕ). fold (diskStep (ix .mesh) (ix .boxes) (capsuleFor (ix .header) under)) (record { height = ix .header .floor; triangle = 0; kind = 0; which = 0 }) is .height) (looked-same _ _ _ _ _ (ready-alike (ix .header .n) stamp marks m))
+      ap (λ (is : List ℕ). fold (diskStep (ix .mesh) (ix .boxes) (capsuleFor (ix .header) under))
+      (record { height = ix .header .floor; triangle = 0; kind = 0; which = 0 }) is .height)
+      (looked-same _ _ _ _ _ (ready-alike (ix .header .n) stamp marks m))
 
   pub swept-marks : Marked (ix .header .n) (nextStamp stamp) (sweepWalk ix marks stamp under .marks)
   unfolding sweepWalk capsuleWalk walked
@@ -154,19 +164,23 @@ module _ (ix : Index) (r : Run) where
       let n = ix .header .n in
       let w : Walk Best = begun (replicate n 0) 0 (atFloor (ix .header .floor)) in
       let ms = within ix (patchFor (ix .header) asked) in
-      let fair = fair-start step (replicate n 0) (readyMarks (replicate n 0) 0) 0 (nextStamp 0) 0 (atFloor (ix .header .floor)) (λ i. rw (zeros n i) (omega arith)) refl refl in
+      let fair = fair-start step (replicate n 0) (readyMarks (replicate n 0) 0) 0 (nextStamp 0) 0 (atFloor (ix .header .floor))
+      (λ i. rw (zeros n i) (omega arith)) refl refl in
       ap (λ (u : Walk Best). u .value .height) (sym (walk-is (nextStamp 0) step ms w))
       ∙ ap (λ (v : Best). v .height) (fold-fair (ix .mesh) (ix .boxes) (capsuleFor (ix .header) asked) (nextStamp 0) ms w fair .0)
 
-  pub passed-decides : (limit : Float) (v : Best) → Passed step (atFloor (ix .header .floor)) (within ix (patchFor (ix .header) asked)) limit v → Decides limit (heightUnder ix r) (v .height)
+  pub passed-decides : (limit : Float) (v : Best) → Passed step (atFloor (ix .header .floor)) (within ix (patchFor (ix .header) asked)) limit v
+      → Decides limit (heightUnder ix r) (v .height)
   passed-decides limit v h =
       let first = atFloor (ix .header .floor) in
       let whole = one-by-one ∙ ap (λ (ms : List ℕ). fold step first ms .height) (h .whole) in
       ⊎-elim
-      (λ e. inl (ap (λ (b : Best). b .height) (h .value) ∙ sym (whole ∙ ap (λ (ms : List ℕ). fold step first ms .height) (ap (λ (ms : List ℕ). h .front ++ ms) e ∙ append-nil (h .front)))))
+      (λ e. inl (ap (λ (b : Best). b .height) (h .value)
+      ∙ sym (whole ∙ ap (λ (ms : List ℕ). fold step first ms .height) (ap (λ (ms : List ℕ). h .front ++ ms) e ∙ append-nil (h .front)))))
       (λ l.
       let on : lt limit (fold step v (h .rest) .height) ≡ true = stays-above (ix .mesh) (ix .boxes) (capsuleFor (ix .header) asked) (h .rest) v limit l in
-      let same : fold step first (h .front ++ h .rest) ≡ fold step v (h .rest) = fold-append step (h .front) (h .rest) first ∙ ap (λ (b : Best). fold step b (h .rest)) (sym (h .value)) in
+      let same : fold step first (h .front ++ h .rest) ≡ fold step v (h .rest) = fold-append step (h .front) (h .rest) first
+      ∙ ap (λ (b : Best). fold step b (h .rest)) (sym (h .value)) in
       inr (l, ap (lt limit) whole ∙ (ap (λ (b : Best). lt limit (b .height)) same ∙ on)))
       (h .why)
 

@@ -175,7 +175,8 @@ pub fn walk_row(
 ) -> Walked
     requires { ⌜ Askable (indexOf (now mesh) h (now starts) (now members) (now boxes)) × Marked (h .n) (s .stamp) (now marks) × (l .samples ≤ 65535)
         × Crested (now starts) (now members) (now boxes) (h .columns) (h .rows) (now crests) ⌝ }
-    ensures { λ e. ⌜ Trodden (heightUnder (indexOf (now (mesh .entry)) h (now (starts .entry)) (now (members .entry)) (now (boxes .entry)))) a l (map (numbered forward (l .samples))
+    ensures { λ e. ⌜ Trodden (heightUnder (indexOf (now (mesh .entry)) h (now (starts .entry)) (now (members .entry)) (now (boxes .entry)))) a l
+        (map (numbered forward (l .samples))
         (stretchesOf (λ j. onLevel (heightUnder (indexOf (now (mesh .entry)) h (now (starts .entry)) (now (members .entry)) (now (boxes .entry)))) a l
         (numberOf forward (l .samples) j)) (l .samples))) (now (runs .entry)) s (now (runs .exit)) e × Marked (h .n) (e .stand .stamp) (now (marks .exit)) ⌝ }
 {

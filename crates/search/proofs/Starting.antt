@@ -109,5 +109,6 @@ module _ (mesh : List Float) (h : Header) (starts members : List ℕ) (boxes : L
       subst (λ (f : Found). Takes t s f t′ s′) e q
 
 -- the crests do not turn on the floor
-pub crests-there : (starts members : List ℕ) (boxes crests : List Float) (h : Header) {g : Header} → g ≡ withFloor h (g .floor) → Crested starts members boxes (h .columns) (h .rows) crests → Crested starts members boxes (g .columns) (g .rows) crests
+pub crests-there : (starts members : List ℕ) (boxes crests : List Float) (h : Header) {g : Header} → g ≡ withFloor h (g .floor)
+    → Crested starts members boxes (h .columns) (h .rows) crests → Crested starts members boxes (g .columns) (g .rows) crests
 crests-there starts members boxes crests h {g} e c = subst (λ (k : Header). Crested starts members boxes (k .columns) (k .rows) crests) (sym e) c

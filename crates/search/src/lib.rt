@@ -100,11 +100,13 @@ fn search_level(
     level: Level,
     s: Swept,
 ) -> Swept
-    requires { ⌜ Askable (indexOf (now mesh) h (now starts) (now members) (now boxes)) × Marked (h .n) (s .stand .stamp) (now marks) × Coarse p axis (h .r) level
+    requires { ⌜ Askable (indexOf (now mesh) h (now starts) (now members) (now boxes)) × Marked (h .n) (s .stand .stamp) (now marks)
+        × Coarse p axis (h .r) level
         × (s .rows ≤ 4294967296)
         × Crested (now starts) (now members) (now boxes) (h .columns) (h .rows) (now crests) ⌝ }
     ensures { λ e. ⌜ Takes (now (runs .entry)) s
-        (levelFound (heightUnder (indexOf (now (mesh .entry)) h (now (starts .entry)) (now (members .entry)) (now (boxes .entry)))) p axis (h .r) (from s) level)
+        (levelFound (heightUnder (indexOf (now (mesh .entry)) h (now (starts .entry)) (now (members .entry)) (now (boxes .entry)))) p
+        axis (h .r) (from s) level)
         (now (runs .exit)) e × Marked (h .n) (e .stand .stamp) (now (marks .exit)) ⌝ }
 {
     let a = row_runs::aim_of(p, h.r, level);
@@ -150,11 +152,13 @@ fn search_rows(
     level: Level,
     s: Swept,
 ) -> Swept
-    requires { ⌜ Askable (indexOf (now mesh) h (now starts) (now members) (now boxes)) × Marked (h .n) (s .stand .stamp) (now marks) × Coarse p axis (h .r) level
+    requires { ⌜ Askable (indexOf (now mesh) h (now starts) (now members) (now boxes)) × Marked (h .n) (s .stand .stamp) (now marks)
+        × Coarse p axis (h .r) level
         × (s .rows ≤ 4294967296)
         × Crested (now starts) (now members) (now boxes) (h .columns) (h .rows) (now crests) ⌝ }
     ensures { λ e. ⌜ Takes (now (runs .entry)) s
-        (levelFound (heightUnder (indexOf (now (mesh .entry)) h (now (starts .entry)) (now (members .entry)) (now (boxes .entry)))) p axis (h .r) (from s) level)
+        (levelFound (heightUnder (indexOf (now (mesh .entry)) h (now (starts .entry)) (now (members .entry)) (now (boxes .entry)))) p
+        axis (h .r) (from s) level)
         (now (runs .exit)) e × Marked (h .n) (e .stand .stamp) (now (marks .exit)) ⌝ }
 {
     let r = h.r;

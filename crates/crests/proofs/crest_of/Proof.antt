@@ -31,8 +31,11 @@ box-at-requires c κs = c .before .before .before .before .before .pre (c .befor
 
 loop-again : tie.Need-loop-again Inv-loop μ-loop
 loop-again c =
-    let l = c .before .before .before .before .loop in
-    (capped-more _ _ _ (l .j) _ _ _ (l .inv .0) (c .before .box-at .ensures) (c .higher .ensures), search needs, omega (arith, c .before .before .before .loop-test .taken))
+    let l = c .before .before .before .before .loop in (
+      capped-more _ _ _ (l .j) _ _ _ (l .inv .0) (c .before .box-at .ensures) (c .higher .ensures),
+      search needs,
+      omega (arith, c .before .before .before .loop-test .taken),
+    )
 
 returns : tie.Need-returns Inv-loop μ-loop
 returns c =
@@ -42,4 +45,5 @@ returns c =
 pub crest-of-spec : {M : Type 1} → statement M
 crest-of-spec =
     tie.close
-    (tie.spec Inv-loop μ-loop loop-holds mul-box-at shared-slice-read-box-at cast-box-at box-at-requires (λ c κs. tt) (λ c. omega arith) (λ c. omega arith) loop-again returns)
+    (tie.spec Inv-loop μ-loop loop-holds mul-box-at shared-slice-read-box-at cast-box-at box-at-requires (λ c κs. tt) (λ c. omega arith)
+    (λ c. omega arith) loop-again returns)

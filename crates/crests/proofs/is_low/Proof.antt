@@ -13,4 +13,5 @@ returns c =
     ap (λ (k : ℕ). le (num (s .args .crests .now) k) (s .args .z)) (c .before .place-of .ensures .0)
 
 pub is-low-spec : {M : Type 1} → statement M
-is-low-spec = tie.close (tie.spec (λ c κs. tt) (λ c. search needs) (λ c. omega (arith, c .before .place-of .ensures .1, c .before .before .before .pre)) returns)
+is-low-spec = tie.close (tie.spec (λ c κs. tt) (λ c. search needs)
+    (λ c. omega (arith, c .before .place-of .ensures .1, c .before .before .before .pre)) returns)

@@ -18,7 +18,8 @@ visit-cell-requires c κs =
 returns-2 : tie.Need-returns-2
 returns-2 c =
     let s = c .before .before .before .before .before .before .before .before .before .before .before .before .before .before in
-    walked-on _ _ _ _ _ _ (s .pre .7) _ (c .before .before .visit-cell .ensures ∙ ap (fold _ _) (c .before .before .before .before .stretch .ensures)) (s .pre .4)
+    walked-on _ _ _ _ _ _ (s .pre .7) _ (c .before .before .visit-cell .ensures
+    ∙ ap (fold _ _) (c .before .before .before .before .stretch .ensures)) (s .pre .4)
 
 pub pass-cell-spec : {M : Type 1} → statement M
 pass-cell-spec = tie.close (tie.spec (λ c κs. search needs) returns (λ c κs. search needs) visit-cell-requires (λ c. search needs) returns-2)

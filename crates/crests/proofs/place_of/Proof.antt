@@ -1,5 +1,4 @@
 use mathlib.Core.Path.{refl}
-use borrow.Author.Needs.{needs}
 use native.Mathlib.Omega.{arith}
 use Rattle.crests.specs.Inside.{placeOf}
 use Rattle.crests.proofs.place_of.Statement.{statement}

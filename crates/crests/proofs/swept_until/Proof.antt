@@ -1,6 +1,5 @@
 use mathlib.Core.Path.{ap, _∙_}
 use borrow.Author.Needs.{needs}
-use denote.Ref.{now}
 use lib.ListN.{length}
 use Rattle.walk.proofs.Marks.{ready-length}
 use Rattle.query.proofs.Patches.{patch-inside}
@@ -20,8 +19,15 @@ pass-requires c κs =
 returns : tie.Need-returns
 returns c =
     let e = c .before .before .before .pass .ensures in
-    let n = c .before .before .before .before .before .before .before .next-stamp .ensures in
-    (rw (← c .before .before .before .before .before .before .before .before .before .capsule-of .ensures, ← c .before .before .before .before .before .before .before .before .before .before .patch-of .ensures) (e .0), e .1 ∙ (ap length (n .1) ∙ ready-length _ _), e .2)
+    let n = c .before .before .before .before .before .before .before .next-stamp .ensures in (
+      rw (
+        ← c .before .before .before .before .before .before .before .before .before .capsule-of .ensures,
+        ← c .before .before .before .before .before .before .before .before .before .before .patch-of .ensures,
+      ) (e .0),
+      e .1
+          ∙ (ap length (n .1) ∙ ready-length _ _),
+      e .2,
+    )
 
 pub swept-until-spec : {M : Type 1} → statement M
 swept-until-spec = tie.close (tie.spec (λ c κs. tt) (λ c κs. tt) (λ c κs. tt) pass-requires (λ c. search needs) returns)

@@ -23,7 +23,8 @@ returns-2 c =
     let s = c .before .before .before in
     let k = s .before in
     let d = k .before .before .before in
-    answered _ _ _ _ _ _ (d .refusal .ensures .0) _ (d .before .before .before .patch-of .ensures) (d .before .before .is-sweep .ensures) (k .before .before .if1 .left) _ _ _ (k .capsule-of .ensures) (s .sweep-in .ensures .0) (s .sweep-in .ensures .1)
+    answered _ _ _ _ _ _ (d .refusal .ensures .0) _ (d .before .before .before .patch-of .ensures) (d .before .before .is-sweep .ensures)
+    (k .before .before .if1 .left) _ _ _ (k .capsule-of .ensures) (s .sweep-in .ensures .0) (s .sweep-in .ensures .1)
 
 pub max-height-spec : {M : Type 1} → statement M
 max-height-spec =

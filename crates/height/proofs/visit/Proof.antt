@@ -14,14 +14,16 @@ use Rattle.height.proofs.visit.Tie as tie
 
 abbrev Inv-loop2 : tie.InvT-loop2
 Inv-loop2 mesh starts members boxes marks₀ stamp columns q x0 x1 y0 y1 found₀ y x₀ marks found x =
-    Going stamp (look stamp (diskStep mesh boxes q)) (seen marks₀ found₀) (row starts members columns x0 x1 y) (seen marks found) (over (λ k. cell starts members (y * columns + k)) x (x1 - x)) × (x0 ≤ x)
+    Going stamp (look stamp (diskStep mesh boxes q)) (seen marks₀ found₀) (row starts members columns x0 x1 y) (seen marks found)
+    (over (λ k. cell starts members (y * columns + k)) x (x1 - x)) × (x0 ≤ x)
 
 abbrev μ-loop2 : tie.MeasureT-loop2
 μ-loop2 mesh starts members boxes marks₀ stamp columns q x0 x1 y0 y1 found₀ y x₀ marks found x = x1 - x
 
 abbrev Inv-loop : tie.InvT-loop
 Inv-loop mesh starts members boxes marks₀ stamp columns q x0 x1 y0 y1 found₀ y₀ marks found y =
-    Going stamp (look stamp (diskStep mesh boxes q)) (seen marks₀ found₀) (block starts members columns x0 x1 y0 y1) (seen marks found) (block starts members columns x0 x1 y y1) × (y0 ≤ y)
+    Going stamp (look stamp (diskStep mesh boxes q)) (seen marks₀ found₀) (block starts members columns x0 x1 y0 y1) (seen marks found)
+    (block starts members columns x0 x1 y y1) × (y0 ≤ y)
 
 abbrev μ-loop : tie.MeasureT-loop
 μ-loop mesh starts members boxes marks₀ stamp columns q x0 x1 y0 y1 found₀ y₀ marks found y = y1 - y
@@ -38,11 +40,13 @@ stretch-requires c κs =
     let l = c .before .before .before .loop in
     s .pre .1 .stretch (c .before .loop2 .x) (l .y) (c .before .loop2 .inv .1) (c .loop2-test .taken) (l .inv .1) (c .before .before .loop-test .taken)
 
-cell-fits : (c : tie.In-loop2 Inv-loop2 μ-loop2 Inv-loop μ-loop) → let s = c .before .before .before .before .before .before .before .before .before in c .before .before .before .loop .y * s .args .columns + c .before .loop2 .x + 1 ≤ length (now (s .args .starts))
+cell-fits : (c : tie.In-loop2 Inv-loop2 μ-loop2 Inv-loop μ-loop) → let s = c .before .before .before .before .before .before .before .before .before in
+    c .before .before .before .loop .y * s .args .columns + c .before .loop2 .x + 1 ≤ length (now (s .args .starts))
 cell-fits c =
     let s = c .before .before .before .before .before .before .before .before .before in
     let l = c .before .before .before .loop in
-    let i = s .pre .1 .stretch (c .before .loop2 .x) (l .y) (c .before .loop2 .inv .1) (c .loop2-test .taken) (l .inv .1) (c .before .before .loop-test .taken) .inside in
+    let i = s .pre .1 .stretch (c .before .loop2 .x) (l .y) (c .before .loop2 .inv .1) (c .loop2-test .taken) (l .inv .1)
+    (c .before .before .loop-test .taken) .inside in
     omega arith
 
 visit-cell-requires : tie.Need-visit-cell-requires Inv-loop2 μ-loop2 Inv-loop μ-loop
@@ -52,7 +56,8 @@ visit-cell-requires c κs =
     let l = d .before .before .before .loop in
     let k = kept-trans (l .inv .0 .kept) (d .before .loop2 .inv .0 .kept) in (
       omega (arith, s .pre .0, k .size),
-      rw (c .before .stretch .ensures, k .size) (s .pre .1 .below (d .before .loop2 .x) (l .y) (d .before .loop2 .inv .1) (d .loop2-test .taken) (l .inv .1) (d .before .before .loop-test .taken)),
+      rw (c .before .stretch .ensures, k .size)
+          (s .pre .1 .below (d .before .loop2 .x) (l .y) (d .before .loop2 .inv .1) (d .loop2-test .taken) (l .inv .1) (d .before .before .loop-test .taken)),
       kept-room k (s .pre .2),
       omega (arith, s .pre .3, k .size),
     )
@@ -62,14 +67,16 @@ loop2-again c =
     let v = c .before .before .visit-cell in
     let a = visit-cell-requires (c .before .before .before) (v .lifetimes) in
     let d = c .before .before .before .before .before in (
-      ring-turns _ (d .before .loop2 .x) _ (d .loop2-test .taken) (cell-keeps _ _ _ (v .ensures) (a .1)) (d .before .loop2 .inv .0) (v .ensures ∙ ap (fold _ _) (c .before .before .before .before .stretch .ensures)),
+      ring-turns _ (d .before .loop2 .x) _ (d .loop2-test .taken) (cell-keeps _ _ _ (v .ensures) (a .1)) (d .before .loop2 .inv .0) (v .ensures
+          ∙ ap (fold _ _) (c .before .before .before .before .stretch .ensures)),
       omega arith,
     )
 
 loop-again : tie.Need-loop-again Inv-loop2 μ-loop2 Inv-loop μ-loop
 loop-again c =
     let l = c .before .loop2 .inv .0 in (
-      ring-turns _ (c .before .before .before .loop .y) _ (c .before .before .loop-test .taken) (l .kept) (c .before .before .before .loop .inv .0) (ring-ends _ (c .before .loop2 .x) _ (omega arith) l),
+      ring-turns _ (c .before .before .before .loop .y) _ (c .before .before .loop-test .taken) (l .kept) (c .before .before .before .loop .inv .0)
+          (ring-ends _ (c .before .loop2 .x) _ (omega arith) l),
       omega arith,
     )
 
@@ -85,4 +92,9 @@ visit-spec =
     (tie.spec Inv-loop2 μ-loop2 Inv-loop μ-loop loop-holds loop2-holds
     (λ c. record { fits = omega (arith, cell-fits c, c .before .before .before .before .before .before .before .before .before) })
     (λ c. record { fits = omega (arith, cell-fits c, c .before .before .before .before .before .before .before .before .before) })
-    stretch-requires visit-cell-requires (λ c. omega (arith, c .before .before .before .before .before .loop2-test .taken, c .before .before .before .before .before .before .before .before .before .before .before .before .before .before)) (λ c. omega arith) loop2-again (λ c. omega arith) (λ c. omega arith) loop-again same-length returns)
+    stretch-requires visit-cell-requires (λ c. omega (
+      arith,
+      c .before .before .before .before .before .loop2-test .taken,
+      c .before .before .before .before .before .before .before .before .before .before .before .before .before .before,
+    )) (λ c. omega arith) loop2-again
+    (λ c. omega arith) (λ c. omega arith) loop-again same-length returns)

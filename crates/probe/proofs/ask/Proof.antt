@@ -14,8 +14,14 @@ swept-until-requires c κs =
     let s = c .before .before .before .before .before .before .before in
     let q = s .pre .0 in
     let m = s .pre .1 in
-    let i = patch-inside (s .args .h) (s .args .r .ax) (s .args .r .ay) (s .args .r .bx) (s .args .r .by) (s .args .h .r) in
-    (omega (arith, q .nine, m .size), omega (arith, q .five, m .size), omega (arith, q .few, m .size), rw (m .size) (q .walkable _ _ _ _ (i .0) (i .1)), s .pre .2, m .below)
+    let i = patch-inside (s .args .h) (s .args .r .ax) (s .args .r .ay) (s .args .r .bx) (s .args .r .by) (s .args .h .r) in (
+      omega (arith, q .nine, m .size),
+      omega (arith, q .five, m .size),
+      omega (arith, q .few, m .size),
+      rw (m .size) (q .walkable _ _ _ _ (i .0) (i .1)),
+      s .pre .2,
+      m .below,
+    )
 
 returns : tie.Need-returns
 returns c =

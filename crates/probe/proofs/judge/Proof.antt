@@ -9,4 +9,5 @@ returns c =
     (decided-run _ _ _ _ (t .ask .ensures .0), c .splits .ensures, t .ask .ensures .1)
 
 pub judge-spec : {M : Type 1} → statement M
-judge-spec = tie.close (tie.spec (λ c κs. c .before .before .before .before .before .before .before .before .before .pre) (λ c κs. tt) (λ c. search needs) returns)
+judge-spec = tie.close (tie.spec (λ c κs. c .before .before .before .before .before .before .before .before .before .pre) (λ c κs. tt)
+    (λ c. search needs) returns)

@@ -38,7 +38,8 @@ loop-again : tie.Need-loop-again Inv-loop μ-loop
 loop-again c =
     let l = c .before .before .before .before .before .before .before .before .loop in
     let e = c .before .before .before .before .advance .ensures in (
-      rowing-goes _ _ _ _ _ _ _ (l .w) _ (l .j) (omega (arith, c .before .before .before .before .before .before .before .loop-test .taken, l .inv .3)) (l .inv .0) (e .0),
+      rowing-goes _ _ _ _ _ _ _ (l .w) _ (l .j)
+          (omega (arith, c .before .before .before .before .before .before .before .loop-test .taken, l .inv .3)) (l .inv .0) (e .0),
       e .1,
       omega (arith, c .before .before .before .before .before .before .before .loop-test .taken),
       l .inv .3,
@@ -64,5 +65,18 @@ returns c =
 pub walk-row-spec : {M : Type 1} → statement M
 walk-row-spec =
     tie.close
-    (tie.spec Inv-loop μ-loop (λ c. omega (arith, c .before .before .before .before .before .before .before .pre .2)) loop-holds advance-requires (λ c. let l = c .before .before .before .before .before .before .before .before .loop in omega (arith, c .before .before .before .before .before .before .before .loop-test .taken, l .inv .3, c .before .before .before .before .before .before .before .before .before .before .before .before .before .before .before .before .pre .2)) (λ c. omega (arith, c .before .before .before .before .before .before .before .loop-test .taken)) loop-again
-    (λ c. omega (arith, c .before .before .before .loop .inv .4, c .before .before .before .before .before .before .before .before .before .before .before .pre .2)) end-stretch-requires (λ c. search needs) (λ c. search needs) returns)
+    (tie.spec Inv-loop μ-loop (λ c. omega (arith, c .before .before .before .before .before .before .before .pre .2)) loop-holds advance-requires
+    (λ c. let l = c .before .before .before .before .before .before .before .before .loop in
+    omega (
+      arith,
+      c .before .before .before .before .before .before .before .loop-test .taken,
+      l .inv .3,
+      c .before .before .before .before .before .before .before .before .before .before .before .before .before .before .before .before .pre .2,
+    ))
+    (λ c. omega (arith, c .before .before .before .before .before .before .before .loop-test .taken)) loop-again
+    (λ c. omega (
+      arith,
+      c .before .before .before .loop .inv .4,
+      c .before .before .before .before .before .before .before .before .before .before .before .pre .2,
+    )) end-stretch-requires (λ c. search needs)
+    (λ c. search needs) returns)

@@ -14,8 +14,14 @@ header-for-requires c κs =
 search-rows-requires : tie.Need-search-rows-requires
 search-rows-requires c κs =
     let s = c .before .before .before .before .before .before .before .before .before .before .before .before .before .before .before in
-    let a = rows-ask _ _ _ _ _ _ (c .before .before .header-for .ensures .0) _ _ _ _ _ (s .pre .0) (s .pre .1) (s .pre .2) in
-    (a .0, a .1, a .2, s .pre .3, crests-there (s .args .starts .now) (s .args .members .now) (s .args .boxes .now) (s .args .crests .now) (s .args .h) (c .before .before .header-for .ensures .0) (s .pre .4))
+    let a = rows-ask _ _ _ _ _ _ (c .before .before .header-for .ensures .0) _ _ _ _ _ (s .pre .0) (s .pre .1) (s .pre .2) in (
+      a .0,
+      a .1,
+      a .2,
+      s .pre .3,
+      crests-there (s .args .starts .now) (s .args .members .now) (s .args .boxes .now) (s .args .crests .now) (s .args .h)
+          (c .before .before .header-for .ensures .0) (s .pre .4),
+    )
 
 returns : tie.Need-returns
 returns c =

@@ -32,10 +32,20 @@ slice-aggregate-search-level : tie.Need-slice-aggregate-search-level Inv-loop μ
 slice-aggregate-search-level c = sym (c .before .before .before .before .before .fill .ensures .size)
 
 loop-holds : tie.Need-loop-holds Inv-loop μ-loop
-loop-holds c = (sweeping-starts _ _ _ _ _ _ _ _ (c .before .before .before .before .before .before .before .before .before .before .before .pre .4), c .before .before .before .before .before .before .before .before .before .before .before .pre .1, omega arith, refl, refl)
+loop-holds c = (
+  sweeping-starts _ _ _ _ _ _ _ _ (c .before .before .before .before .before .before .before .before .before .before .before .pre .4),
+  c .before .before .before .before .before .before .before .before .before .before .before .pre .1,
+  omega arith,
+  refl,
+  refl,
+)
 
 level-at-requires : tie.Need-level-at-requires Inv-loop μ-loop
-level-at-requires c κs = omega (arith, c .before .before .before .loop-test .taken, c .before .before .before .before .before .before .before .before .before .before .before .before .before .before .before .before .pre .2)
+level-at-requires c κs = omega (
+  arith,
+  c .before .before .before .loop-test .taken,
+  c .before .before .before .before .before .before .before .before .before .before .before .before .before .before .before .before .pre .2,
+)
 
 search-level-requires : tie.Need-search-level-requires Inv-loop μ-loop
 search-level-requires c κs =
@@ -51,17 +61,33 @@ search-level-requires c κs =
 loop-again : tie.Need-loop-again Inv-loop μ-loop
 loop-again c =
     let l = c .before .before .before .before .before .before .before .before .before .before .loop in
-    let e = c .before .before .before .before .search-level .ensures in
-    (sweeping-goes _ _ _ _ _ _ _ _ _ _ _ _ (c .before .before .before .before .before .before .before .before .before .loop-test .taken) (l .inv .0) (c .before .before .before .before .before .level-at .ensures) _ _ (e .0), e .1, omega (arith, c .before .before .before .before .before .before .before .before .before .loop-test .taken), search needs, search needs)
+    let e = c .before .before .before .before .search-level .ensures in (
+      sweeping-goes _ _ _ _ _ _ _ _ _ _ _ _ (c .before .before .before .before .before .before .before .before .before .loop-test .taken)
+          (l .inv .0) (c .before .before .before .before .before .level-at .ensures) _ _ (e .0),
+      e .1,
+      omega (arith, c .before .before .before .before .before .before .before .before .before .loop-test .taken),
+      search needs,
+      search needs,
+    )
 
 returns : tie.Need-returns Inv-loop μ-loop
 returns c =
     let l = c .before .before .before .before .before .before .before .loop in
-    let e = sweeping-ends _ _ _ _ _ _ _ _ _ (l .m) _ (omega (arith, c .before .before .before .before .before .before .loop-test .left)) (l .inv .0) in
-    (searched _ _ _ _ _ _ _ (c .before .before .before .before .before .before .before .before .begin .ensures) e (c .before .before .close .ensures), l .inv .1 .size)
+    let e = sweeping-ends _ _ _ _ _ _ _ _ _ (l .m) _ (omega (arith, c .before .before .before .before .before .before .loop-test .left)) (l .inv .0) in (
+      searched _ _ _ _ _ _ _ (c .before .before .before .before .before .before .before .before .begin .ensures) e
+          (c .before .before .close .ensures),
+      l .inv .1 .size,
+    )
 
 pub search-levels-spec : {M : Type 1} → statement M
 search-levels-spec =
     tie.close
     (tie.spec Inv-loop μ-loop (λ c. refl) fill-requires (λ c κs. tt) loop-holds slice-aggregate-search-level level-at-requires search-level-requires
-    (λ c. omega (arith, c .before .before .before .before .before .before .before .before .before .loop-test .taken, c .before .before .before .before .before .before .before .before .before .before .before .before .before .before .before .before .before .before .before .before .before .before .pre .3)) (λ c. omega (arith, c .before .before .before .before .before .before .before .before .before .loop-test .taken)) loop-again (λ c κs. tt) (λ c. c .before .before .before .before .before .before .before .loop .inv .3) (λ c. search needs) returns)
+    (λ c. omega (
+      arith,
+      c .before .before .before .before .before .before .before .before .before .loop-test .taken,
+      c .before .before .before .before .before
+          .before .before .before .before .before .before .before .before .before .before .before .before .before .before .before .before .before .pre .3,
+    ))
+    (λ c. omega (arith, c .before .before .before .before .before .before .before .before .before .loop-test .taken)) loop-again (λ c κs. tt)
+    (λ c. c .before .before .before .before .before .before .before .loop .inv .3) (λ c. search needs) returns)

@@ -5,7 +5,8 @@ use Rattle.search.proofs.search_row.Statement.{statement}
 use Rattle.search.proofs.search_row.Tie as tie
 
 walk-row-requires : tie.Need-walk-row-requires
-walk-row-requires c κs = let s = c .before .before .before .before .before .before .before .before .before .before in (s .pre .0, s .pre .1, s .pre .2, s .pre .4)
+walk-row-requires c κs = let s = c .before .before .before .before .before .before .before .before .before .before in
+    (s .pre .0, s .pre .1, s .pre .2, s .pre .4)
 
 returns : tie.Need-returns
 returns c = let e = c .before .before .before .before .before .before .walk-row .ensures in (row-some _ _ _ _ _ _ _ _ _ refl refl (e .0) (c .if1 .taken), e .1)

@@ -25,7 +25,8 @@ abbrev μ-loop : tie.MeasureT-loop
 
 -- a level that is coarse has few rows
 few : (c : tie.After-intervals Inv-loop μ-loop) → c .intervals .result ≤ 65535
-few c = coarse-rows _ _ _ _ _ _ (c .before .spread-of .ensures) (c .intervals .ensures) (c .before .before .before .before .before .before .before .before .before .before .pre .2)
+few c = coarse-rows _ _ _ _ _ _ (c .before .spread-of .ensures) (c .intervals .ensures)
+    (c .before .before .before .before .before .before .before .before .before .before .pre .2)
 
 loop-holds : tie.Need-loop-holds Inv-loop μ-loop
 loop-holds c = (laning-starts _ _ _ _ _ _, c .before .before .before .before .before .before .before .before .before .before .pre .1, omega arith, refl, refl)
@@ -33,21 +34,43 @@ loop-holds c = (laning-starts _ _ _ _ _ _, c .before .before .before .before .be
 search-row-requires : tie.Need-search-row-requires Inv-loop μ-loop
 search-row-requires c κs =
     let s = c .before .before .before .before .before .before .before .before .before .before .before .before .before .before .before in
-    let l = c .before .before .before .before .loop in
-    (s .pre .0, l .inv .1, coarse-samples _ _ _ _ _ _ (c .lane-of .ensures) (s .pre .2), omega (arith, l .inv .0 .few, s .pre .3, few (c .before .before .before .before .before), c .before .before .before .loop-test .taken), s .pre .4)
+    let l = c .before .before .before .before .loop in (
+      s .pre .0,
+      l .inv .1,
+      coarse-samples _ _ _ _ _ _ (c .lane-of .ensures) (s .pre .2),
+      omega (arith, l .inv .0 .few, s .pre .3, few (c .before .before .before .before .before), c .before .before .before .loop-test .taken),
+      s .pre .4,
+    )
 
 loop-again : tie.Need-loop-again Inv-loop μ-loop
 loop-again c =
     let l = c .before .before .before .before .before .before .before .before .before .loop in
-    let e = c .before .before .before .before .search-row .ensures in
-    (laning-goes _ _ _ _ _ _ _ _ _ _ _ _ (c .before .before .before .before .before .before .before .before .loop-test .taken) (l .inv .0) (c .before .before .before .before .before .lane-of .ensures) (e .0), e .1, omega (arith, c .before .before .before .before .before .before .before .before .loop-test .taken), search needs, search needs)
+    let e = c .before .before .before .before .search-row .ensures in (
+      laning-goes _ _ _ _ _ _ _ _ _ _ _ _ (c .before .before .before .before .before .before .before .before .loop-test .taken)
+          (l .inv .0) (c .before .before .before .before .before .lane-of .ensures) (e .0),
+      e .1,
+      omega (arith, c .before .before .before .before .before .before .before .before .loop-test .taken),
+      search needs,
+      search needs,
+    )
 
 returns : tie.Need-returns Inv-loop μ-loop
 returns c =
-    let l = c .before .loop in
-    (level-is _ _ _ _ _ _ _ _ _ _ _ _ (c .before .before .before .before .aim-of .ensures) (c .before .before .before .spread-of .ensures) (c .before .before .intervals .ensures) (laning-ends _ _ _ _ _ _ _ (l .row) _ (omega (arith, c .loop-test .left)) (l .inv .0)), l .inv .1)
+    let l = c .before .loop in (
+      level-is _ _ _ _ _ _ _ _ _ _ _ _ (c .before .before .before .before .aim-of .ensures) (c .before .before .before .spread-of .ensures)
+          (c .before .before .intervals .ensures) (laning-ends _ _ _ _ _ _ _ (l .row) _ (omega (arith, c .loop-test .left)) (l .inv .0)),
+      l .inv .1,
+    )
 
 pub search-rows-spec : {M : Type 1} → statement M
 search-rows-spec =
     tie.close
-    (tie.spec Inv-loop μ-loop (λ c κs. tt) (λ c κs. tt) (λ c κs. tt) (λ c. omega (arith, few c)) loop-holds (λ c κs. tt) search-row-requires (λ c. omega (arith, c .before .before .before .before .before .before .before .before .loop-test .taken, few (c .before .before .before .before .before .before .before .before .before .before))) (λ c. omega (arith, c .before .before .before .before .before .before .before .before .loop-test .taken)) loop-again (λ c. search needs) (λ c. search needs) returns)
+    (tie.spec Inv-loop μ-loop (λ c κs. tt) (λ c κs. tt) (λ c κs. tt) (λ c. omega (arith, few c)) loop-holds (λ c κs. tt) search-row-requires
+    (λ c. omega (
+      arith,
+      c .before .before .before .before .before .before .before .before .loop-test .taken,
+      few (c .before .before .before .before .before .before .before .before .before .before),
+    )) (λ c. omega (
+      arith,
+      c .before .before .before .before .before .before .before .before .loop-test .taken,
+    )) loop-again (λ c. search needs) (λ c. search needs) returns)
