@@ -88,8 +88,8 @@ sightedRest k t l p b =
     let u = det ⊖ v ⊖ w in
     cond (lt f0 (minOf (u ⊗ det) (minOf (v ⊗ det) (w ⊗ det)))) (maxOf b (t .az ⊕ (l .x ⊗ dx ⊕ l .y ⊗ dy) ⊘ l .up ⊖ p .drop)) b
 
-unfoldable pub sightedFacet : Bull → Triangle → Float → Float
-sightedFacet k t b = cond (isAcross k t (leanOf t)) (sightedRest k t (leanOf t) (restOn k (leanOf t)) b) b
+unfoldable pub sightedFacet : Bull → Triangle → Lean → Float → Float
+sightedFacet k t l b = cond (isAcross k t l) (sightedRest k t l (restOn k l) b) b
 
 -- ---- the edges
 
@@ -129,7 +129,7 @@ unfoldable pub isLarge : Bull → Float → Bounds → Bool
 isLarge k far x = le (k .r) (largeSides ⊗ (x .«high_x» ⊖ x .«low_x» ⊕ (x .«high_y» ⊖ x .«low_y»))) && isUnder k far x
 
 unfoldable pub sightedMore : Bull → Float → Triangle → Float → Float
-sightedMore k far t b = sightedEdges k far t (sightedFacet k t b)
+sightedMore k far t b = sightedEdges k far t (sightedFacet k t (leanOf t) b)
 
 -- The vertices, and of a triangle with a large box x the facet and the edges, unless it lies under what was found.
 unfoldable pub sightedOf : Bull → Float → Triangle → Bounds → Float → Float

@@ -31,7 +31,7 @@ pub fn is_level(k: Bull) -> bool
     0.0 <= bull::cap::base_of(k)
 }
 
-// The height b, or the highest tip over a triangle with the box x that is looked for, if higher. What lies at squares from `far` on is left out.
+// The height b, or the highest of a few tips over a triangle with the box x, if higher. What lies at squares from `far` on is left out.
 pub fn sighted(k: Bull, far: f64, t: Triangle, x: Bounds, b: f64) -> f64
     ensures { λ r. ⌜ r ≡ sightedOf k far t x b ⌝ }
 {
@@ -110,14 +110,13 @@ fn tip(k: Bull, z: f64, q: f64, b: f64) -> f64
 fn more(k: Bull, far: f64, t: Triangle, b: f64) -> f64
     ensures { λ r. ⌜ r ≡ sightedMore k far t b ⌝ }
 {
-    edges(k, far, t, facet(k, t, b))
+    edges(k, far, t, facet(k, t, lean_of(t), b))
 }
 
 // The height b, or the tip over the facet, if higher.
-fn facet(k: Bull, t: Triangle, b: f64) -> f64
-    ensures { λ r. ⌜ r ≡ sightedFacet k t b ⌝ }
+fn facet(k: Bull, t: Triangle, l: Lean, b: f64) -> f64
+    ensures { λ r. ⌜ r ≡ sightedFacet k t l b ⌝ }
 {
-    let l = lean_of(t);
     if is_across(k, t, l) {
         return rested(k, t, l, rest_on(k, l), b);
     }
