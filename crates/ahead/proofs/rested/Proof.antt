@@ -1,4 +1,4 @@
-use mathlib.Core.Path.{_≡_, refl, ap, _∙_}
+use mathlib.Core.Path.{refl, ap, _∙_}
 use Rattle.numbers.specs.Reals.{minOf}
 use Rattle.rules.proofs.Branches.{taken, left, called-lt}
 use Rattle.ahead.specs.Inside.{sightedRest}

@@ -1,4 +1,4 @@
-use mathlib.Core.Path.{_≡_, refl, ap, _∙_}
+use mathlib.Core.Path.{ap, _∙_}
 use Rattle.rules.proofs.Branches.{taken, left, bool-called}
 use Rattle.ahead.specs.Inside.{sightedMore, sightedOf}
 use Rattle.ahead.proofs.sighted.Statement.{statement}

@@ -1,10 +1,7 @@
 use borrow.Author.Needs.{needs}
-use mathlib.Core.Path.{_≡_, refl, ap, sym, _∙_}
-use denote.Ref.{now}
+use mathlib.Core.Path.{refl, ap, _∙_}
 use lib.Ieee.{Float}
 use Rattle.rules.proofs.Branches.{taken, left}
-use Rattle.plane.specs.declared.Triangle.{Triangle}
-use Rattle.plane.specs.declared.Bounds.{Bounds}
 use Rattle.ask.specs.Ask.{atFloor}
 use Rattle.tips.specs.Inside.{guessStep, guessRaised}
 use Rattle.tips.proofs.raise_guess.Statement.{statement}
