@@ -1,5 +1,5 @@
 -- The measure is k, the most digits that may still come. The higher digits are written by the call of itself, and then the last.
-use Prim.Native.Nat.{ℕ}
+use Prim.Native.Nat.{ℕ, _<_}
 use borrow.Fn.Kinds.{In}
 use borrow.Fn.PlainCycle.{Measures, is, falls, and}
 use borrow.Author.Needs.{needs}
