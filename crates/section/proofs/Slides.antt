@@ -18,7 +18,7 @@ use Rattle.cutters.specs.Touch.{along, distanceAt}
 use Rattle.plane.specs.Ranges.{isCoordinate, isRadius}
 use Rattle.order.proofs.Ranges.{finite-between}
 use Rattle.order.proofs.Order.{O, le-trans, sub-turns}
-use Rattle.order.proofs.Strict.{le-not-lt}
+use Rattle.order.proofs.Strict.{le-not-lt, lt-never-same}
 use Rattle.order.proofs.Extremes.{lt-le, min-up}
 use Rattle.bound.specs.Inside.{Within, Beyond}
 use Rattle.bound.proofs.Small.{M, small, small-finite, small-radius}
@@ -27,7 +27,7 @@ use Rattle.section.specs.declared.Section.{Section}
 use Rattle.section.specs.declared.slide.Fence.{Fence}
 use Rattle.section.specs.declared.slide.Loose.{Loose}
 use Rattle.section.specs.Section.{profileOf, heightOver, sectionAt}
-use Rattle.section.specs.Inside.{Firm, overOf, Around, Held, valuedAt, Loosely, goesOf}
+use Rattle.section.specs.Inside.{Firm, overOf, Around, Held, valuedAt, looseOf, Loosely, goesOf}
 use Rattle.section.proofs.Capping.{Valid, valid-parts, height-all, least-far, f-top, f1′}
 use Rattle.section.proofs.Ends.{surface-up, no-number}
 
@@ -41,11 +41,32 @@ falls-from : (v w h l : Float) → T (le w h) → le h l ≡ true → T (le l v)
 falls-from v w h l p q r =
     by-test (lt v w) (λ e. absurd (le-not-lt w v (is-true _ (le-trans w h v p (le-trans h l v (holds _ q) r))) e)) (λ e. e)
 
+at-itself : (v : Float) → isNan v ≡ false → T (le v v)
+at-itself v n = not-less v v n n (by-test (lt v v) (λ e. absurd (lt-never-same v e)) (λ e. e))
+
+own : (v : Float) → Held (record { low = v; high = v }) v
+own v = record { at-least = at-itself v; at-most = at-itself v }
+
 module _ (f : Float → Float) where
   turn : (l : Bool) (g : Golden) (v : Float) → rises (valuedAt f g) ≡ l → valuedAt f (narrowedOf l g (probeOf l g) v) ≡ goldenStep rises f (valuedAt f g)
   unfolding goldenStep
   turn true g v e = rw e (unfold narrowedOf probeOf valuedAt in refl)
   turn false g v e = rw e (unfold narrowedOf probeOf valuedAt in refl)
+
+  from-values : (g q : Golden) → valuedAt f g ≡ g → valuedAt f g ≡ q → Loosely f q (looseOf g)
+  unfolding looseOf
+  from-values g q h e =
+      record {
+        spots = e;
+        first = subst (λ (v : Float). Held (record { low = g .f1; high = g .f1 }) v) (sym (one g h)) (own (g .f1));
+        second = subst (λ (v : Float). Held (record { low = g .f2; high = g .f2 }) v) (sym (two g h)) (own (g .f2));
+      }
+    where
+      one : (g : Golden) → valuedAt f g ≡ g → f (g .x1) ≡ g .f1
+      one g h = unfold valuedAt in ap (λ (k : Golden). k .f1) h
+
+      two : (g : Golden) → valuedAt f g ≡ g → f (g .x2) ≡ g .f2
+      two g h = unfold valuedAt in ap (λ (k : Golden). k .f2) h
 
   turned : (q : Golden) → valuedAt f q ≡ q → valuedAt f (goldenStep rises f q) ≡ goldenStep rises f q
   turned q h = took ∙ ap (goldenStep rises f) h
@@ -59,8 +80,11 @@ module _ (f : Float → Float) where
   values lo hi zero = unfold goldenStart startOf valuedAt in refl
   values lo hi (suc n) = turned (goldenAt rises f lo hi n) (values lo hi n)
 
-  pub begun : (lo hi : Float) (n : ℕ) (g : Golden) (w : Loose) → g ≡ goldenAt rises f lo hi n → Loosely f (valuedAt f g) w → Loosely f (goldenAt rises f lo hi n) w
-  begun lo hi n g w e l = subst (λ (q : Golden). Loosely f q w) (ap (valuedAt f) e ∙ values lo hi n) l
+  pub begun : (lo hi : Float) (n : ℕ) (g : Golden) (w : Loose) → g ≡ goldenAt rises f lo hi n → w ≡ looseOf g → Loosely f (goldenAt rises f lo hi n) w
+  begun lo hi n g w e p = subst (λ (q : Loose). Loosely f (goldenAt rises f lo hi n) q) (sym p) (from-values g (goldenAt rises f lo hi n) (here ∙ sym e) here)
+    where
+      here : valuedAt f g ≡ goldenAt rises f lo hi n
+      here = ap (valuedAt f) e ∙ values lo hi n
 
   pub again : (lo hi : Float) (n : ℕ) (w : Loose) → Loosely f (goldenStep rises f (goldenAt rises f lo hi n)) w → Loosely f (goldenAt rises f lo hi (n + 1)) w
   unfolding goldenAt

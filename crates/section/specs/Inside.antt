@@ -84,6 +84,10 @@ pub record Held (p : Fence) (v : Float) : Type 0 where
 unfoldable pub valuedAt : (Float → Float) → Golden → Golden
 valuedAt f g = record { a = g .a; b = g .b; x1 = g .x1; x2 = g .x2; f1 = f (g .x1); f2 = f (g .x2) }
 
+-- A bracket with its values for fences.
+unfoldable pub looseOf : Golden → Loose
+looseOf g = record { g = g; one = record { low = g .f1; high = g .f1 }; two = record { low = g .f2; high = g .f2 } }
+
 -- w has the places of the bracket q, whose values its fences hold.
 pub record Loosely (f : Float → Float) (q : Golden) (w : Loose) : Type 0 where
   pub spots : valuedAt f (w .g) ≡ q

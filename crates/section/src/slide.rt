@@ -6,7 +6,7 @@ ghost use Rattle.numbers.specs.Reals.{minOf};
 ghost use Rattle.roots.specs.Hypot.{hypotOf};
 ghost use Rattle.golden.specs.Search.{rises, goldenStep, goldenAt};
 ghost use Rattle.section.specs.Section.{sectionAt};
-ghost use Rattle.section.specs.Inside.{Firm, FlatTo, overOf, Around, Held, valuedAt, Loosely, goesOf};
+ghost use Rattle.section.specs.Inside.{Firm, FlatTo, overOf, Around, Held, valuedAt, looseOf, Loosely, goesOf};
 use crate::Section;
 use cutters::Edge;
 use golden::Golden;
@@ -59,7 +59,7 @@ pub fn slid(
     ensures { λ r. ⌜ (r .g ≡ goldenAt rises (sectionAt s x y e) lo hi (r .n)) × (r .n ≤ 60) ⌝ }
 {
     let k = course_from(x, y, e, aim(from.g, lo, hi));
-    let mut w = first(s, low, x, y, e, k, from.g);
+    let mut w = first(from.g);
     for n in from.n..60usize {
         let left = seems(w);
         if !goes(left, w) {
@@ -113,13 +113,18 @@ fn seems(w: Loose) -> bool {
     one.high < two.low
 }
 
-// A bracket with the fences of its values.
-fn first(s: Section, low: f64, x: f64, y: f64, e: Edge, k: Course, g: Golden) -> Loose
-    requires { ⌜ Firm s low ⌝ }
-    ensures { λ w. ⌜ Loosely (sectionAt s x y e) (valuedAt (sectionAt s x y e) g) w ⌝ }
+// A bracket with its values for fences.
+fn first(g: Golden) -> Loose
+    ensures { λ w. ⌜ w ≡ looseOf g ⌝ }
 {
-    let one = bounds_at(s, low, x, y, e, k, g.x1);
-    let two = bounds_at(s, low, x, y, e, k, g.x2);
+    let one = Fence {
+        low: g.f1,
+        high: g.f1,
+    };
+    let two = Fence {
+        low: g.f2,
+        high: g.f2,
+    };
     Loose { g, one, two }
 }
 
