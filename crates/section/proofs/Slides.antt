@@ -2,7 +2,8 @@
 use mathlib.Core.Bool.{Bool, true, false, cond}
 use mathlib.Core.Logic.{⊎-elim}
 use mathlib.Core.Path.{_≡_, refl, ap, sym, _∙_, subst}
-use Prim.Native.Nat.{ℕ, zero, suc, _+_}
+use Prim.Native.Nat.{ℕ, zero, suc, _+_, _≤_}
+use native.Mathlib.Omega.{arith}
 use native.Mathlib.Numerals.{add-one}
 use lib.Dec.{T}
 use lib.Ieee.{Float, binary64, div, lt, le, eq, fits, isNan, ofBits}
@@ -85,6 +86,9 @@ module _ (f : Float → Float) where
     where
       here : valuedAt f g ≡ goldenAt rises f lo hi n
       here = ap (valuedAt f) e ∙ values lo hi n
+
+  pub stands : (lo hi : Float) (n k : ℕ) (g : Golden) → n ≤ k → k ≤ n → g ≡ goldenAt rises f lo hi n → g ≡ goldenAt rises f lo hi k
+  stands lo hi n k g below done h = let e : n ≡ k = omega arith in h ∙ ap (goldenAt rises f lo hi) e
 
   pub again : (lo hi : Float) (n : ℕ) (w : Loose) → Loosely f (goldenStep rises f (goldenAt rises f lo hi n)) w → Loosely f (goldenAt rises f lo hi (n + 1)) w
   unfolding goldenAt

@@ -274,7 +274,7 @@ fn flat_of(s: Section) -> f64
 }
 
 // The same with the number `flat` of the section, m being the larger end's height. The search is given up once nothing that it can still find exceeds that, or,
-// with `more` added, the limit. After its first steps it may run to an end.
+// with `more` added, the limit. After its first steps it is followed without distances, as far as that goes.
 fn search_on(
     s: Section,
     low: f64,
@@ -298,7 +298,8 @@ fn search_on(
         }
         g = step(s, x, y, e, flat, g);
     }
-    let from = slide::slid(s, low, x, y, e, flat, lo, hi, Stage { g, n: 5 });
+    let some = slide::slid(s, low, x, y, e, flat, lo, hi, Stage { g, n: 5 });
+    let from = slide::more(s, low, x, y, e, flat, lo, hi, some);
     search_last(s, low, x, y, e, flat, lo, hi, m, more, limit, from)
 }
 

@@ -76,6 +76,32 @@ pub fn slid(
     }
 }
 
+// The search after a few steps more, and from there as far as the fences tell; from its fortieth step on they tell little more.
+pub fn more(
+    s: Section,
+    low: f64,
+    x: f64,
+    y: f64,
+    e: Edge,
+    flat: f64,
+    lo: f64,
+    hi: f64,
+    from: Stage,
+) -> Stage
+    requires { ⌜ (Firm s low) × (FlatTo s flat) × (from .g ≡ goldenAt rises (sectionAt s x y e) lo hi (from .n)) × (from .n ≤ 60) ⌝ }
+    ensures { λ r. ⌜ (r .g ≡ goldenAt rises (sectionAt s x y e) lo hi (r .n)) × (r .n ≤ 60) ⌝ }
+{
+    if from.n >= 40 {
+        return from;
+    }
+    let end = from.n + 5;
+    let mut g = from.g;
+    for n in from.n..end {
+        g = crate::step(s, x, y, e, flat, g);
+    }
+    slid(s, low, x, y, e, flat, lo, hi, Stage { g, n: end })
+}
+
 // Where the search seems to end: at an end of lo..hi, or near the better inner point.
 fn aim(g: Golden, lo: f64, hi: f64) -> f64 {
     if g.b == hi {

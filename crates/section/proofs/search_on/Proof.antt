@@ -35,8 +35,13 @@ slid-requires c κs =
     let e : l .n ≡ 5 = omega arith in
     (s .pre .firm, s .pre .flat-to, l .inv .0 ∙ ap (goldenAt rises _ _ _) e, omega arith)
 
+more-requires : tie.Need-more-requires Inv-loop μ-loop
+more-requires c κs =
+    let s = c .before .before .before .before in
+    (s .pre .firm, s .pre .flat-to, c .slid .ensures .0, c .slid .ensures .1)
+
 search-last-requires : tie.Need-search-last-requires Inv-loop μ-loop
-search-last-requires c κs = (c .before .before .before .before .pre, c .slid .ensures .0, c .slid .ensures .1)
+search-last-requires c κs = (c .before .before .before .before .before .pre, c .more .ensures .0, c .more .ensures .1)
 
 returns-2 : tie.Need-returns-2 Inv-loop μ-loop
 returns-2 c = c .search-last .ensures
@@ -44,4 +49,4 @@ returns-2 c = c .search-last .ensures
 pub search-on-spec : {M : Type 1} → statement M
 search-on-spec =
     tie.close
-    (tie.spec Inv-loop μ-loop (λ c κs. c .pre .flat-to) loop-holds (λ c κs. tt) returns (λ c κs. c .before .before .before .before .before .pre .flat-to) (λ c. omega arith) (λ c. omega arith) loop-again slid-requires search-last-requires returns-2)
+    (tie.spec Inv-loop μ-loop (λ c κs. c .pre .flat-to) loop-holds (λ c κs. tt) returns (λ c κs. c .before .before .before .before .before .pre .flat-to) (λ c. omega arith) (λ c. omega arith) loop-again slid-requires more-requires search-last-requires returns-2)
