@@ -96,28 +96,33 @@ module _ (f : Float → Float) where
 
   -- ---- a step that the fences tell
   module _ (w : Loose) (u : Float) (v : Fence) (q : Golden) (l : Loosely f q w) where
-    right-on : goesOf true w ≡ true → Held v (f (probeOf true (w .g))) → Loosely f (goldenStep rises f q) (record { g = narrowedOf true (w .g) (probeOf true (w .g)) u; one = w .two; two = v })
+    right-on : goesOf true w ≡ true → Held v (f (probeOf true (w .g)))
+        → Loosely f (goldenStep rises f q) (record { g = narrowedOf true (w .g) (probeOf true (w .g)) u; one = w .two; two = v })
     unfolding goesOf
     right-on h k =
         let n = number-of _ _ (lt-le _ _ h) in
+        let r = rises-from _ _ _ _ (l .first .at-most (n .0)) h (l .second .at-least (n .1)) in
         record {
-          spots = turn true (w .g) u (unfold valuedAt in rises-from _ _ _ _ (l .first .at-most (n .0)) h (l .second .at-least (n .1))) ∙ ap (goldenStep rises f) (l .spots);
+          spots = turn true (w .g) u (unfold valuedAt in r) ∙ ap (goldenStep rises f) (l .spots);
           first = unfold narrowedOf in l .second;
           second = unfold narrowedOf in k;
         }
 
-    left-on : goesOf false w ≡ true → Held v (f (probeOf false (w .g))) → Loosely f (goldenStep rises f q) (record { g = narrowedOf false (w .g) (probeOf false (w .g)) u; one = v; two = w .one })
+    left-on : goesOf false w ≡ true → Held v (f (probeOf false (w .g)))
+        → Loosely f (goldenStep rises f q) (record { g = narrowedOf false (w .g) (probeOf false (w .g)) u; one = v; two = w .one })
     unfolding goesOf
     left-on h k =
         let n = number-of _ _ (holds _ h) in
+        let r = falls-from _ _ _ _ (l .second .at-most (n .0)) h (l .first .at-least (n .1)) in
         record {
-          spots = turn false (w .g) u (unfold valuedAt in falls-from _ _ _ _ (l .second .at-most (n .0)) h (l .first .at-least (n .1))) ∙ ap (goldenStep rises f) (l .spots);
+          spots = turn false (w .g) u (unfold valuedAt in r) ∙ ap (goldenStep rises f) (l .spots);
           first = unfold narrowedOf in k;
           second = unfold narrowedOf in l .first;
         }
 
   -- as the code has it
-  module _ (left : Bool) (w : Loose) (p u : Float) (g : Golden) (v : Fence) (h : goesOf left w ≡ true) (e₁ : p ≡ probeOf left (w .g)) (e₂ : g ≡ narrowedOf left (w .g) p u) (k : Held v (f p)) where
+  module _ (left : Bool) (w : Loose) (p u : Float) (g : Golden) (v : Fence) (h : goesOf left w ≡ true)
+      (e₁ : p ≡ probeOf left (w .g)) (e₂ : g ≡ narrowedOf left (w .g) p u) (k : Held v (f p)) where
     pub goes-right : left ≡ true → (q : Golden) → Loosely f q w → Loosely f (goldenStep rises f q) (record { g = g; one = w .two; two = v })
     goes-right t q l = rw (e₂, e₁, t) (right-on w u v q l (rw t at h) (rw (e₁, t) at k))
 
@@ -125,7 +130,8 @@ module _ (f : Float → Float) where
     goes-left t q l = rw (e₂, e₁, t) (left-on w u v q l (rw t at h) (rw (e₁, t) at k))
 
 -- ---- a distance by its square
-pub around : (z near far p q b w : Float) → isCoordinate z ≡ true → isRadius near ≡ true → isRadius far ≡ true → T (fits binary64 p) → T (fits binary64 q) → Beyond near b → Within far w
+pub around : (z near far p q b w : Float) → isCoordinate z ≡ true → isRadius near ≡ true → isRadius far ≡ true
+    → T (fits binary64 p) → T (fits binary64 q) → Beyond near b → Within far w
     → le b (p ⊗ p ⊕ q ⊗ q) ≡ true → le (p ⊗ p ⊕ q ⊗ q) w ≡ true → Around z near far (hypotOf p q)
 around z near far p q b w cz cn cf fp fq out in′ h k =
     let d = hypotOf p q in
@@ -154,9 +160,11 @@ module _ (s : Section) (low x y : Float) (e : Edge) (t : Float) where
 
     under : (c c′ : Float) → isCoordinate z ≡ true → T (le c c′) → T (le c′ (s .r1)) → T (le (z ⊖ H c′) (z ⊖ H c))
     under c c′ a k m =
-        sub-turns binary64 (H c) (H c′) z (fine c (le-trans c c′ (s .r1) k m)) (fine c′ m) (small-finite z (small z a)) (surface-up s (valid .0) (valid .1) c c′ k m)
+        sub-turns binary64 (H c) (H c′) z (fine c (le-trans c c′ (s .r1) k m)) (fine c′ m) (small-finite z (small z a))
+        (surface-up s (valid .0) (valid .1) c c′ k m)
 
-    pub held : (near far l h : Float) → Around z near far d → l ≡ overOf s z (minOf far (s .r1)) → h ≡ overOf s z (minOf near (s .r1)) → Held (record { low = l; high = h }) (sectionAt s x y e t)
+    pub held : (near far l h : Float) → Around z near far d → l ≡ overOf s z (minOf far (s .r1)) → h ≡ overOf s z (minOf near (s .r1))
+        → Held (record { low = l; high = h }) (sectionAt s x y e t)
     unfolding overOf sectionAt distanceAt
     held near far l h a p q =
         let r = s .r1 in
@@ -166,8 +174,10 @@ module _ (s : Section) (low x y : Float) (e : Edge) (t : Float) where
         let fn = finite-between O near M tt tt (n .0) (n .1) in
         let fd = finite-between O d M tt tt (le-trans O near d (n .0) (a .low)) (le-trans d far M (a .high) (m .1)) in
         record {
-          at-least = λ _. subst (λ (b : Float). T (le b (z ⊖ H (minOf d r)))) (sym p) (under (minOf d r) (minOf far r) (a .height) (min-up d far r fd fr (a .high)) (least-far s (valid .0) (valid .1) far));
-          at-most = λ _. subst (λ (b : Float). T (le (z ⊖ H (minOf d r)) b)) (sym q) (under (minOf near r) (minOf d r) (a .height) (min-up near d r fn fr (a .low)) (least-far s (valid .0) (valid .1) d));
+          at-least = λ _. subst (λ (b : Float). T (le b (z ⊖ H (minOf d r)))) (sym p)
+              (under (minOf d r) (minOf far r) (a .height) (min-up d far r fd fr (a .high)) (least-far s (valid .0) (valid .1) far));
+          at-most = λ _. subst (λ (b : Float). T (le (z ⊖ H (minOf d r)) b)) (sym q)
+              (under (minOf near r) (minOf d r) (a .height) (min-up near d r fn fr (a .low)) (least-far s (valid .0) (valid .1) d));
         }
 
 pub held-none : (v : Float) → Held (record { low = f0 ⊘ f0; high = f0 ⊘ f0 }) v

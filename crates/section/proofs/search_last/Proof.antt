@@ -1,4 +1,5 @@
--- The invariant: after n steps the bracket is that of the search. Where it is given up, nothing in the bracket exceeds the larger end's height, or, with `more` added, the limit.
+-- The invariant: after n steps the bracket is that of the search. Where it is given up, nothing in the bracket exceeds the larger end's height, or, with `more`
+-- added, the limit.
 use Prim.Native.Nat.{_≤_, _-_}
 use mathlib.Core.Path.{_≡_}
 use borrow.Author.Needs.{needs}
@@ -37,4 +38,5 @@ returns-2 c =
 pub search-last-spec : {M : Type 1} → statement M
 search-last-spec =
     tie.close
-    (tie.spec Inv-loop μ-loop loop-holds (λ c κs. tt) returns (λ c κs. c .before .before .before .before .before .pre .0 .flat-to) (λ c. omega arith) (λ c. omega arith) loop-again (λ c κs. tt) (λ c κs. tt) returns-2)
+    (tie.spec Inv-loop μ-loop loop-holds (λ c κs. tt) returns (λ c κs. c .before .before .before .before .before .pre .0 .flat-to)
+    (λ c. omega arith) (λ c. omega arith) loop-again (λ c κs. tt) (λ c κs. tt) returns-2)

@@ -49,4 +49,6 @@ returns-2 c = c .search-last .ensures
 pub search-on-spec : {M : Type 1} → statement M
 search-on-spec =
     tie.close
-    (tie.spec Inv-loop μ-loop (λ c κs. c .pre .flat-to) loop-holds (λ c κs. tt) returns (λ c κs. c .before .before .before .before .before .pre .flat-to) (λ c. omega arith) (λ c. omega arith) loop-again slid-requires more-requires search-last-requires returns-2)
+    (tie.spec Inv-loop μ-loop (λ c κs. c .pre .flat-to) loop-holds (λ c κs. tt) returns
+    (λ c κs. c .before .before .before .before .before .pre .flat-to) (λ c. omega arith) (λ c. omega arith) loop-again
+    slid-requires more-requires search-last-requires returns-2)

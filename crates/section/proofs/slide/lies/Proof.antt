@@ -9,7 +9,8 @@ returns : tie.Need-returns
 returns c =
     let a = c .before .before .before .before .before .before .before .before .before in
     λ e. around _ _ _ _ _ _ _
-    (sym (c .before .before .before .before .before .before .before .before .is-coordinate .ensures) ∙ c .before .before .before .before .before .before .before .if1 .taken)
+    (sym (c .before .before .before .before .before .before .before .before .is-coordinate .ensures)
+    ∙ c .before .before .before .before .before .before .before .if1 .taken)
     (sym (c .before .before .before .before .before .before .is-radius .ensures) ∙ c .before .before .before .before .before .if2 .taken)
     (sym (c .before .before .before .before .is-radius2 .ensures) ∙ c .before .before .before .if3 .taken)
     (subst T (sym (a .good .1 .0 .1)) tt)

@@ -38,4 +38,6 @@ returns-2 : tie.Need-returns-2 Inv-loop μ-loop
 returns-2 c = c .slid .ensures
 
 pub more-spec : {M : Type 1} → statement M
-more-spec = tie.close (tie.spec Inv-loop μ-loop returns (λ c. omega arith) loop-holds step-requires (λ c. omega arith) (λ c. omega arith) loop-again slid-requires returns-2)
+more-spec =
+    tie.close
+    (tie.spec Inv-loop μ-loop returns (λ c. omega arith) loop-holds step-requires (λ c. omega arith) (λ c. omega arith) loop-again slid-requires returns-2)

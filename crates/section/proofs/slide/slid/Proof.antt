@@ -43,4 +43,6 @@ returns-2 c =
 pub slid-spec : {M : Type 1} → statement M
 slid-spec =
     tie.close
-    (tie.spec Inv-loop μ-loop (λ c κs. tt) (λ c κs. tt) (λ c κs. tt) loop-holds (λ c κs. tt) (λ c κs. tt) (λ c κs. c .before .before .before .before .before .before .before .before .pre .1) returns next-requires (λ c. omega arith) (λ c. omega arith) loop-again (λ c κs. c .before .before .before .before .before .pre .1) returns-2)
+    (tie.spec Inv-loop μ-loop (λ c κs. tt) (λ c κs. tt) (λ c κs. tt) loop-holds (λ c κs. tt) (λ c κs. tt)
+    (λ c κs. c .before .before .before .before .before .before .before .before .pre .1) returns next-requires (λ c. omega arith) (λ c. omega arith) loop-again
+    (λ c κs. c .before .before .before .before .before .pre .1) returns-2)
