@@ -1,6 +1,6 @@
 -- A walk that passes over low cells: its best is that of the list so far, one after the other, whichever cells were walked.
 use mathlib.Core.Bool.{Bool, true, false, cond}
-use mathlib.Core.List.{List, [], _++_, append-assoc}
+use mathlib.Core.List.{List, [], _++_, append-assoc, append-nil}
 use mathlib.Core.Logic.{inl, inr}
 use mathlib.Core.Path.{_≡_, refl, ap, sym, _∙_}
 use Prim.Native.Nat.{ℕ, suc, _+_, _-_, _*_, _≤_, _<_}
@@ -12,7 +12,7 @@ use lib.ListN.{length, getD, replicate, length-replicate, getD-replicate, List·
 use Rattle.rules.proofs.Branches.{by-test}
 use Rattle.plane.specs.declared.Best.{Best}
 use Rattle.capsule.specs.declared.Capsule.{Capsule}
-use Rattle.walk.specs.Walk.{Walk, over, fold, nextStamp, readyMarks}
+use Rattle.walk.specs.Walk.{Walk, over, cell, row, block, fold, nextStamp, readyMarks}
 use Rattle.walk.specs.Inside.{seen, look, Below, Room, Walkable}
 use Rattle.walk.proofs.Rings.{Kept, kept-same, kept-trans, fold-append, unmarked-length}
 use Rattle.walk.proofs.Marks.{ready-length}
@@ -22,6 +22,22 @@ use Rattle.crests.specs.Inside.{CapsAll, NoneAbove, Fair, Goes, Passed}
 use Rattle.crests.proofs.Settling.{fold-fair, fold-low}
 
 -- ---- one cell
+over-one : (f : ℕ → List ℕ) (a : ℕ) → over f a (a + 1 - a) ≡ f a
+unfolding over
+over-one f a = let n : a + 1 - a ≡ 1 = omega arith in ap (over f a) n ∙ append-nil (f a)
+
+module _ (starts members : List ℕ) (n columns x y : ℕ) where
+  pub walk-one : (x0 x1 y0 y1 : ℕ) → Walkable starts members n columns x0 x1 y0 y1 → x0 ≤ x → x < x1 → y0 ≤ y → y < y1
+      → Walkable starts members n columns x (x + 1) y (y + 1)
+  walk-one x0 x1 y0 y1 w a b c d =
+      record {
+        stretch = λ u v k l m o. w .stretch u v (omega arith) (omega arith) (omega arith) (omega arith);
+        below = λ u v k l m o. w .below u v (omega arith) (omega arith) (omega arith) (omega arith);
+      }
+
+  pub block-one : block starts members columns x (x + 1) y (y + 1) ≡ cell starts members (y * columns + x)
+  block-one = over-one (row starts members columns x (x + 1)) y ∙ over-one (λ u. cell starts members (y * columns + u)) x
+
 module _ (mesh boxes : List Float) (q : Capsule) (stamp : ℕ) (w : Walk Best) (ms : List ℕ) (f : Fair stamp (diskStep mesh boxes q) w) where
   pub passed-low : (crest : Float) (r : Bool) → CapsAll boxes crest ms → r ≡ le crest (w .value .height) → r ≡ true → Goes stamp (diskStep mesh boxes q) w ms w
   passed-low crest r g e t =

@@ -1,12 +1,12 @@
 // The swept-disk height where it only enters a comparison, as in the plan: cells none of whose triangles has its top above the best so far are passed over.
 // A table of crests tells that: the highest top of each two cells side by side.
 ghost use mathlib.Core.Path.{_≡_};
-ghost use Prim.Native.Nat.{_*_, _≤_, _<_};
+ghost use Prim.Native.Nat.{_+_, _*_, _^_, _≤_, _<_};
 ghost use lib.Ieee.{le};
 ghost use lib.ListN.{length};
 ghost use Rattle.numbers.specs.Reals.{num};
 ghost use Rattle.walk.specs.Walk.{cell, block, nextStamp};
-ghost use Rattle.walk.specs.Inside.{seen, Below, Room, Stretch, Walkable};
+ghost use Rattle.walk.specs.Inside.{seen, Room, Walkable};
 ghost use Rattle.grid.specs.Index.{indexOf};
 ghost use Rattle.query.specs.Looked.{within};
 ghost use Rattle.ask.specs.Ask.{atFloor};
@@ -90,7 +90,7 @@ fn is_low(crests: &[f64], c: usize, z: f64) -> bool
     crests[place_of(c)] <= z
 }
 
-// Cell c walked, or passed over where it is low.
+// The cell of column x and row y walked, or passed over where it is low.
 fn pass_cell(
     mesh: &[f64],
     starts: &[u32],
@@ -99,30 +99,30 @@ fn pass_cell(
     crests: &[f64],
     marks: &mut [u32],
     stamp: u32,
-    c: usize,
+    columns: usize,
+    x: usize,
+    y: usize,
     q: Capsule,
     s: Seen,
 ) -> Seen
     requires { ⌜ (length (now mesh) ≡ length (now marks) * 9) × (length (now boxes) ≡ length (now marks) * 5) × (length (now crests) ≡ 8192)
-        × Stretch (now starts) (now members) c × Below (length (now marks)) (cell (now starts) (now members) c)
-        × CapsAll (now boxes) (num (now crests) (placeOf c)) (cell (now starts) (now members) c)
+        × Walkable (now starts) (now members) (length (now marks)) columns x (x + 1) y (y + 1) × (x + 1 < 2 ^ 64) × (y + 1 < 2 ^ 64)
+        × CapsAll (now boxes) (num (now crests) (placeOf (y * columns + x))) (cell (now starts) (now members) (y * columns + x))
         × Room stamp (seen (now marks) s) × Fair stamp (diskStep (now mesh) (now boxes) q) (seen (now marks) s) ⌝ }
     ensures { λ r. ⌜ Goes stamp (diskStep (now (mesh .entry)) (now (boxes .entry)) q) (seen (now (marks .entry)) s)
-        (cell (now (starts .entry)) (now (members .entry)) c) (seen (now (marks .exit)) r) ⌝ }
+        (cell (now (starts .entry)) (now (members .entry)) (y * columns + x)) (seen (now (marks .exit)) r) ⌝ }
 {
     let best = s.best;
-    if is_low(crests, c, best.height) {
+    if is_low(crests, y * columns + x, best.height) {
         return s;
     }
-    height::visit_cell(
-        mesh,
-        boxes,
-        walk::stretch(starts, members, c),
-        marks,
-        stamp,
-        q,
-        s,
-    )
+    let p = Patch {
+        x0: x,
+        x1: x + 1,
+        y0: y,
+        y1: y + 1,
+    };
+    height::visit(mesh, starts, members, boxes, marks, stamp, columns, p, q, s)
 }
 
 // The cells of a patch walked, or passed over where they are low. No row is begun with a best above the limit.
@@ -168,7 +168,9 @@ fn pass(
                 crests,
                 marks,
                 stamp,
-                y * columns + x,
+                columns,
+                x,
+                y,
                 q,
                 found,
             );

@@ -236,7 +236,7 @@ fn look_at(
 }
 
 // The step over one cell: looks at each of its numbers.
-pub fn visit_cell(
+fn visit_cell(
     mesh: &[f64],
     boxes: &[f64],
     part: &[u32],
@@ -258,7 +258,7 @@ pub fn visit_cell(
 }
 
 // The walk over the cells of a patch: rows, then columns, then the numbers of each cell.
-fn visit(
+pub fn visit(
     mesh: &[f64],
     starts: &[u32],
     members: &[u32],

@@ -1,5 +1,6 @@
 -- `crests::pass` meets its contract: the best is that of the cells in front of the next, one after the other.
 use Prim.Native.Nat.{_+_, _-_, _*_, _≤_}
+use mathlib.Core.Path.{_≡_, refl}
 use native.Mathlib.Omega.{arith}
 use lib.ListN.{length}
 use denote.Ref.{now}
@@ -7,22 +8,20 @@ use Rattle.walk.specs.Walk.{over, cell, row, block}
 use Rattle.walk.specs.Inside.{seen}
 use Rattle.walk.proofs.Rings.{kept-trans, kept-room}
 use Rattle.height.specs.Sweep.{diskStep}
-use Rattle.crests.proofs.Passing.{Along, Gone, along-starts, along-turns, along-ends, gone-starts, gone-turns, gone-ends, gone-halts}
+use Rattle.crests.proofs.Passing.{walk-one, Along, Gone, along-starts, along-turns, along-ends, gone-starts, gone-turns, gone-ends, gone-halts}
 use Rattle.crests.proofs.pass.Statement.{statement}
 use Rattle.crests.proofs.pass.Tie as tie
 
 abbrev Inv-loop2 : tie.InvT-loop2
 Inv-loop2 mesh starts members boxes crests marks₀ stamp columns rows q limit x0 x1 y0 y1 found₀ y x₀ marks found x =
-    Along stamp (diskStep mesh boxes q) (seen marks₀ found₀) (row starts members columns x0 x1 y) (seen marks found)
-    (over (λ k. cell starts members (y * columns + k)) x (x1 - x)) × (x0 ≤ x)
+    Along stamp (diskStep mesh boxes q) (seen marks₀ found₀) (row starts members columns x0 x1 y) (seen marks found) (over (λ k. cell starts members (y * columns + k)) x (x1 - x)) × (x0 ≤ x)
 
 abbrev μ-loop2 : tie.MeasureT-loop2
 μ-loop2 mesh starts members boxes crests marks₀ stamp columns rows q limit x0 x1 y0 y1 found₀ y x₀ marks found x = x1 - x
 
 abbrev Inv-loop : tie.InvT-loop
 Inv-loop mesh starts members boxes crests marks₀ stamp columns rows q limit x0 x1 y0 y1 found₀ y₀ marks found y =
-    Gone stamp (diskStep mesh boxes q) (seen marks₀ found₀) (block starts members columns x0 x1 y0 y1) (seen marks found)
-    (block starts members columns x0 x1 y y1) × (y0 ≤ y)
+    Gone stamp (diskStep mesh boxes q) (seen marks₀ found₀) (block starts members columns x0 x1 y0 y1) (seen marks found) (block starts members columns x0 x1 y y1) × (y0 ≤ y)
 
 abbrev μ-loop : tie.MeasureT-loop
 μ-loop mesh starts members boxes crests marks₀ stamp columns rows q limit x0 x1 y0 y1 found₀ y₀ marks found y = y1 - y
@@ -41,29 +40,6 @@ returns c =
 loop2-holds : tie.Need-loop2-holds Inv-loop2 μ-loop2 Inv-loop μ-loop
 loop2-holds c = (along-starts (c .before .before .before .before .loop .inv .0 .fair), omega arith)
 
-cell-fits : (c : tie.After-pass-cell-arg Inv-loop2 μ-loop2 Inv-loop μ-loop) → c .before .before .before .before .before .before .before .loop .y
-    * c .before .before .before .before .before .before .before .before .before .before .before .before .before .before .args .columns
-    + c .before .before .loop2 .x + 1 ≤ length
-    (now (c .before .before .before .before .before .before .before .before .before .before .before .before .before .before .args .starts))
-cell-fits c =
-    let i = c .before .before .before .before .before .before .before .before .before .before .before .before .before .before .pre .2 .stretch
-    (c .before .before .loop2 .x) (c .before .before .before .before .before .before .before .loop .y) (c .before .before .loop2 .inv .1)
-    (c .before .loop2-test .taken) (c .before .before .before .before .before .before .before .loop .inv .1)
-    (c .before .before .before .before .before .before .loop-test .taken) .inside in
-    omega arith
-
-mul-pass-cell : tie.Need-mul-pass-cell Inv-loop2 μ-loop2 Inv-loop μ-loop
-mul-pass-cell c = record {
-  fits =
-      omega (arith, cell-fits c, c .before .before .before .before .before .before .before .before .before .before .before .before .before .before);
-}
-
-add-pass-cell : tie.Need-add-pass-cell Inv-loop2 μ-loop2 Inv-loop μ-loop
-add-pass-cell c = record {
-  fits =
-      omega (arith, cell-fits c, c .before .before .before .before .before .before .before .before .before .before .before .before .before .before);
-}
-
 pass-cell-requires : tie.Need-pass-cell-requires Inv-loop2 μ-loop2 Inv-loop μ-loop
 pass-cell-requires c κs =
     let s = c .before .before .before .before .before .before .before .before .before .before .before .before .before .before in
@@ -75,36 +51,25 @@ pass-cell-requires c κs =
       omega (arith, s .pre .0, k .size),
       omega (arith, s .pre .1, k .size),
       s .pre .3 .size,
-      s .pre .2 .stretch (m .x) (l .y) (m .inv .1) x (l .inv .1) y,
-      rw (k .size) (s .pre .2 .below (m .x) (l .y) (m .inv .1) x (l .inv .1) y),
+      walk-one _ _ _ _ (m .x) (l .y) _ _ _ _ (rw (k .size) (s .pre .2)) (m .inv .1) x (l .inv .1) y,
+      omega (arith, x, s),
+      omega (arith, y, s),
       s .pre .3 .over (m .x) (l .y) (omega (arith, x, s .pre .4)) (omega (arith, y, s .pre .5)),
       kept-room k (s .pre .6),
       m .inv .0 .fair,
     )
 
 add-x : tie.Need-add-x Inv-loop2 μ-loop2 Inv-loop μ-loop
-add-x c = omega (
-  arith,
-  c .before .before .before .before .loop2-test .taken,
-  c .before .before .before .before .before .before .before .before .before .before .before .before .before .before .before .before .before,
-)
+add-x c = omega (arith, c .before .before .before .before .loop2-test .taken, c .before .before .before .before .before .before .before .before .before .before .before .before .before .before .before .before .before)
 
 loop2-less : tie.Need-loop2-less Inv-loop2 μ-loop2 Inv-loop μ-loop
 loop2-less c = omega (arith, c .before .before .before .before .loop2-test .taken)
 
 loop2-again : tie.Need-loop2-again Inv-loop2 μ-loop2 Inv-loop μ-loop
-loop2-again c = (
-  along-turns _ (c .before .before .before .before .before .loop2 .x) _ (c .before .before .before .before .loop2-test .taken)
-      (c .before .before .before .before .before .loop2 .inv .0) (c .before .before .pass-cell .ensures),
-  omega (arith, c .before .before .before .before .before .loop2 .inv .1),
-)
+loop2-again c = (along-turns _ (c .before .before .before .before .before .loop2 .x) _ (c .before .before .before .before .loop2-test .taken) (c .before .before .before .before .before .loop2 .inv .0) (c .before .before .pass-cell .ensures), omega (arith, c .before .before .before .before .before .loop2 .inv .1))
 
 add-y : tie.Need-add-y Inv-loop2 μ-loop2 Inv-loop μ-loop
-add-y c = omega (
-  arith,
-  c .before .before .before .before .before .loop-test .taken,
-  c .before .before .before .before .before .before .before .before .before .before .before .before .before,
-)
+add-y c = omega (arith, c .before .before .before .before .before .loop-test .taken, c .before .before .before .before .before .before .before .before .before .before .before .before .before)
 
 loop-less : tie.Need-loop-less Inv-loop2 μ-loop2 Inv-loop μ-loop
 loop-less c = omega (arith, c .before .before .before .before .before .loop-test .taken)
@@ -112,11 +77,8 @@ loop-less c = omega (arith, c .before .before .before .before .before .loop-test
 loop-again : tie.Need-loop-again Inv-loop2 μ-loop2 Inv-loop μ-loop
 loop-again c =
     let l = c .before .before .before .before .before .before .loop in
-    let m = c .before .loop2 .inv .0 in (
-      gone-turns _ (l .y) _ (c .before .before .before .before .before .loop-test .taken) (l .inv .0)
-          (along-ends _ (c .before .loop2 .x) _ (omega (arith, c .loop2-test .left)) m) (m .fair) (m .kept),
-      omega (arith, l .inv .1),
-    )
+    let m = c .before .loop2 .inv .0 in
+    (gone-turns _ (l .y) _ (c .before .before .before .before .before .loop-test .taken) (l .inv .0) (along-ends _ (c .before .loop2 .x) _ (omega (arith, c .loop2-test .left)) m) (m .fair) (m .kept), omega (arith, l .inv .1))
 
 same-length-2 : tie.Need-same-length-2 Inv-loop2 μ-loop2 Inv-loop μ-loop
 same-length-2 c = c .before .loop .inv .0 .kept .size
@@ -138,8 +100,6 @@ pass-spec =
     same-length
     returns
     loop2-holds
-    mul-pass-cell
-    add-pass-cell
     pass-cell-requires
     add-x
     loop2-less
