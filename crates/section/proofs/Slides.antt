@@ -1,12 +1,12 @@
 -- A search that runs to an end: the fences of two heights tell which of them is larger, and the bracket goes on as the search's does.
-use mathlib.Core.Bool.{Bool, true, false, cond}
+use mathlib.Core.Bool.{Bool, true, false}
 use mathlib.Core.Logic.{⊎-elim}
 use mathlib.Core.Path.{_≡_, refl, ap, sym, _∙_, subst}
 use Prim.Native.Nat.{ℕ, zero, suc, _+_, _≤_}
 use native.Mathlib.Omega.{arith}
 use native.Mathlib.Numerals.{add-one}
 use lib.Dec.{T}
-use lib.Ieee.{Float, binary64, div, lt, le, eq, fits, isNan, ofBits}
+use lib.Ieee.{Float, binary64, lt, le, fits, isNan}
 use lib.Ieee.Scale.{finite}
 use lib.Ieee.Bits.{is-true}
 use Rattle.numbers.specs.Reals.{_⊕_, _⊖_, _⊗_, _⊘_, f0, minOf}

@@ -1,9 +1,6 @@
 -- `crests::pass` meets its contract: the best is that of the cells in front of the next, one after the other.
 use Prim.Native.Nat.{_+_, _-_, _*_, _≤_}
-use mathlib.Core.Path.{_≡_, refl}
 use native.Mathlib.Omega.{arith}
-use lib.ListN.{length}
-use denote.Ref.{now}
 use Rattle.walk.specs.Walk.{over, cell, row, block}
 use Rattle.walk.specs.Inside.{seen}
 use Rattle.walk.proofs.Rings.{kept-trans, kept-room}
@@ -14,14 +11,16 @@ use Rattle.crests.proofs.pass.Tie as tie
 
 abbrev Inv-loop2 : tie.InvT-loop2
 Inv-loop2 mesh starts members boxes crests marks₀ stamp columns rows q limit x0 x1 y0 y1 found₀ y x₀ marks found x =
-    Along stamp (diskStep mesh boxes q) (seen marks₀ found₀) (row starts members columns x0 x1 y) (seen marks found) (over (λ k. cell starts members (y * columns + k)) x (x1 - x)) × (x0 ≤ x)
+    Along stamp (diskStep mesh boxes q) (seen marks₀ found₀) (row starts members columns x0 x1 y) (seen marks found)
+    (over (λ k. cell starts members (y * columns + k)) x (x1 - x)) × (x0 ≤ x)
 
 abbrev μ-loop2 : tie.MeasureT-loop2
 μ-loop2 mesh starts members boxes crests marks₀ stamp columns rows q limit x0 x1 y0 y1 found₀ y x₀ marks found x = x1 - x
 
 abbrev Inv-loop : tie.InvT-loop
 Inv-loop mesh starts members boxes crests marks₀ stamp columns rows q limit x0 x1 y0 y1 found₀ y₀ marks found y =
-    Gone stamp (diskStep mesh boxes q) (seen marks₀ found₀) (block starts members columns x0 x1 y0 y1) (seen marks found) (block starts members columns x0 x1 y y1) × (y0 ≤ y)
+    Gone stamp (diskStep mesh boxes q) (seen marks₀ found₀) (block starts members columns x0 x1 y0 y1) (seen marks found)
+    (block starts members columns x0 x1 y y1) × (y0 ≤ y)
 
 abbrev μ-loop : tie.MeasureT-loop
 μ-loop mesh starts members boxes crests marks₀ stamp columns rows q limit x0 x1 y0 y1 found₀ y₀ marks found y = y1 - y
@@ -60,16 +59,28 @@ pass-cell-requires c κs =
     )
 
 add-x : tie.Need-add-x Inv-loop2 μ-loop2 Inv-loop μ-loop
-add-x c = omega (arith, c .before .before .before .before .loop2-test .taken, c .before .before .before .before .before .before .before .before .before .before .before .before .before .before .before .before .before)
+add-x c = omega (
+  arith,
+  c .before .before .before .before .loop2-test .taken,
+  c .before .before .before .before .before .before .before .before .before .before .before .before .before .before .before .before .before,
+)
 
 loop2-less : tie.Need-loop2-less Inv-loop2 μ-loop2 Inv-loop μ-loop
 loop2-less c = omega (arith, c .before .before .before .before .loop2-test .taken)
 
 loop2-again : tie.Need-loop2-again Inv-loop2 μ-loop2 Inv-loop μ-loop
-loop2-again c = (along-turns _ (c .before .before .before .before .before .loop2 .x) _ (c .before .before .before .before .loop2-test .taken) (c .before .before .before .before .before .loop2 .inv .0) (c .before .before .pass-cell .ensures), omega (arith, c .before .before .before .before .before .loop2 .inv .1))
+loop2-again c = (
+  along-turns _ (c .before .before .before .before .before .loop2 .x) _ (c .before .before .before .before .loop2-test .taken)
+      (c .before .before .before .before .before .loop2 .inv .0) (c .before .before .pass-cell .ensures),
+  omega (arith, c .before .before .before .before .before .loop2 .inv .1),
+)
 
 add-y : tie.Need-add-y Inv-loop2 μ-loop2 Inv-loop μ-loop
-add-y c = omega (arith, c .before .before .before .before .before .loop-test .taken, c .before .before .before .before .before .before .before .before .before .before .before .before .before)
+add-y c = omega (
+  arith,
+  c .before .before .before .before .before .loop-test .taken,
+  c .before .before .before .before .before .before .before .before .before .before .before .before .before,
+)
 
 loop-less : tie.Need-loop-less Inv-loop2 μ-loop2 Inv-loop μ-loop
 loop-less c = omega (arith, c .before .before .before .before .before .loop-test .taken)
@@ -77,8 +88,11 @@ loop-less c = omega (arith, c .before .before .before .before .before .loop-test
 loop-again : tie.Need-loop-again Inv-loop2 μ-loop2 Inv-loop μ-loop
 loop-again c =
     let l = c .before .before .before .before .before .before .loop in
-    let m = c .before .loop2 .inv .0 in
-    (gone-turns _ (l .y) _ (c .before .before .before .before .before .loop-test .taken) (l .inv .0) (along-ends _ (c .before .loop2 .x) _ (omega (arith, c .loop2-test .left)) m) (m .fair) (m .kept), omega (arith, l .inv .1))
+    let m = c .before .loop2 .inv .0 in (
+      gone-turns _ (l .y) _ (c .before .before .before .before .before .loop-test .taken) (l .inv .0)
+          (along-ends _ (c .before .loop2 .x) _ (omega (arith, c .loop2-test .left)) m) (m .fair) (m .kept),
+      omega (arith, l .inv .1),
+    )
 
 same-length-2 : tie.Need-same-length-2 Inv-loop2 μ-loop2 Inv-loop μ-loop
 same-length-2 c = c .before .loop .inv .0 .kept .size

@@ -1,4 +1,4 @@
-use mathlib.Core.Path.{_≡_, refl}
+use mathlib.Core.Path.{refl}
 use Rattle.section.specs.Inside.{looseOf}
 use Rattle.section.proofs.slide.first.Statement.{statement}
 use Rattle.section.proofs.slide.first.Tie as tie

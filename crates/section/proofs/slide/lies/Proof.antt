@@ -1,4 +1,4 @@
-use mathlib.Core.Path.{_≡_, sym, subst, _∙_}
+use mathlib.Core.Path.{sym, subst, _∙_}
 use lib.Dec.{T}
 use Rattle.rules.proofs.Branches.{no}
 use Rattle.section.proofs.Slides.{around}

@@ -1,4 +1,4 @@
-use mathlib.Core.Path.{_≡_, ap, _∙_}
+use mathlib.Core.Path.{ap, _∙_}
 use Rattle.section.specs.Inside.{overOf}
 use Rattle.section.proofs.slide.over.Statement.{statement}
 use Rattle.section.proofs.slide.over.Tie as tie

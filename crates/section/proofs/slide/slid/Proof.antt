@@ -1,7 +1,6 @@
 -- The invariant: w has the places of the search after n steps, and its fences hold the values there.
 use Prim.Native.Nat.{_≤_, _-_}
 use mathlib.Core.Path.{_≡_, ap, _∙_}
-use borrow.Author.Needs.{needs}
 use native.Mathlib.Omega.{arith}
 use Rattle.rules.proofs.Testing.{passed}
 use Rattle.golden.specs.Search.{rises, goldenAt}
