@@ -12,7 +12,7 @@ use Rattle.numbers.specs.Reals.{_⊕_, _⊗_}
 unfoldable pub sevenSquares : Float → Float → Float → Float → Float → Float → Float → Float
 sevenSquares a b c d e f g = ((a ⊗ a ⊕ b ⊗ b) ⊕ (c ⊗ c ⊕ d ⊗ d)) ⊕ (e ⊗ e ⊕ f ⊗ f) ⊕ g ⊗ g
 
--- Each of 256 numbers that is below n passed the test.
+-- Each of 1,024 numbers that is below n passed the test.
 pub record Tested (test : ℕ → Bool) (n : ℕ) (recent : List ℕ) : Type 0 where
-  pub size : length recent ≡ 256
-  pub each : (k : ℕ) → k < 256 → getD recent k 0 < n → test (getD recent k 0) ≡ true
+  pub size : length recent ≡ 1024
+  pub each : (k : ℕ) → k < 1024 → getD recent k 0 < n → test (getD recent k 0) ≡ true

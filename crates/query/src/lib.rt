@@ -102,7 +102,7 @@ pub fn usable(
     let n = h.n;
     let columns = h.columns;
     if header::head_usable(mesh, h, starts) {
-        let mut recent = [4294967295u32; 256];
+        let mut recent = [4294967295u32; 1024];
         cells_usable(
             mesh,
             n,
@@ -204,7 +204,7 @@ fn member_usable(mesh: &[f64], boxes: &[f64], n: usize, marks: &[u32], stamp: u3
     i < n && (triangle_usable(mesh, boxes, i) && marks[i] <= stamp)
 }
 
-// The same of a member of which `recent` may tell that it was tested: a triangle stands in several cells, one beside the other. It has a place for 256 numbers.
+// The same of a member of which `recent` may tell that it was tested: a triangle stands in several cells, one beside the other. It has 1,024 places.
 fn tested(
     mesh: &[f64],
     boxes: &[f64],
@@ -235,9 +235,9 @@ fn tested(
 
 // The place of number i.
 fn place_of(i: u32) -> usize
-    ensures { λ k. ⌜ k < 256 ⌝ }
+    ensures { λ k. ⌜ k < 1024 ⌝ }
 {
-    (i % 256) as usize
+    (i % 1024) as usize
 }
 
 // Whether each number of one cell can be looked at.
