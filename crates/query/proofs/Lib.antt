@@ -5,3 +5,4 @@ pub mod Passing
 pub mod Looks
 pub mod Nearby
 pub mod Recent
+pub mod Gathering

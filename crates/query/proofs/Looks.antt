@@ -218,11 +218,15 @@ module _ (ix : Index) (marks : List ℕ) (stamp : ℕ) (p : Patch) (d : SoundInd
 
 -- what the test of a question found, and what it promises
 pub usable-told : (ix : Index) (marks : List ℕ) (stamp : ℕ) (p : Patch) (r : Bool) → r ≡ usable ix marks stamp p → length (ix .mesh) ≡ length marks * 9
-    → p .x1 ≤ ix .header .columns → p .y1 ≤ ix .header .rows → (r ≡ usable ix marks stamp p) × UsablePromise ix marks stamp p r
-usable-told ix marks stamp p r e nine right top = (
+    → p .x1 ≤ ix .header .columns → p .y1 ≤ ix .header .rows → {Listed : Type 0} → Listed
+    → (r ≡ usable ix marks stamp p) × (UsablePromise ix marks stamp p r × Listed)
+usable-told ix marks stamp p r e nine right top listed = (
   e,
-  record {
-    passes = λ d same low. e ∙ sound-usable ix d marks stamp same low p right top;
-    looks = λ d t. looks-once ix marks stamp p d (sym e ∙ t) nine right top;
-  },
+  (
+    record {
+      passes = λ d same low. e ∙ sound-usable ix d marks stamp same low p right top;
+      looks = λ d t. looks-once ix marks stamp p d (sym e ∙ t) nine right top;
+    },
+    listed,
+  ),
 )

@@ -13,17 +13,17 @@ use Rattle.rules.proofs.Branches.{by-test}
 use Rattle.query.specs.Usable.{memberUsable}
 use Rattle.query.specs.Inside.{Tested}
 
-module _ (test : ℕ → Bool) (n : ℕ) where
+module _ (test : ℕ → Bool) where
   -- none at the start
-  pub none-tested : (v : ℕ) → n ≤ v → Tested test n (replicate 1024 v)
-  none-tested v l =
+  pub none-tested : Tested test (replicate 1024 65535)
+  none-tested =
       record {
-        size = length-replicate {A = ℕ} 1024 v;
-        each = λ k h below. let e : _≡_ {A = ℕ} (getD (replicate 1024 v) k 0) v = getD-replicate 1024 k v 0 h in absurd (omega (arith, e));
+        size = length-replicate {A = ℕ} 1024 65535;
+        each = λ k h below. absurd (omega (arith, getD-replicate {A = ℕ} 1024 k 65535 0 h));
       }
 
   -- one more
-  pub tested-more : (recent : List ℕ) (k i : ℕ) → k < 1024 → test i ≡ true → Tested test n recent → Tested test n (set recent k i)
+  pub tested-more : (recent : List ℕ) (k i : ℕ) → k < 1024 → test i ≡ true → Tested test recent → Tested test (set recent k i)
   tested-more recent k i h t r =
       record {
         size = length-set recent k i ∙ r .size;
@@ -39,7 +39,7 @@ module _ (test : ℕ → Bool) (n : ℕ) where
       }
 
   -- one that is remembered passed
-  pub tested-there : (recent : List ℕ) (k i : ℕ) → k < 1024 → i < n → getD recent k 0 ≡ i → Tested test n recent → true ≡ test i
+  pub tested-there : (recent : List ℕ) (k i : ℕ) → k < 1024 → i < 65535 → getD recent k 0 ≡ i → Tested test recent → true ≡ test i
   tested-there recent k i h l e r = sym (rw e at (r .each k h (rw e l)))
 
 -- a number that is no triangle's does not pass

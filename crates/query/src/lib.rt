@@ -1,12 +1,17 @@
-// A question's cells, and what refusal 7 tests of a header and its tables. These functions read and never write.
+// A question's cells, what refusal 7 tests of a header and its tables, and the list of numbers that a walk may go over in place of the cells. Of what a
+// question is lent these functions read, and never write.
+ghost use mathlib.Core.Bool.{cond};
+ghost use mathlib.Core.List.{[], _∷_};
 ghost use mathlib.Core.Path.{_≡_};
 ghost use Prim.Native.Nat.{_+_, _*_, _≤_, _<_, min};
-ghost use lib.ListN.{length};
+ghost use lib.ListN.{length, set};
+ghost use Rattle.walk.specs.Walk.{cell, row, block};
+ghost use Rattle.walk.specs.Inside.{StandsFor};
 ghost use Rattle.grid.specs.Index.{indexOf};
 ghost use Rattle.query.specs.Asked.{isMarked};
 ghost use Rattle.query.specs.Patch.{heldTo, axisSpan, patchOf};
-ghost use Rattle.query.specs.Looked.{UsablePromise};
-ghost use Rattle.query.specs.Inside.{sevenSquares, Tested};
+ghost use Rattle.query.specs.Looked.{within, UsablePromise};
+ghost use Rattle.query.specs.Inside.{sevenSquares, Tested, Adds};
 ghost use mathlib.Core.Bool.{true};
 ghost use Rattle.rules.specs.Every.{each};
 ghost use Rattle.query.specs.Usable.{cornersUsable, areCoordinates, boxUsable, triangleUsable, memberUsable, cellUsable, rowUsable, cellsUsable, usable};
@@ -25,6 +30,12 @@ pub struct Patch {
     pub x1: usize,
     pub y0: usize,
     pub y1: usize,
+}
+
+// What refusal 7 tests of members: whether each can be looked at, and how many numbers of a list stand for them, or 2,049 if they were too many for it.
+pub struct Sifted {
+    pub usable: bool,
+    pub count: u32,
 }
 
 // Whether the mesh is nine numbers for each mark, and not too many.
@@ -82,7 +93,7 @@ pub fn patch_of(h: Header, px: f64, py: f64, qx: f64, qy: f64, reach: f64) -> Pa
     }
 }
 
-// What refusal 7 tests of a question with the cells p.
+// What refusal 7 tests of a question with the cells p. The list, of 2,048 places, has the numbers of the cells from then on, most of them once.
 pub fn usable(
     mesh: &[f64],
     h: Header,
@@ -92,17 +103,21 @@ pub fn usable(
     marks: &[u32],
     stamp: u32,
     p: Patch,
-) -> bool
-    requires { ⌜ (length (now mesh) ≡ length (now marks) * 9) × (p .x1 ≤ h .columns) × (p .y1 ≤ h .rows) × (length (now boxes) ≡ length (now marks) * 5) ⌝ }
-    ensures { λ r. ⌜ r
+    list: &mut [u32],
+) -> Sifted
+    requires { ⌜ (length (now mesh) ≡ length (now marks) * 9) × (p .x1 ≤ h .columns) × (p .y1 ≤ h .rows) × (length (now boxes) ≡ length (now marks) * 5)
+        × (length (now list) ≡ 2048) ⌝ }
+    ensures { λ r. ⌜ r .usable
         ≡ usable (indexOf (now (mesh .entry)) h (now (starts .entry)) (now (members .entry)) (now (boxes .entry))) (now (marks .entry)) stamp p ⌝ }
     ensures { λ r. ⌜ UsablePromise (indexOf (now (mesh .entry)) h (now (starts .entry)) (now (members .entry)) (now (boxes .entry))) (now
-        (marks .entry)) stamp p r ⌝ }
+        (marks .entry)) stamp p (r .usable) ⌝ }
+    ensures { λ r. ⌜ (r .usable ≡ true → r .count ≤ 2048 → StandsFor (h .n)
+        (within (indexOf (now (mesh .entry)) h (now (starts .entry)) (now (members .entry)) (now (boxes .entry))) p) (now (list .exit)) (r .count)) ⌝ }
 {
     let n = h.n;
     let columns = h.columns;
     if header::head_usable(mesh, h, starts) {
-        let mut recent = [4294967295u32; 1024];
+        let mut recent = [65535u16; 1024];
         cells_usable(
             mesh,
             n,
@@ -114,10 +129,29 @@ pub fn usable(
             columns,
             p,
             &mut recent,
+            list,
         )
     } else {
-        false
+        Sifted {
+            usable: false,
+            count: 0,
+        }
     }
+}
+
+// The cells that a walk goes over: the one of a list that holds them all, if that is wanted, and else p.
+pub fn narrowed(listed: bool, p: Patch) -> Patch
+    ensures { λ r. ⌜ r ≡ cond listed (record { x0 = 0; x1 = 1; y0 = 0; y1 = 1 }) p ⌝ }
+{
+    if listed {
+        return Patch {
+            x0: 0,
+            x1: 1,
+            y0: 0,
+            y1: 1,
+        };
+    }
+    p
 }
 
 // Whether no number of triangle i and of its box is one that 4 would refuse: none is where the squares of all fourteen have a small sum, and else
@@ -204,7 +238,8 @@ fn member_usable(mesh: &[f64], boxes: &[f64], n: usize, marks: &[u32], stamp: u3
     i < n && (triangle_usable(mesh, boxes, i) && marks[i] <= stamp)
 }
 
-// The same of a member of which `recent` may tell that it was tested: a triangle stands in several cells, one beside the other. It has 1,024 places.
+// The same of a member of which `recent` may tell that it was tested: a triangle stands in several cells, one beside the other. It has 1,024 places of
+// 16 bits, of which 65535 tells nothing. A number that is not remembered is put behind the list.
 fn tested(
     mesh: &[f64],
     boxes: &[f64],
@@ -212,25 +247,57 @@ fn tested(
     marks: &[u32],
     stamp: u32,
     i: u32,
-    recent: &mut [u32],
-) -> bool
-    requires { ⌜ (length (now mesh) ≡ n * 9) × (length (now marks) ≡ n) × (length (now boxes) ≡ n * 5)
-        × Tested (memberUsable (now mesh) (now boxes) n (now marks) stamp) n (now recent) ⌝ }
-    ensures { λ r. ⌜ (r ≡ memberUsable (now (mesh .entry)) (now (boxes .entry)) n (now (marks .entry)) stamp i)
-        × (r ≡ true → Tested (memberUsable (now (mesh .entry)) (now (boxes .entry)) n (now (marks .entry)) stamp) n (now (recent .exit))) ⌝ }
+    recent: &mut [u16],
+    list: &mut [u32],
+    count: u32,
+) -> Sifted
+    requires { ⌜ (n ≤ 65536) × (length (now mesh) ≡ n * 9) × (length (now marks) ≡ n) × (length (now boxes) ≡ n * 5) × (length (now list) ≡ 2048)
+        × Tested (memberUsable (now mesh) (now boxes) n (now marks) stamp) (now recent) ⌝ }
+    ensures { λ r. ⌜ (r .usable
+        ≡ memberUsable (now (mesh .entry)) (now (boxes .entry)) n (now (marks .entry)) stamp i)
+        × (r .usable ≡ true → Tested (memberUsable (now (mesh .entry)) (now (boxes .entry)) n (now (marks .entry)) stamp) (now (recent .exit))
+        × Adds n (i ∷ []) (now (recent .entry)) (now (list .entry)) count (now (recent .exit)) (now (list .exit)) (r .count)) ⌝ }
 {
     let k = place_of(i);
     if i as usize >= n {
-        return false;
+        return Sifted {
+            usable: false,
+            count,
+        };
     }
-    if recent[k] == i {
-        return true;
+    let short = i as u16;
+    if recent[k] == short {
+        if i < 65535 {
+            return Sifted {
+                usable: true,
+                count,
+            };
+        }
     }
     if member_usable(mesh, boxes, n, marks, stamp, i as usize) {
-        recent[k] = i;
-        return true;
+        recent[k] = short;
+        return Sifted {
+            usable: true,
+            count: put(list, count, i),
+        };
     }
-    false
+    Sifted {
+        usable: false,
+        count,
+    }
+}
+
+// The number i put behind so many of a list, and how many there are then: 2,049 where it has no room.
+fn put(list: &mut [u32], count: u32, i: u32) -> u32
+    requires { ⌜ length (now list) ≡ 2048 ⌝ }
+    ensures { λ k. ⌜ (count < 2048 → (k ≡ count + 1) × (now (list .exit) ≡ set (now (list .entry)) count i))
+        × (2048 ≤ count → (k ≡ 2049) × (now (list .exit) ≡ now (list .entry))) ⌝ }
+{
+    if count < 2048 {
+        list[count as usize] = i;
+        return count + 1;
+    }
+    2049
 }
 
 // The place of number i.
@@ -248,19 +315,29 @@ fn members_usable(
     marks: &[u32],
     stamp: u32,
     part: &[u32],
-    recent: &mut [u32],
-) -> bool
-    requires { ⌜ (length (now mesh) ≡ n * 9) × (length (now marks) ≡ n) × (length (now boxes) ≡ n * 5)
-        × Tested (memberUsable (now mesh) (now boxes) n (now marks) stamp) n (now recent) ⌝ }
-    ensures { λ r. ⌜ (r ≡ each (memberUsable (now (mesh .entry)) (now (boxes .entry)) n (now (marks .entry)) stamp) (now (part .entry)))
-        × (r ≡ true → Tested (memberUsable (now (mesh .entry)) (now (boxes .entry)) n (now (marks .entry)) stamp) n (now (recent .exit))) ⌝ }
+    recent: &mut [u16],
+    list: &mut [u32],
+    from: u32,
+) -> Sifted
+    requires { ⌜ (n ≤ 65536) × (length (now mesh) ≡ n * 9) × (length (now marks) ≡ n) × (length (now boxes) ≡ n * 5) × (length (now list) ≡ 2048)
+        × Tested (memberUsable (now mesh) (now boxes) n (now marks) stamp) (now recent) ⌝ }
+    ensures { λ r. ⌜ (r .usable
+        ≡ each (memberUsable (now (mesh .entry)) (now (boxes .entry)) n (now (marks .entry)) stamp) (now (part .entry)))
+        × (r .usable ≡ true → Tested (memberUsable (now (mesh .entry)) (now (boxes .entry)) n (now (marks .entry)) stamp) (now (recent .exit))
+        × Adds n (now (part .entry)) (now (recent .entry)) (now (list .entry)) from (now (recent .exit)) (now (list .exit)) (r .count)) ⌝ }
 {
+    let mut count = from;
     for j in 0..part.len() {
-        if !tested(mesh, boxes, n, marks, stamp, part[j], recent) {
-            return false;
+        let one = tested(mesh, boxes, n, marks, stamp, part[j], recent, list, count);
+        if !one.usable {
+            return one;
         }
+        count = one.count;
     }
-    true
+    Sifted {
+        usable: true,
+        count,
+    }
 }
 
 // Whether the stretch of cell c lies in the member table, and each of its numbers can be looked at.
@@ -273,19 +350,43 @@ fn cell_usable(
     marks: &[u32],
     stamp: u32,
     c: usize,
-    recent: &mut [u32],
-) -> bool
-    requires { ⌜ (length (now mesh) ≡ n * 9) × (length (now marks) ≡ n) × (c + 1 < length (now starts)) × (length (now boxes) ≡ n * 5)
-        × Tested (memberUsable (now mesh) (now boxes) n (now marks) stamp) n (now recent) ⌝ }
-    ensures { λ r. ⌜ (r
+    recent: &mut [u16],
+    list: &mut [u32],
+    count: u32,
+) -> Sifted
+    requires { ⌜ (n ≤ 65536) × (length (now mesh) ≡ n * 9) × (length (now marks) ≡ n) × (c + 1 < length (now starts)) × (length (now boxes) ≡ n * 5)
+        × (length (now list) ≡ 2048) × Tested (memberUsable (now mesh) (now boxes) n (now marks) stamp) (now recent) ⌝ }
+    ensures { λ r. ⌜ (r .usable
         ≡ cellUsable (memberUsable (now (mesh .entry)) (now (boxes .entry)) n (now (marks .entry)) stamp) (now (starts .entry)) (now (members .entry)) c)
-        × (r ≡ true → Tested (memberUsable (now (mesh .entry)) (now (boxes .entry)) n (now (marks .entry)) stamp) n (now (recent .exit))) ⌝ }
+        × (r .usable ≡ true → Tested (memberUsable (now (mesh .entry)) (now (boxes .entry)) n (now (marks .entry)) stamp) (now (recent .exit))
+        × Adds n (cell (now (starts .entry)) (now (members .entry)) c)
+        (now (recent .entry)) (now (list .entry)) count (now (recent .exit)) (now (list .exit)) (r .count)) ⌝ }
 {
     let a = starts[c] as usize;
     let e = starts[c + 1] as usize;
-    a <= e
-        && (e <= members.len()
-            && members_usable(mesh, boxes, n, marks, stamp, &members[a..e], recent))
+    if e < a {
+        return Sifted {
+            usable: false,
+            count,
+        };
+    }
+    if members.len() < e {
+        return Sifted {
+            usable: false,
+            count,
+        };
+    }
+    members_usable(
+        mesh,
+        boxes,
+        n,
+        marks,
+        stamp,
+        &members[a..e],
+        recent,
+        list,
+        count,
+    )
 }
 
 // The same of columns x0 up to x1 of row y.
@@ -301,17 +402,22 @@ fn row_usable(
     x0: usize,
     x1: usize,
     y: usize,
-    recent: &mut [u32],
-) -> bool
-    requires { ⌜ (length (now mesh) ≡ n * 9) × (length (now marks) ≡ n) × (y * columns + x1 < length (now starts)) × (length (now boxes) ≡ n * 5)
-        × Tested (memberUsable (now mesh) (now boxes) n (now marks) stamp) n (now recent) ⌝ }
-    ensures { λ r. ⌜ (r
-        ≡ rowUsable (memberUsable (now (mesh .entry)) (now (boxes .entry)) n (now (marks .entry)) stamp) (now (starts .entry)) (now
-        (members .entry)) columns x0 x1 y)
-        × (r ≡ true → Tested (memberUsable (now (mesh .entry)) (now (boxes .entry)) n (now (marks .entry)) stamp) n (now (recent .exit))) ⌝ }
+    recent: &mut [u16],
+    list: &mut [u32],
+    from: u32,
+) -> Sifted
+    requires { ⌜ (n ≤ 65536) × (length (now mesh) ≡ n * 9) × (length (now marks) ≡ n) × (y * columns + x1 < length (now starts)) × (length (now boxes) ≡ n * 5)
+        × (length (now list) ≡ 2048) × Tested (memberUsable (now mesh) (now boxes) n (now marks) stamp) (now recent) ⌝ }
+    ensures { λ r. ⌜ (r .usable
+        ≡ rowUsable (memberUsable (now (mesh .entry)) (now (boxes .entry)) n (now (marks .entry)) stamp)
+        (now (starts .entry)) (now (members .entry)) columns x0 x1 y)
+        × (r .usable ≡ true → Tested (memberUsable (now (mesh .entry)) (now (boxes .entry)) n (now (marks .entry)) stamp) (now (recent .exit))
+        × Adds n (row (now (starts .entry)) (now (members .entry)) columns x0 x1 y)
+        (now (recent .entry)) (now (list .entry)) from (now (recent .exit)) (now (list .exit)) (r .count)) ⌝ }
 {
+    let mut count = from;
     for x in x0..x1 {
-        if !cell_usable(
+        let one = cell_usable(
             mesh,
             n,
             starts,
@@ -321,11 +427,18 @@ fn row_usable(
             stamp,
             y * columns + x,
             recent,
-        ) {
-            return false;
+            list,
+            count,
+        );
+        if !one.usable {
+            return one;
         }
+        count = one.count;
     }
-    true
+    Sifted {
+        usable: true,
+        count,
+    }
 }
 
 // The same of each of a question's cells.
@@ -339,22 +452,26 @@ fn cells_usable(
     stamp: u32,
     columns: usize,
     p: Patch,
-    recent: &mut [u32],
-) -> bool
-    requires { ⌜ (length (now mesh) ≡ n * 9) × (length (now marks) ≡ n) × (p .x1 ≤ columns) × (p .y1 * columns < length (now starts))
-        × (length (now boxes) ≡ n * 5)
-        × Tested (memberUsable (now mesh) (now boxes) n (now marks) stamp) n (now recent) ⌝ }
-    ensures { λ r. ⌜ (r
-        ≡ cellsUsable (memberUsable (now (mesh .entry)) (now (boxes .entry)) n (now (marks .entry)) stamp) (now (starts .entry)) (now
-        (members .entry)) columns p)
-        × (r ≡ true → Tested (memberUsable (now (mesh .entry)) (now (boxes .entry)) n (now (marks .entry)) stamp) n (now (recent .exit))) ⌝ }
+    recent: &mut [u16],
+    list: &mut [u32],
+) -> Sifted
+    requires { ⌜ (n ≤ 65536) × (length (now mesh) ≡ n * 9) × (length (now marks) ≡ n) × (p .x1 ≤ columns) × (p .y1 * columns < length (now starts))
+        × (length (now boxes) ≡ n * 5) × (length (now list) ≡ 2048)
+        × Tested (memberUsable (now mesh) (now boxes) n (now marks) stamp) (now recent) ⌝ }
+    ensures { λ r. ⌜ (r .usable
+        ≡ cellsUsable (memberUsable (now (mesh .entry)) (now (boxes .entry)) n (now (marks .entry)) stamp)
+        (now (starts .entry)) (now (members .entry)) columns p)
+        × (r .usable ≡ true → Tested (memberUsable (now (mesh .entry)) (now (boxes .entry)) n (now (marks .entry)) stamp) (now (recent .exit))
+        × Adds n (block (now (starts .entry)) (now (members .entry)) columns (p .x0) (p .x1) (p .y0) (p .y1))
+        (now (recent .entry)) (now (list .entry)) 0 (now (recent .exit)) (now (list .exit)) (r .count)) ⌝ }
 {
     let x0 = p.x0;
     let x1 = p.x1;
     let y0 = p.y0;
     let y1 = p.y1;
+    let mut count = 0u32;
     for y in y0..y1 {
-        if !row_usable(
+        let one = row_usable(
             mesh,
             n,
             starts,
@@ -367,9 +484,16 @@ fn cells_usable(
             x1,
             y,
             recent,
-        ) {
-            return false;
+            list,
+            count,
+        );
+        if !one.usable {
+            return one;
         }
+        count = one.count;
     }
-    true
+    Sifted {
+        usable: true,
+        count,
+    }
 }

@@ -1,3 +1,4 @@
 pub mod Rings
 pub mod Lists
 pub mod Marks
+pub mod Shorter

@@ -1,10 +1,11 @@
 -- What the parts of a question's code promise each other: a walk as the code goes, one member after the other, and what that asks of the tables.
 use mathlib.Core.Bool.{Bool, not, cond}
 use mathlib.Core.List.{List, [], _∷_}
+use mathlib.Core.Path.{_≡_}
 use Prim.Native.Nat.{ℕ, _+_, _*_, _^_, _≤_, _<_}
 use lib.Dec.{eqb}
-use lib.ListN.{length, getD, set}
-use Rattle.walk.specs.Walk.{Walk, cell}
+use lib.ListN.{length, getD, set, take}
+use Rattle.walk.specs.Walk.{Walk, cell, looked}
 use Rattle.plane.specs.declared.Best.{Best}
 use Rattle.walk.specs.declared.Seen.{Seen}
 use Rattle.walk.specs.declared.Verdict.{Verdict}
@@ -51,3 +52,9 @@ pub record Stretch (starts members : List ℕ) (c : ℕ) : Type 0 where
 pub record Walkable (starts members : List ℕ) (n columns x0 x1 y0 y1 : ℕ) : Type 0 where
   pub stretch : (x y : ℕ) → x0 ≤ x → x < x1 → y0 ≤ y → y < y1 → Stretch starts members (y * columns + x)
   pub below : (x y : ℕ) → x0 ≤ x → x < x1 → y0 ≤ y → y < y1 → Below n (cell starts members (y * columns + x))
+
+-- the first `count` numbers of `list` stand for the numbers `all`: each is below n, and over n marks a walk looks at what it looks at over all
+pub record StandsFor (n : ℕ) (all list : List ℕ) (count : ℕ) : Type 0 where
+  pub held : count ≤ length list
+  pub below : Below n (take count list)
+  pub same : (stamp : ℕ) (marks : List ℕ) → length marks ≡ n → looked stamp marks (take count list) ≡ looked stamp marks all

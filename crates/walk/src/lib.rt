@@ -1,6 +1,6 @@
 // What every question's walk shares: the stamp's turn, the mark of one triangle, and the numbers of one cell.
 ghost use mathlib.Core.Path.{_≡_};
-ghost use mathlib.Core.Bool.{not};
+ghost use mathlib.Core.Bool.{not, cond};
 ghost use Prim.Native.Nat.{_<_};
 ghost use lib.Dec.{eqb};
 ghost use lib.ListN.{length, getD, set, replicate};
@@ -60,4 +60,14 @@ pub fn stretch<'a>(starts: &[u32], members: &'a [u32], c: usize) -> &'a [u32]
     let a = starts[c] as usize;
     let e = starts[c + 1] as usize;
     &members[a..e]
+}
+
+// One of two tables: the first, if that is wanted.
+pub fn one_of<'a>(first: bool, a: &'a [u32], b: &'a [u32]) -> &'a [u32]
+    ensures { λ r. ⌜ now r ≡ cond first (now (a .entry)) (now (b .entry)) ⌝ }
+{
+    if first {
+        return a;
+    }
+    b
 }
