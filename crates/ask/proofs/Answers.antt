@@ -11,7 +11,7 @@ use lib.ListN.{length}
 use Rattle.walk.proofs.Marks.{ready-length}
 use Rattle.rules.proofs.Branches.{taken, left, both-true}
 use Rattle.plane.specs.declared.Best.{Best}
-use Rattle.walk.specs.Walk.{Walk, nextStamp, readyMarks, fold, walked, chased}
+use Rattle.walk.specs.Walk.{Walk, block, nextStamp, readyMarks, fold, walked, chased}
 use Rattle.walk.specs.Inside.{Below, Room, Walkable, seen, judged, look, strike}
 use Rattle.walk.specs.declared.Seen.{Seen}
 use Rattle.walk.specs.declared.Verdict.{Verdict}
@@ -32,6 +32,7 @@ use Rattle.query.proofs.Passing.{sound-boxed, sound-marked, sound-usable}
 use Rattle.ask.specs.Ask.{atFloor, refusalOf, begun, ended, refusedBy, answeredBy, answerOf, askedHeight}
 use Rattle.ask.specs.Ask.{refusedChord, blockedEarly, ruledBy, rulingOf, askedChord}
 use Rattle.ask.specs.Demand.{GoodQuestion}
+use Rattle.ask.proofs.Narrowing.{Narrow, narrow-walk, narrow-chase}
 use Rattle.ask.specs.declared.Finding.{Finding}
 use Rattle.ask.specs.declared.Finding.the-variants.{Clear, Blocked}
 
@@ -83,18 +84,25 @@ inside h px py qx qy reach p e = rw e (patch-inside h px py qx qy reach)
 
 -- n is the refusal that the code found
 module _ (numbers tool : Bool) (ix : Index) (marks : List ℕ) (stamp : ℕ) (p : Patch) (n : ℕ) (e : n ≡ refusalOf numbers tool ix marks stamp p) where
-  -- where the walk of an accepted question begins, with the marks m
-  pub ready : {A : Type 0} (next : ℕ) (m : List ℕ) (v : A) → n ≡ 0 → m ≡ readyMarks marks stamp → (p .x1 ≤ ix .header .columns) × (p .y1 ≤ ix .header .rows)
-      → (length (ix .mesh) ≡ length m * 9) × Walkable (ix .starts) (ix .members) (length m) (ix .header .columns) (p .x0) (p .x1) (p .y0) (p .y1)
-      × Room next (record { marks = m; count = 0; value = v }) × (length (ix .boxes) ≡ length m * 5)
-  ready next m v z f i =
+  -- its marks are one for each triangle
+  pub marks-all : (m : List ℕ) → n ≡ 0 → m ≡ readyMarks marks stamp → length m ≡ ix .header .n
+  marks-all m z f =
       let a = passed _ _ _ _ _ _ (sym e ∙ z) in
-      let k = a .marked in
       let l : length m ≡ length marks = ap length f ∙ ready-length marks stamp in
       let d : length (ix .mesh) ≡ ix .header .n * 9 = usable-head ix marks stamp p (a .index-stands) .nine in
-      let s : length m ≡ ix .header .n = omega (arith, k .nine) in (
+      omega (arith, a .marked .nine)
+
+  -- where the walk of an accepted question begins, with the marks m, over the tables and the cells that stand for its own
+  pub ready : {A : Type 0} (next : ℕ) (m : List ℕ) (v : A) → n ≡ 0 → m ≡ readyMarks marks stamp → (p .x1 ≤ ix .header .columns) × (p .y1 ≤ ix .header .rows)
+      → {starts members : List ℕ} {q : Patch} → Narrow ix p starts members q
+      → (length (ix .mesh) ≡ length m * 9) × Walkable starts members (length m) (ix .header .columns) (q .x0) (q .x1) (q .y0) (q .y1)
+      × Room next (record { marks = m; count = 0; value = v }) × (length (ix .boxes) ≡ length m * 5)
+  ready next m v z f i w =
+      let a = passed _ _ _ _ _ _ (sym e ∙ z) in
+      let k = a .marked in
+      let l : length m ≡ length marks = ap length f ∙ ready-length marks stamp in (
         omega (arith, k .nine),
-        rw s (walkable ix marks stamp p (a .index-stands) (i .0) (i .1)),
+        rw (marks-all m z f) (w .walkable (walkable ix marks stamp p (a .index-stands) (i .0) (i .1))),
         omega (arith, unmarked-length next m, k .few),
         omega (arith, a .five),
       )
@@ -105,13 +113,15 @@ module _ (numbers tool : Bool) (ix : Index) (marks : List ℕ) (stamp : ℕ) (p 
     unfolding askedHeight answerOf
     height-refused z = left _ _ _ _ (ne-eqb _ 0 (λ k. z (e ∙ k))) (ap (λ (j : ℕ). ended (refusedBy j stamp) marks) e)
 
-    pub height-answered : (next : ℕ) (m m′ : List ℕ) (s : Seen) → n ≡ 0 → next ≡ nextStamp stamp → m ≡ readyMarks marks stamp
-        → seen m′ s ≡ fold (look next step) (seen m (record { count = 0; best = atFloor (ix .header .floor) })) (within ix p)
+    pub height-answered : {starts members : List ℕ} {q : Patch} → Narrow ix p starts members q → (next : ℕ) (m m′ : List ℕ) (s : Seen) → n ≡ 0
+        → next ≡ nextStamp stamp → m ≡ readyMarks marks stamp
+        → seen m′ s ≡ fold (look next step) (seen m (record { count = 0; best = atFloor (ix .header .floor) }))
+        (block starts members (ix .header .columns) (q .x0) (q .x1) (q .y0) (q .y1))
         → ended (answeredBy (seen m′ s) next) m′ ≡ askedHeight numbers tool step ix marks stamp p
     unfolding askedHeight answerOf
-    height-answered next m m′ s z f g w =
+    height-answered h next m m′ s z f g w =
         let v : Walk Best = walked (nextStamp stamp) step (begun marks stamp (atFloor (ix .header .floor))) (within ix p) in
-        let i : seen m′ s ≡ v = w ∙ walk-is next step _ _ ∙ (rw (g, f)) in
+        let i : seen m′ s ≡ v = w ∙ narrow-walk h next step _ (marks-all m z g) ∙ walk-is next step _ _ ∙ (rw (g, f)) in
         taken _ _ _ _ (eq-eqb _ 0 (sym e ∙ z))
         (ap (λ (u : Walk Best). ended (answeredBy u next) (u .marks)) i ∙ ap (λ (k : ℕ). ended (answeredBy v k) (v .marks)) f)
 
@@ -125,13 +135,15 @@ module _ (numbers tool : Bool) (ix : Index) (marks : List ℕ) (stamp : ℕ) (p 
     unfolding askedChord rulingOf
     chord-early z b = taken _ _ _ _ (eq-eqb _ 0 (sym e ∙ z)) (taken _ _ _ _ b refl)
 
-    pub chord-ruled : (next : ℕ) (m m′ : List ℕ) (v : Verdict) (f : Finding) → n ≡ 0 → early ≡ false → next ≡ nextStamp stamp → m ≡ readyMarks marks stamp
-        → judged m′ v ≡ fold (strike next blocks) (judged m (record { count = 0; clear = true })) (within ix p) → f ≡ cond (v .clear) Clear Blocked
+    pub chord-ruled : {starts members : List ℕ} {q : Patch} → Narrow ix p starts members q → (next : ℕ) (m m′ : List ℕ) (v : Verdict) (f : Finding) → n ≡ 0
+        → early ≡ false → next ≡ nextStamp stamp → m ≡ readyMarks marks stamp
+        → judged m′ v ≡ fold (strike next blocks) (judged m (record { count = 0; clear = true }))
+        (block starts members (ix .header .columns) (q .x0) (q .x1) (q .y0) (q .y1)) → f ≡ cond (v .clear) Clear Blocked
         → ended (record { refusal = 0; finding = f; count = v .count; stamp = next }) m′ ≡ askedChord numbers tool early blocks ix marks stamp p
     unfolding askedChord rulingOf
-    chord-ruled next m m′ v f z b g k w r =
+    chord-ruled h next m m′ v f z b g k w r =
         let u : Walk Bool = chased (nextStamp stamp) blocks (begun marks stamp true) (within ix p) in
-        let i : judged m′ v ≡ u = w ∙ chase-is next blocks _ _ refl ∙ (rw (k, g)) in
+        let i : judged m′ v ≡ u = w ∙ narrow-chase h next blocks _ refl (marks-all m z k) ∙ chase-is next blocks _ _ refl ∙ (rw (k, g)) in
         taken _ _ _ _ (eq-eqb _ 0 (sym e ∙ z))
         (left _ _ _ _ b
         (ap (λ (x : Finding). ended (record { refusal = 0; finding = x; count = v .count; stamp = next }) m′) r

@@ -32,8 +32,8 @@ module _ (numbers tool : Bool) (ix : Index) (marks : List ℕ) (stamp : ℕ) (p 
   pub good-is-accepted : (n : ℕ) → n ≡ refusal → GoodAccepted numbers tool ix marks stamp n
   good-is-accepted n e b g = e ∙ good-passes numbers tool ix marks stamp p (index-sound ix b) g right top
 
-  pub refusal-told : (n : ℕ) → n ≡ refusal → (n ≡ refusal) × GoodAccepted numbers tool ix marks stamp n
-  refusal-told n e = (e, good-is-accepted n e)
+  pub refusal-told : (n : ℕ) → n ≡ refusal → {Listed : Type 0} → Listed → (n ≡ refusal) × (GoodAccepted numbers tool ix marks stamp n × Listed)
+  refusal-told n e listed = (e, (good-is-accepted n e, listed))
 
   -- an accepted question looks at a list of the right triangles, so a count of them all is enough
   pub counted : (count : ℕ) → BuiltFrom ix → refusal ≡ 0 → count ≡ length (lookedIn ix marks stamp p) → LookedAll ix p (lookedIn ix marks stamp p) count

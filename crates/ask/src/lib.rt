@@ -1,7 +1,10 @@
 // What every question shares: its refusals in their order, and its answer.
 ghost use mathlib.Core.Path.{_≡_};
 ghost use Prim.Native.Nat.{_≤_};
+ghost use lib.ListN.{length};
+ghost use Rattle.walk.specs.Inside.{StandsFor};
 ghost use Rattle.grid.specs.Index.{indexOf};
+ghost use Rattle.query.specs.Looked.{within};
 ghost use Rattle.ask.specs.Ask.{isCorner, refusalOf, findingNumber};
 ghost use Rattle.ask.specs.Demand.{GoodAccepted};
 use grid::Header;
@@ -34,7 +37,13 @@ pub struct Ruling {
     pub stamp: u32,
 }
 
-// The first refusal of a question with the cells p: `numbers` and `tool` say whether its numbers and its tool are in their ranges.
+// A question's refusal or 0, and how many numbers of a list stand for those of its cells, or 2,049 if there is no list.
+pub struct Heard {
+    pub refusal: u32,
+    pub count: u32,
+}
+
+// The first refusal of a question with the cells p: `numbers` and `tool` say whether its numbers and its tool are in their ranges. The list has 2,048 places.
 pub fn refusal(
     mesh: &[f64],
     h: Header,
@@ -46,30 +55,52 @@ pub fn refusal(
     p: Patch,
     numbers: bool,
     tool: bool,
-) -> u32
-    requires { ⌜ (p .x1 ≤ h .columns) × (p .y1 ≤ h .rows) ⌝ }
-    ensures { λ k. ⌜ k
+    list: &mut [u32],
+) -> Heard
+    requires { ⌜ (p .x1 ≤ h .columns) × (p .y1 ≤ h .rows) × (length (now list) ≡ 2048) ⌝ }
+    ensures { λ k. ⌜ k .refusal
         ≡ refusalOf numbers tool (indexOf (now (mesh .entry)) h (now (starts .entry)) (now (members .entry)) (now (boxes .entry))) (now
         (marks .entry)) stamp p ⌝ }
     ensures { λ k. ⌜ GoodAccepted numbers tool (indexOf (now (mesh .entry)) h (now (starts .entry)) (now (members .entry)) (now (boxes .entry)))
-        (now (marks .entry)) stamp k ⌝ }
+        (now (marks .entry)) stamp (k .refusal) ⌝ }
+    ensures { λ k. ⌜ (k .refusal ≡ 0 → k .count ≤ 2048 → StandsFor (h .n)
+        (within (indexOf (now (mesh .entry)) h (now (starts .entry)) (now (members .entry)) (now (boxes .entry))) p) (now (list .exit)) (k .count)) ⌝ }
 {
     if !query::is_marked(mesh, marks) {
-        return 1;
+        return Heard {
+            refusal: 1,
+            count: 2049,
+        };
     }
     if !grid::is_boxed(mesh, boxes) {
-        return 23;
+        return Heard {
+            refusal: 23,
+            count: 2049,
+        };
     }
     if !numbers {
-        return 2;
+        return Heard {
+            refusal: 2,
+            count: 2049,
+        };
     }
     if !tool {
-        return 8;
+        return Heard {
+            refusal: 8,
+            count: 2049,
+        };
     }
-    if query::usable(mesh, h, starts, members, boxes, marks, stamp, p) {
-        return 0;
+    let s = query::usable(mesh, h, starts, members, boxes, marks, stamp, p, list);
+    if s.usable {
+        return Heard {
+            refusal: 0,
+            count: s.count,
+        };
     }
-    7
+    Heard {
+        refusal: 7,
+        count: 2049,
+    }
 }
 
 // Whether rc is from 0 to r.

@@ -12,13 +12,14 @@ use Rattle.walk.specs.Walk.{Walk, fold, chased, nextStamp, readyMarks}
 use Rattle.walk.specs.Inside.{judged, strike, Room, Walkable}
 use Rattle.walk.proofs.Rings.{Kept, strike-keeps, unmarked-length}
 use Rattle.walk.proofs.Lists.{chase-is}
-use Rattle.grid.specs.Index.{Index}
+use Rattle.grid.specs.Index.{Index, indexOf}
 use Rattle.query.specs.declared.Patch.{Patch}
 use Rattle.query.specs.Patch.{patchOf}
 use Rattle.query.specs.Looked.{within}
 use Rattle.walk.proofs.Marks.{ready-length}
 use Rattle.query.proofs.Using.{walkable, usable-head}
-use Rattle.ask.proofs.Answers.{passed}
+use Rattle.ask.proofs.Narrowing.{Narrow}
+use Rattle.ask.proofs.Answers.{passed, marks-all}
 use Rattle.reach.specs.declared.Chord.{Chord}
 use Rattle.ask.specs.declared.Ruling.{Ruling}
 use Rattle.ask.specs.declared.Finding.{Finding}
@@ -82,16 +83,25 @@ module _ (early : Bool) (blocks : ℕ → Bool) (ix : Index) (marks : List ℕ) 
   ruled-asked numbers tool n o e z r = r
       ∙ ap (λ (k : ℕ). rulingOf k early marks stamp (chased (nextStamp stamp) blocks (begun marks stamp true) (within ix p))) (sym z ∙ e)
 
--- what an accepted question may rely on
-pub accepted-ready : (numbers tool : Bool) (ix : Index) (marks : List ℕ) (stamp : ℕ) (p : Patch) (n : ℕ) → n ≡ refusalOf numbers tool ix marks stamp p
-    → n ≡ 0 → (p .x1 ≤ ix .header .columns) × (p .y1 ≤ ix .header .rows) → (length (ix .mesh) ≡ length marks * 9) × (length marks ≤ 65536)
-    × Walkable (ix .starts) (ix .members) (length marks) (ix .header .columns) (p .x0) (p .x1) (p .y0) (p .y1) × (length (ix .boxes) ≡ length marks * 5)
-accepted-ready numbers tool ix marks stamp p n e z i =
-    let a = passed numbers tool ix marks stamp p (sym e ∙ z) in
-    let k = a .marked in
-    let d : length (ix .mesh) ≡ ix .header .n * 9 = usable-head ix marks stamp p (a .index-stands) .nine in
-    let s : length marks ≡ ix .header .n = omega (arith, k .nine) in
-    (k .nine, k .few, rw s (walkable ix marks stamp p (a .index-stands) (i .0) (i .1)), a .five)
+-- what an accepted question may rely on, over the tables and the cells that stand for its own
+module _ (numbers tool : Bool) (ix : Index) (marks : List ℕ) (stamp : ℕ) (p : Patch) (n : ℕ) (e : n ≡ refusalOf numbers tool ix marks stamp p) (z : n ≡ 0)
+    {starts members : List ℕ} {q : Patch} (w : Narrow ix p starts members q) where
+  pub accepted-ready : (p .x1 ≤ ix .header .columns) × (p .y1 ≤ ix .header .rows) → (length (ix .mesh) ≡ length marks * 9) × (length marks ≤ 65536)
+      × Walkable starts members (length marks) (ix .header .columns) (q .x0) (q .x1) (q .y0) (q .y1) × (length (ix .boxes) ≡ length marks * 5)
+  accepted-ready i =
+      let a = passed numbers tool ix marks stamp p (sym e ∙ z) in
+      let k = a .marked in
+      let d : length (ix .mesh) ≡ ix .header .n * 9 = usable-head ix marks stamp p (a .index-stands) .nine in
+      let s : length marks ≡ ix .header .n = omega (arith, k .nine) in
+      (k .nine, k .few, rw s (w .walkable (walkable ix marks stamp p (a .index-stands) (i .0) (i .1))), a .five)
+
+  -- and how it is ruled there
+  pub ruled-narrow : (early : Bool) (blocks : ℕ → Bool)
+      → ruledChord early blocks (indexOf (ix .mesh) (ix .header) starts members (ix .boxes)) marks stamp q ≡ ruledChord early blocks ix marks stamp p
+  unfolding ruledChord chased
+  ruled-narrow early blocks =
+      let m = w .same (nextStamp stamp) (readyMarks marks stamp) (marks-all numbers tool ix marks stamp p n e (readyMarks marks stamp) z refl) in
+      rw m
 
 -- the marks of a walk that begins, from those that the question was asked with
 pub begins : (ix : Index) (marks : List ℕ) (stamp next : ℕ) (m : List ℕ) (p : Patch) → m ≡ readyMarks marks stamp → (length (ix .mesh) ≡ length marks * 9)

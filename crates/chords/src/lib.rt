@@ -49,7 +49,8 @@ pub fn bull_chord_clear(
     let p = query::patch_of(h, m.ax, m.ay, m.bx, m.by, r);
     let asked = is_ride(m, r);
     let corner = ask::is_corner(r, rc);
-    let n = ask::refusal(
+    let mut list = [0u32; 2048];
+    let heard = ask::refusal(
         mesh,
         h,
         starts,
@@ -60,7 +61,9 @@ pub fn bull_chord_clear(
         p,
         asked,
         corner,
+        &mut list,
     );
+    let n = heard.refusal;
     if n != 0 {
         return refused(n, stamp);
     }
@@ -68,15 +71,17 @@ pub fn bull_chord_clear(
         return blocked(stamp);
     }
     let next = walk::next_stamp(marks, stamp);
+    let listed = heard.count <= 2048;
+    let ends = [0u32, heard.count];
     let v = chase(
         mesh,
-        starts,
-        members,
+        walk::one_of(listed, &ends, starts),
+        walk::one_of(listed, &list, members),
         boxes,
         marks,
         next,
         columns,
-        p,
+        query::narrowed(listed, p),
         m,
         Shape::Nose(r, rc),
         &boxes[0..0],
@@ -112,7 +117,8 @@ pub fn sections_chord_clear(
     let p = query::patch_of(h, m.ax, m.ay, m.bx, m.by, reach);
     let asked = is_chord(m);
     let valid = tool::is_tool(table);
-    let n = ask::refusal(
+    let mut list = [0u32; 2048];
+    let heard = ask::refusal(
         mesh,
         h,
         starts,
@@ -123,19 +129,23 @@ pub fn sections_chord_clear(
         p,
         asked,
         valid,
+        &mut list,
     );
+    let n = heard.refusal;
     if n != 0 {
         return refused(n, stamp);
     }
+    let listed = heard.count <= 2048;
+    let ends = [0u32, heard.count];
     tool_ruling(
         mesh,
         h,
-        starts,
-        members,
+        walk::one_of(listed, &ends, starts),
+        walk::one_of(listed, &list, members),
         boxes,
         marks,
         stamp,
-        p,
+        query::narrowed(listed, p),
         m,
         low,
         table,

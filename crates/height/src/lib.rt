@@ -47,7 +47,8 @@ pub fn max_height(
 {
     let p = query::patch_of(h, px, py, qx, qy, r);
     let asked = is_sweep(px, py, qx, qy, r);
-    let n = ask::refusal(
+    let mut list = [0u32; 2048];
+    let heard = ask::refusal(
         mesh,
         h,
         starts,
@@ -58,7 +59,9 @@ pub fn max_height(
         p,
         asked,
         true,
+        &mut list,
     );
+    let n = heard.refusal;
     if n != 0 {
         return Answer {
             refusal: n,
@@ -70,16 +73,18 @@ pub fn max_height(
             which: 0,
         };
     }
+    let listed = heard.count <= 2048;
+    let ends = [0u32, heard.count];
     let s = sweep_in(
         mesh,
         h,
-        starts,
-        members,
+        walk::one_of(listed, &ends, starts),
+        walk::one_of(listed, &list, members),
         boxes,
         marks,
         stamp,
         capsule::capsule_of(px, py, qx, qy, r, h.eps),
-        p,
+        query::narrowed(listed, p),
     );
     let best = s.best;
     Answer {

@@ -18,6 +18,7 @@ use Rattle.query.proofs.Using.{usable-head, usable-member}
 use Rattle.query.proofs.Looks.{over-in, place-of}
 use Rattle.walk.proofs.Marks.{ready-length}
 use Rattle.ask.specs.Ask.{atFloor, refusalOf}
+use Rattle.ask.proofs.Narrowing.{Narrow}
 use Rattle.ask.proofs.Answers.{passed, ready}
 use Rattle.tips.specs.Inside.{Fresh, Ready}
 
@@ -42,13 +43,15 @@ module _ (ix : Index) (marks : List ℕ) (stamp : ℕ) (p : Patch) (u : usable i
 
 module _ (numbers tool : Bool) (ix : Index) (marks : List ℕ) (stamp : ℕ) (p : Patch) (n : ℕ) (e : n ≡ refusalOf numbers tool ix marks stamp p) where
   pub ready-walks : (next : ℕ) (m : List ℕ) → n ≡ 0 → next ≡ nextStamp stamp → m ≡ readyMarks marks stamp
-      → (p .x1 ≤ ix .header .columns) × (p .y1 ≤ ix .header .rows) → Ready (ix .mesh) (ix .boxes) (ix .starts) (ix .members) (ix .header .columns) p m next
-  ready-walks next m z f g i =
+      → (p .x1 ≤ ix .header .columns) × (p .y1 ≤ ix .header .rows) → {starts members : List ℕ} {q : Patch} → Narrow ix p starts members q
+      → Ready (ix .mesh) (ix .boxes) starts members (ix .header .columns) q m next
+  ready-walks next m z f g i w =
       let a = passed numbers tool ix marks stamp p (sym e ∙ z) in
-      let r = ready numbers tool ix marks stamp p n e {A = Best} next m (atFloor f0) z g i in
+      let r = ready numbers tool ix marks stamp p n e {A = Best} next m (atFloor f0) z g i w in
       record {
         tables = record { nine = r .0; five = r .3; few = omega (arith, ap length g, ready-length marks stamp, a .marked .few); cells = r .1 };
-        fresh =
+        fresh = λ k t.
             subst (λ (s : ℕ). Fresh s m (within ix p)) (sym f)
-            (subst (λ (l : List ℕ). Fresh (nextStamp stamp) l (within ix p)) (sym g) (all-fresh ix marks stamp p (a .index-stands) (a .marked .nine)));
+            (subst (λ (l : List ℕ). Fresh (nextStamp stamp) l (within ix p)) (sym g) (all-fresh ix marks stamp p (a .index-stands) (a .marked .nine)))
+            k (w .inside k t);
       }

@@ -75,7 +75,8 @@ pub fn max_bull(
     let p = query::patch_of(h, px, py, px, py, r);
     let stands = is_stand(px, py, r);
     let corner = ask::is_corner(r, rc);
-    let n = ask::refusal(
+    let mut list = [0u32; 2048];
+    let heard = ask::refusal(
         mesh,
         h,
         starts,
@@ -86,7 +87,9 @@ pub fn max_bull(
         p,
         stands,
         corner,
+        &mut list,
     );
+    let n = heard.refusal;
     if n != 0 {
         return Answer {
             refusal: n,
@@ -99,15 +102,17 @@ pub fn max_bull(
         };
     }
     let next = walk::next_stamp(marks, stamp);
+    let listed = heard.count <= 2048;
+    let ends = [0u32, heard.count];
     let s = walk_nose(
         mesh,
-        starts,
-        members,
+        walk::one_of(listed, &ends, starts),
+        walk::one_of(listed, &list, members),
         boxes,
         marks,
         next,
         columns,
-        p,
+        query::narrowed(listed, p),
         k,
         floor,
         &boxes[0..0],
@@ -158,7 +163,8 @@ pub fn max_sections(
     let p = query::patch_of(h, px, py, px, py, reach);
     let stands = is_place(px, py);
     let valid = tool::is_tool(table);
-    let n = ask::refusal(
+    let mut list = [0u32; 2048];
+    let heard = ask::refusal(
         mesh,
         h,
         starts,
@@ -169,7 +175,9 @@ pub fn max_sections(
         p,
         stands,
         valid,
+        &mut list,
     );
+    let n = heard.refusal;
     if n != 0 {
         return Answer {
             refusal: n,
@@ -183,15 +191,17 @@ pub fn max_sections(
     }
     let next = walk::next_stamp(marks, stamp);
     let a = Axis { x: px, y: py, low };
+    let listed = heard.count <= 2048;
+    let ends = [0u32, heard.count];
     let s = visit(
         mesh,
-        starts,
-        members,
+        walk::one_of(listed, &ends, starts),
+        walk::one_of(listed, &list, members),
         boxes,
         marks,
         next,
         columns,
-        p,
+        query::narrowed(listed, p),
         Shape::Sections(a),
         table,
         first,
