@@ -1,10 +1,11 @@
-use Rattle.reach.specs.Reach.{apartAt}
+use mathlib.Core.Path.{sym, ap, _∙_}
+use Rattle.roots.specs.Root.{rootOf}
+use Rattle.reach.proofs.Squares.{apart-root}
 use Rattle.reach.proofs.apart_at.Statement.{statement}
 use Rattle.reach.proofs.apart_at.Tie as tie
 
 returns : tie.Need-returns
-unfolding apartAt
-returns c = c .distance-xy .ensures
+returns c = c .root .ensures ∙ ap rootOf (c .before .square-at .ensures) ∙ sym (apart-root _ _ _)
 
 pub apart-at-spec : {M : Type 1} → statement M
-apart-at-spec = tie.close (tie.spec (λ c κs. tt) returns)
+apart-at-spec = tie.close (tie.spec (λ c κs. tt) (λ c κs. tt) returns)

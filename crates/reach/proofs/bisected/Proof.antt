@@ -12,10 +12,10 @@ use Rattle.reach.proofs.bisected.Statement.{statement}
 use Rattle.reach.proofs.bisected.Tie as tie
 
 abbrev Inv-loop : tie.InvT-loop
-Inv-loop t m r s₀ n₀ s n = (s ≡ spanAt t m r s₀ n) × (n ≤ 60)
+Inv-loop t m k s₀ n₀ s n = (s ≡ spanAt t m (k .r) s₀ n) × (n ≤ 60)
 
 abbrev μ-loop : tie.MeasureT-loop
-μ-loop t m r s₀ n₀ s n = 60 - n
+μ-loop t m k s₀ n₀ s n = 60 - n
 
 -- one step more
 halves : (t : Triangle) (m : Chord) (r : Float) (from s s′ : Span) (n : ℕ) → s ≡ spanAt t m r from n → s′ ≡ halvedOf t m r s → s′ ≡ spanAt t m r from (n + 1)
@@ -37,4 +37,4 @@ returns c =
 
 pub bisected-spec : {M : Type 1} → statement M
 bisected-spec =
-    tie.close (tie.spec Inv-loop μ-loop loop-holds (λ c κs. tt) (λ c. omega arith) (λ c. omega arith) loop-again returns)
+    tie.close (tie.spec Inv-loop μ-loop loop-holds (λ c κs. search needs) (λ c. omega arith) (λ c. omega arith) loop-again returns)

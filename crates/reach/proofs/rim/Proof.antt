@@ -1,4 +1,5 @@
-use mathlib.Core.Path.{refl, ap}
+use borrow.Author.Needs.{needs}
+use mathlib.Core.Path.{refl, sym, ap, _∙_}
 use Rattle.rules.proofs.Branches.{taken, left}
 use Rattle.reach.specs.Reach.{rimOf}
 use Rattle.reach.specs.declared.Span.{Span}
@@ -7,11 +8,12 @@ use Rattle.reach.proofs.rim.Tie as tie
 
 returns : tie.Need-returns
 unfolding rimOf
-returns c = taken _ _ _ _ (rw (c .before .apart-at .ensures) at (c .if1 .taken)) refl
+returns c = taken _ _ _ _ (sym (c .before .reaches .ensures) ∙ c .if1 .taken) refl
 
 returns-2 : tie.Need-returns-2
 unfolding rimOf
-returns-2 c = left _ _ _ _ (rw (c .before .before .apart-at .ensures) at (c .before .if1 .left)) (ap (λ (s : Span). s .inside) (c .bisected .ensures))
+returns-2 c =
+    left _ _ _ _ (sym (c .before .before .reaches .ensures) ∙ c .before .if1 .left) (ap (λ (s : Span). s .inside) (c .bisected .ensures))
 
 pub rim-spec : {M : Type 1} → statement M
-rim-spec = tie.close (tie.spec (λ c κs. tt) returns (λ c κs. tt) returns-2)
+rim-spec = tie.close (tie.spec (λ c κs. search needs) returns (λ c κs. search needs) returns-2)
