@@ -270,7 +270,7 @@ uint32_t mandrikelo_sections_chord_clear(const double *mesh, size_t mesh_len, co
  * the runs. Runs that meet at one z are joined. What suffices for levels is 5 n; for runs begin with 50,000 and double it after 13.
  * Levels and runs are zeroed over their whole length, so far too large a table can cost more than the plan.
  *
- * It takes about 70 KB of stack, where every other function takes less than 10.
+ * It takes about 70 KB of stack, where every other function takes less than 16.
  *
  * Refusals in their order: 1, 23, 9, 7 (every cell and every triangle, no mark), 11, 10, 12, 13. A count over 4,294,967,295 is told as
  * 4,294,967,295; only the rows of 65,536 levels of 65,536 rows each, or runs in a table of 172 GB, could come to it. */
