@@ -55,8 +55,8 @@ returns-3 c =
     bull-answers _ _ _ _ _ _ _ _ _ _ _ (d .before .before .patch-of .ensures) (d .before .is-ride .ensures) (d .is-corner .ensures)
     (chord-ruled _ _ _ _ _ _ _ (e .0) _ _ w _ _ _ _ _ (n .if1 .left)
     (bool-called _ _ _
-    (c .before .before .before .before .before .before .before .before .before .before .before .before .before .before .before .before .before .blocked-at-once .ensures)
-    (c .before .before .before .before .before .before .before .before .before .before .before .before .before .before .before .before .if2 .left))
+    (k .before .before .before .before .before .before .before .before .before .before .before .before .blocked-at-once .ensures)
+    (k .before .before .before .before .before .before .before .before .before .before .before .if2 .left))
     (x .0) (x .1) (c .before .before .before .chase .ensures) (c .finding-of .ensures))
 
 pub bull-chord-clear-spec : {M : Type 1} → statement M
