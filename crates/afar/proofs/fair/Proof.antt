@@ -4,20 +4,20 @@ use Rattle.rules.proofs.Branches.{no, bool_called}
 use Rattle.afar.proofs.fair.Statement.{statement}
 use Rattle.afar.proofs.fair.Tie as tie
 
-returns : tie.Need-returns
+returns : tie.Need-returns-then-fine
 returns c e =
     let s = c.before.before.before in
     record {
-      fine = c.before.before.fine.ensures c.before.if1.true;
-      tame = bool_called _ _ _ c.side-tame.ensures e;
-      fit_a = subst T (sym s.well-formed.0.1) tt;
-      fit_b = subst T (sym s.well-formed.1.0.1) tt;
-      fit_c = subst T (sym s.well-formed.1.1.0.1) tt;
-      fit_p = subst T (sym s.well-formed.1.1.1.0.1) tt;
+      fine = c.before.before.fine.ensures c.before.if-fine.true;
+      tame = bool_called _ _ _ c.side_tame.ensures e;
+      fit_a = subst T (sym s.well_formed.0.1) tt;
+      fit_b = subst T (sym s.well_formed.1.0.1) tt;
+      fit_c = subst T (sym s.well_formed.1.1.0.1) tt;
+      fit_p = subst T (sym s.well_formed.1.1.1.0.1) tt;
     }
 
-returns-2 : tie.Need-returns-2
-returns-2 c e = absurd (no (sym c.if1.false ∙ e))
+returns-2 : tie.Need-returns-else-fine
+returns-2 c e = absurd (no (sym c.if-fine.false ∙ e))
 
-pub fair-spec : {M : Type 1} → statement M
-fair-spec = tie.close (tie.spec (λ c κs. tt) (λ c κs. tt) returns returns-2)
+pub fair_spec : {M : Type 1} → statement M
+fair_spec = tie.close (tie.spec (λ c κs. tt) (λ c κs. tt) returns returns-2)

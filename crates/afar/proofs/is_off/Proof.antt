@@ -4,13 +4,13 @@ use Rattle.afar.specs.Inside.{off_of, first_of, last_of}
 use Rattle.afar.proofs.is_off.Statement.{statement}
 use Rattle.afar.proofs.is_off.Tie as tie
 
-returns : tie.Need-returns
+returns : tie.Need-returns-then-is_upright
 unfolding off_of
-returns c = taken _ _ _ _ (bool_called _ _ _ c.before.is-upright.ensures c.if1.true) refl
+returns c = taken _ _ _ _ (bool_called _ _ _ c.before.is_upright.ensures c.if-is_upright.true) refl
 
-returns-2 : tie.Need-returns-2
+returns-2 : tie.Need-returns
 unfolding off_of first_of last_of
-returns-2 c = left _ _ _ _ (bool_called _ _ _ c.before.before.is-upright.ensures c.before.if1.false) c.misses.ensures
+returns-2 c = left _ _ _ _ (bool_called _ _ _ c.before.before.is_upright.ensures c.before.if-is_upright.false) c.misses.ensures
 
-pub is-off-spec : {M : Type 1} → statement M
-is-off-spec = tie.close (tie.spec (λ c κs. tt) returns (λ c κs. tt) returns-2)
+pub is_off_spec : {M : Type 1} → statement M
+is_off_spec = tie.close (tie.spec (λ c κs. tt) returns (λ c κs. tt) returns-2)

@@ -6,5 +6,5 @@ returns : tie.Need-returns
 unfolding upright_of
 returns c = rw c.abs.ensures
 
-pub is-upright-spec : {M : Type 1} → statement M
-is-upright-spec = tie.close (tie.spec (λ c κs. tt) returns)
+pub is_upright_spec : {M : Type 1} → statement M
+is_upright_spec = tie.close (tie.spec (λ c κs. tt) returns)

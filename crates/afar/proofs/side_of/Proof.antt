@@ -6,5 +6,5 @@ returns : tie.Need-returns
 unfolding side_of
 returns c = rw (c.max.ensures, c.before.min.ensures)
 
-pub side-of-spec : {M : Type 1} → statement M
-side-of-spec = tie.close (tie.spec (λ c κs. tt) (λ c κs. tt) returns)
+pub side_of_spec : {M : Type 1} → statement M
+side_of_spec = tie.close (tie.spec (λ c κs. tt) (λ c κs. tt) returns)

@@ -6,5 +6,5 @@ returns : tie.Need-returns
 unfolding way_of
 returns c = c.nearer.ensures
 
-pub way-spec : {M : Type 1} → statement M
-way-spec = tie.close (tie.spec (λ c κs. tt) returns)
+pub way_spec : {M : Type 1} → statement M
+way_spec = tie.close (tie.spec (λ c κs. tt) returns)

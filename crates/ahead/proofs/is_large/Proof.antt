@@ -3,13 +3,13 @@ use Rattle.ahead.specs.Inside.{is_large}
 use Rattle.ahead.proofs.is_large.Statement.{statement}
 use Rattle.ahead.proofs.is_large.Tie as tie
 
-returns : tie.Need-returns
+returns : tie.Need-returns-then-k-sides
 unfolding is_large
-returns c = and_on _ _ _ c.before.if1.true c.is-under.ensures
+returns c = and_on _ _ _ c.before.if-k-sides.true c.is_under.ensures
 
-returns-2 : tie.Need-returns-2
+returns-2 : tie.Need-returns-else-k-sides
 unfolding is_large
-returns-2 c = and_off _ _ _ c.if1.false c.if1.false
+returns-2 c = and_off _ _ _ c.if-k-sides.false c.if-k-sides.false
 
-pub is-large-spec : {M : Type 1} → statement M
-is-large-spec = tie.close (tie.spec (λ c κs. tt) returns returns-2)
+pub is_large_spec : {M : Type 1} → statement M
+is_large_spec = tie.close (tie.spec (λ c κs. tt) returns returns-2)

@@ -4,5 +4,5 @@ use Rattle.numbers.specs.Reals.{f0}
 use Rattle.ahead.proofs.is_level.Statement.{statement}
 use Rattle.ahead.proofs.is_level.Tie as tie
 
-pub is-level-spec : {M : Type 1} → statement M
-is-level-spec = tie.close (tie.spec (λ c κs. tt) (λ c. ap (λ (w : Float). le f0 w) c.base-of.ensures))
+pub is_level_spec : {M : Type 1} → statement M
+is_level_spec = tie.close (tie.spec (λ c κs. tt) (λ c. ap (λ (w : Float). le f0 w) c.base_of.ensures))

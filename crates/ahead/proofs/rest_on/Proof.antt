@@ -4,13 +4,13 @@ use Rattle.ahead.specs.Inside.{rest_on}
 use Rattle.ahead.proofs.rest_on.Statement.{statement}
 use Rattle.ahead.proofs.rest_on.Tie as tie
 
-returns : tie.Need-returns
+returns : tie.Need-returns-then-q-up
 unfolding rest_on
-returns c = taken _ _ _ _ c.if1.true refl
+returns c = taken _ _ _ _ c.if-q-up.true refl
 
-returns-2 : tie.Need-returns-2
+returns-2 : tie.Need-returns
 unfolding rest_on
-returns-2 c = left _ _ _ _ c.before.before.if1.false (rw (c.root2.ensures, c.before.root.ensures))
+returns-2 c = left _ _ _ _ c.before.before.if-q-up.false (rw (c.root.ensures, c.before.root-side.ensures))
 
-pub rest-on-spec : {M : Type 1} → statement M
-rest-on-spec = tie.close (tie.spec returns (λ c κs. tt) (λ c κs. tt) returns-2)
+pub rest_on_spec : {M : Type 1} → statement M
+rest_on_spec = tie.close (tie.spec returns (λ c κs. tt) (λ c κs. tt) returns-2)

@@ -4,19 +4,19 @@ use Rattle.ahead.specs.Inside.{sighted_tip}
 use Rattle.ahead.proofs.tip.Statement.{statement}
 use Rattle.ahead.proofs.tip.Tie as tie
 
-returns : tie.Need-returns
+returns : tie.Need-returns-then-z-b
 unfolding sighted_tip
-returns c = taken _ _ _ _ c.if1.true refl
+returns c = taken _ _ _ _ c.if-z-b.true refl
 
-returns-2 : tie.Need-returns-2
+returns-2 : tie.Need-returns-then-q-flat
 unfolding sighted_tip
-returns-2 c = left _ _ _ _ c.before.if1.false (taken _ _ _ _ c.if2.true refl)
+returns-2 c = left _ _ _ _ c.before.if-z-b.false (taken _ _ _ _ c.if-q-flat.true refl)
 
-returns-3 : tie.Need-returns-3
+returns-3 : tie.Need-returns
 unfolding sighted_tip
 returns-3 c =
-    left _ _ _ _ c.before.before.before.before.if1.false
-    (left _ _ _ _ c.before.before.before.if2.false (rw (c.max.ensures, c.before.bull-profile.ensures, c.before.before.root.ensures)))
+    left _ _ _ _ c.before.before.before.before.if-z-b.false
+    (left _ _ _ _ c.before.before.before.if-q-flat.false (rw (c.max.ensures, c.before.bull_profile.ensures, c.before.before.root.ensures)))
 
-pub tip-spec : {M : Type 1} → statement M
-tip-spec = tie.close (tie.spec returns returns-2 (λ c κs. tt) (λ c κs. tt) (λ c κs. tt) returns-3)
+pub tip_spec : {M : Type 1} → statement M
+tip_spec = tie.close (tie.spec returns returns-2 (λ c κs. tt) (λ c κs. tt) (λ c κs. tt) returns-3)

@@ -6,5 +6,5 @@ returns : tie.Need-returns
 unfolding high_on
 returns c = c.max.ensures
 
-pub high-on-spec : {M : Type 1} → statement M
-high-on-spec = tie.close (tie.spec (λ c κs. tt) returns)
+pub high_on_spec : {M : Type 1} → statement M
+high_on_spec = tie.close (tie.spec (λ c κs. tt) returns)

@@ -6,5 +6,5 @@ returns : tie.Need-returns
 unfolding highest_on
 returns c = cc
 
-pub highest-on-spec : {M : Type 1} → statement M
-highest-on-spec = tie.close (tie.spec (λ c κs. tt) (λ c κs. tt) (λ c κs. tt) (λ c κs. tt) (λ c κs. tt) returns)
+pub highest_on_spec : {M : Type 1} → statement M
+highest_on_spec = tie.close (tie.spec (λ c κs. tt) (λ c κs. tt) (λ c κs. tt) (λ c κs. tt) (λ c κs. tt) returns)

@@ -2,5 +2,5 @@ use Rattle.rules.proofs.Branches.{branches}
 use Rattle.apart.proofs.larger.Statement.{statement}
 use Rattle.apart.proofs.larger.Tie as tie
 
-pub larger-spec : {M : Type 1} → statement M
-larger-spec = tie.close (tie.spec (λ c. search branches) (λ c. search branches))
+pub larger_spec : {M : Type 1} → statement M
+larger_spec = tie.close (tie.spec (λ c. search branches) (λ c. search branches))

@@ -6,5 +6,5 @@ returns : tie.Need-returns
 unfolding low_on
 returns c = c.min.ensures
 
-pub low-on-spec : {M : Type 1} → statement M
-low-on-spec = tie.close (tie.spec (λ c κs. tt) returns)
+pub low_on_spec : {M : Type 1} → statement M
+low_on_spec = tie.close (tie.spec (λ c κs. tt) returns)

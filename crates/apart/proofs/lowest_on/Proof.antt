@@ -6,5 +6,5 @@ returns : tie.Need-returns
 unfolding lowest_on
 returns c = cc
 
-pub lowest-on-spec : {M : Type 1} → statement M
-lowest-on-spec = tie.close (tie.spec (λ c κs. tt) (λ c κs. tt) (λ c κs. tt) (λ c κs. tt) (λ c κs. tt) returns)
+pub lowest_on_spec : {M : Type 1} → statement M
+lowest_on_spec = tie.close (tie.spec (λ c κs. tt) (λ c κs. tt) (λ c κs. tt) (λ c κs. tt) (λ c κs. tt) returns)

@@ -5,15 +5,15 @@ use Rattle.apart.proofs.Farther.{behind_called, lies_over}
 use Rattle.apart.proofs.over.Statement.{statement}
 use Rattle.apart.proofs.over.Tie as tie
 
-returns : tie.Need-returns
+returns : tie.Need-returns-then-fine
 returns c e =
     let t = c.before.before.before in
     let s = t.before.before in
     lies_over s.args.a s.args.b s.args.c s.args.p s.args.q
-    (subst T (sym s.well-formed.0.1) tt) (subst T (sym s.well-formed.1.0.1) tt) (subst T (sym s.well-formed.1.1.0.1) tt)
-    (subst T (sym s.well-formed.1.1.1.0.1) tt)
-    (t.before.fine.ensures t.if1.true) s.args.limit
-    (behind_called _ _ _ _ _ c.before.before.high-on.ensures c.before.lowest-on.ensures (c.behind.ensures e))
+    (subst T (sym s.well_formed.0.1) tt) (subst T (sym s.well_formed.1.0.1) tt) (subst T (sym s.well_formed.1.1.0.1) tt)
+    (subst T (sym s.well_formed.1.1.1.0.1) tt)
+    (t.before.fine.ensures t.if-fine.true) s.args.limit
+    (behind_called _ _ _ _ _ c.before.before.high_on-high.ensures c.before.lowest_on.ensures (c.behind.ensures e))
 
-pub over-spec : {M : Type 1} → statement M
-over-spec = tie.close (tie.spec (λ c κs. tt) (λ c κs. tt) (λ c κs. tt) (λ c κs. tt) returns (λ c e. absurd (no e)))
+pub over_spec : {M : Type 1} → statement M
+over_spec = tie.close (tie.spec (λ c κs. tt) (λ c κs. tt) (λ c κs. tt) (λ c κs. tt) returns (λ c e. absurd (no e)))

@@ -4,17 +4,17 @@ use Rattle.ask.specs.Ask.{finding_number}
 use Rattle.ask.proofs.finding_number.Statement.{statement}
 use Rattle.ask.proofs.finding_number.Tie as tie
 
-returns : tie.Need-returns
+returns : tie.Need-returns-in-Neither
 unfolding finding_number
-returns c = ap finding_number (sym c.enum_told.given.1)
+returns c = ap finding_number (sym c.enum_told-1.given.1)
 
-returns-2 : tie.Need-returns-2
+returns-2 : tie.Need-returns-in-Clear
 unfolding finding_number
-returns-2 c = ap finding_number (sym c.enum-told2.given.1)
+returns-2 c = ap finding_number (sym c.enum_told-in-Clear-1.given.1)
 
-returns-3 : tie.Need-returns-3
+returns-3 : tie.Need-returns-in-Blocked
 unfolding finding_number
-returns-3 c = ap finding_number (sym c.enum-told3.given.1)
+returns-3 c = ap finding_number (sym c.enum_told-in-Blocked-1.given.1)
 
-pub finding-number-spec : {M : Type 1} → statement M
-finding-number-spec = tie.close (tie.spec (λ c. search rules) (λ c. search rules) (λ c. search rules) returns returns-2 returns-3)
+pub finding_number_spec : {M : Type 1} → statement M
+finding_number_spec = tie.close (tie.spec (λ c. search rules) (λ c. search rules) (λ c. search rules) returns returns-2 returns-3)

@@ -7,11 +7,11 @@ use Rattle.bound.proofs.Near.{near_square, near_none}
 use Rattle.bound.proofs.within.Statement.{statement}
 use Rattle.bound.proofs.within.Tie as tie
 
-returns-2 : tie.Need-returns-2
+returns-2 : tie.Need-returns-then-w
 returns-2 c =
     let s = c.before.before.before in
-    near_square s.args.w (subst T (sym s.well-formed.0.1) tt)
-    (bool_called _ _ _ c.before.before.is-radius.ensures (not-false _ c.before.if1.false)) c.if2.true
+    near_square s.args.w (subst T (sym s.well_formed.0.1) tt)
+    (bool_called _ _ _ c.before.before.is_radius.ensures (c.before.if-not-is_radius.false)) c.if-w.true
 
-pub within-spec : {M : Type 1} → statement M
-within-spec = tie.close (tie.spec (λ c κs. tt) (λ c. near_none _) returns-2 (λ c. near_none _))
+pub within_spec : {M : Type 1} → statement M
+within_spec = tie.close (tie.spec (λ c κs. tt) (λ c. near_none _) returns-2 (λ c. near_none _))

@@ -12,5 +12,5 @@ returns c =
     let a = c.before.args in
     c.contact_on.ensures ∙ ap (λ d. offer_of (bull_edges a.k a.floor a.t d) (bull_facet a.k a.t (facing_of a.t))) (alone _)
 
-pub bull-contact-above-spec : {M : Type 1} → statement M
-bull-contact-above-spec = tie.close (tie.spec (λ c κs. tt) returns)
+pub bull_contact_above_spec : {M : Type 1} → statement M
+bull_contact_above_spec = tie.close (tie.spec (λ c κs. tt) returns)

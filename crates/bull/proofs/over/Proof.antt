@@ -4,13 +4,13 @@ use Rattle.bull.specs.Bull.{bull_over}
 use Rattle.bull.proofs.over.Statement.{statement}
 use Rattle.bull.proofs.over.Tie as tie
 
-returns : tie.Need-returns
+returns : tie.Need-returns-then-d-k
 unfolding bull_over
-returns c = taken _ _ _ _ c.before.if1.true (rw c.bull-profile.ensures)
+returns c = taken _ _ _ _ c.before.if-d-k.true (rw c.bull_profile.ensures)
 
-returns-2 : tie.Need-returns-2
+returns-2 : tie.Need-returns-else-d-k
 unfolding bull_over
-returns-2 c = left _ _ _ _ c.if1.false refl
+returns-2 c = left _ _ _ _ c.if-d-k.false refl
 
-pub over-spec : {M : Type 1} → statement M
-over-spec = tie.close (tie.spec (λ c κs. tt) returns returns-2)
+pub over_spec : {M : Type 1} → statement M
+over_spec = tie.close (tie.spec (λ c κs. tt) returns returns-2)

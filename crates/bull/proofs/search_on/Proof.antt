@@ -11,33 +11,33 @@ use Rattle.bull.proofs.Giving.{gives_up, finds}
 use Rattle.bull.proofs.search_on.Statement.{statement}
 use Rattle.bull.proofs.search_on.Tie as tie
 
-abbrev invariant-loop : tie.invariant-loop
+abbrev invariant-loop : tie.invariant-loop-n
 invariant-loop k base e w flat lo hi m limit bar g₀ n₀ g n = (g ≡ golden_at rises (way_at k w) lo hi n) × (n ≤ 40)
 
-abbrev decreases-loop : tie.decreases-loop
+abbrev decreases-loop : tie.decreases-loop-n
 decreases-loop k base e w flat lo hi m limit bar g₀ n₀ g n = 40 - n
 
-loop-holds : tie.Need-loop-init invariant-loop decreases-loop
+loop-holds : tie.Need-loop-n-init invariant-loop decreases-loop
 loop-holds c = (search search_laws, search rules)
 
-returns : tie.Need-returns invariant-loop decreases-loop
+returns : tie.Need-returns-then-settled invariant-loop decreases-loop
 returns c =
     let x = c.before.before.before.before.before in
     let s = x.before in
-    let l = c.before.before.before.loop in
-    gives_up _ _ _ _ _ _ _ _ _ s.requires l.n l.g l.invariant.1 l.invariant.0 _ x.max.ensures (c.before.settled.ensures c.if1.true)
+    let l = c.before.before.before.loop-n in
+    gives_up _ _ _ _ _ _ _ _ _ s.requires l.n l.g l.invariant.1 l.invariant.0 _ x.max-bar.ensures (c.before.settled.ensures c.if-settled.true)
 
-loop-again : tie.Need-loop-preserved invariant-loop decreases-loop
+loop-again : tie.Need-loop-n-preserved invariant-loop decreases-loop
 loop-again c = (search search_laws, search rules)
 
-returns-2 : tie.Need-returns-2 invariant-loop decreases-loop
+returns-2 : tie.Need-returns invariant-loop decreases-loop
 returns-2 c =
     let s = c.before.before.before.before.before.before in
-    let l = c.before.before.before.loop in
-    finds _ _ _ _ _ _ _ _ _ s.requires l.n l.g l.invariant.1 l.invariant.0 (omega arith) _ _ c.before.max2.ensures c.max3.ensures
+    let l = c.before.before.before.loop-n in
+    finds _ _ _ _ _ _ _ _ _ s.requires l.n l.g l.invariant.1 l.invariant.0 (omega arith) _ _ c.before.max.ensures c.max-2.ensures
 
-pub search-on-spec : {M : Type 1} → statement M
-search-on-spec =
+pub search_on_spec : {M : Type 1} → statement M
+search_on_spec =
     tie.close
     (tie.spec invariant-loop decreases-loop (λ c κs. tt) (λ c κs. c.before.requires.flat_to) loop-holds (λ c κs. tt) returns
     (λ c κs. c.before.before.before.before.before.before.requires.flat_to) (λ c. omega arith) (λ c. omega arith) loop-again

@@ -3,11 +3,11 @@ use Rattle.bull.proofs.Taking.{nowhere_on, between_on}
 use Rattle.bull.proofs.stretch_on.Statement.{statement}
 use Rattle.bull.proofs.stretch_on.Tie as tie
 
-returns : tie.Need-returns
-returns c = nowhere_on _ _ _ _ c.enum_told.given.1
+returns : tie.Need-returns-in-Nowhere
+returns c = nowhere_on _ _ _ _ c.enum_told-1.given.1
 
-returns-2 : tie.Need-returns-2
-returns-2 c = between_on _ _ _ _ _ _ _ c.before.before.s.given.1 c.raised.ensures
+returns-2 : tie.Need-returns-in-Between
+returns-2 c = between_on _ _ _ _ _ _ _ c.before.before.s-1.given.1 c.raised.ensures
 
-pub stretch-on-spec : {M : Type 1} → statement M
-stretch-on-spec = tie.close (tie.spec (λ c. search rules) (λ c. search rules) (λ c κs. c.before.before.before.requires) returns returns-2)
+pub stretch_on_spec : {M : Type 1} → statement M
+stretch_on_spec = tie.close (tie.spec (λ c. search rules) (λ c. search rules) (λ c κs. c.before.before.before.requires) returns returns-2)

@@ -5,7 +5,7 @@ use Rattle.bull.proofs.vertices.Tie as tie
 
 returns : tie.Need-returns
 unfolding bull_vertices
-returns c = three_from _ _ _ _ _ _ _ c.before.before.vertex.ensures c.before.vertex2.ensures c.vertex3.ensures
+returns c = three_from _ _ _ _ _ _ _ c.before.before.vertex-a.ensures c.before.vertex-b.ensures c.vertex.ensures
 
-pub vertices-spec : {M : Type 1} → statement M
-vertices-spec = tie.close (tie.spec (λ c κs. c.requires) (λ c κs. c.before.requires) (λ c κs. c.before.before.requires) returns)
+pub vertices_spec : {M : Type 1} → statement M
+vertices_spec = tie.close (tie.spec (λ c κs. c.requires) (λ c κs. c.before.requires) (λ c κs. c.before.before.requires) returns)

@@ -4,13 +4,13 @@ use Rattle.bull_gap.specs.Blocks.{bull_searched}
 use Rattle.bull_gap.proofs.searched.Statement.{statement}
 use Rattle.bull_gap.proofs.searched.Tie as tie
 
-returns : tie.Need-returns
+returns : tie.Need-returns-in-Nowhere
 unfolding bull_searched
-returns c = ap (bull_searched _ _ _ _) (sym c.enum_told.given.1)
+returns c = ap (bull_searched _ _ _ _) (sym c.enum_told-1.given.1)
 
-returns-2 : tie.Need-returns-2
+returns-2 : tie.Need-returns-in-Between
 unfolding bull_searched
-returns-2 c = c.stands.ensures ∙ ap (bull_searched _ _ _ _) (sym c.before.before.s.given.1)
+returns-2 c = c.stands.ensures ∙ ap (bull_searched _ _ _ _) (sym c.before.before.s-1.given.1)
 
-pub searched-spec : {M : Type 1} → statement M
-searched-spec = tie.close (tie.spec (λ c. search rules) (λ c. search rules) (λ c κs. tt) returns returns-2)
+pub searched_spec : {M : Type 1} → statement M
+searched_spec = tie.close (tie.spec (λ c. search rules) (λ c. search rules) (λ c κs. tt) returns returns-2)

@@ -5,12 +5,12 @@ use Rattle.bull_pass.proofs.edge_block.Tie as tie
 returns : tie.Need-returns
 unfolding edge_block
 returns c = rw (
-  c.max3.ensures,
-  c.before.max2.ensures,
-  c.before.before.min2.ensures,
+  c.max-3.ensures,
+  c.before.max-2.ensures,
+  c.before.before.min-2.ensures,
   c.before.before.before.max.ensures,
   c.before.before.before.before.min.ensures,
 )
 
-pub edge-block-spec : {M : Type 1} → statement M
-edge-block-spec = tie.close (tie.spec (λ c κs. tt) (λ c κs. tt) (λ c κs. tt) (λ c κs. tt) (λ c κs. tt) returns)
+pub edge_block_spec : {M : Type 1} → statement M
+edge_block_spec = tie.close (tie.spec (λ c κs. tt) (λ c κs. tt) (λ c κs. tt) (λ c κs. tt) (λ c κs. tt) returns)

@@ -3,17 +3,17 @@ use Rattle.bull_pass.specs.Inside.{edge_fair}
 use Rattle.bull_pass.proofs.edge_fair.Statement.{statement}
 use Rattle.bull_pass.proofs.edge_fair.Tie as tie
 
-returns : tie.Need-returns
+returns : tie.Need-returns-then-axis_fair-2
 unfolding edge_fair
 returns c = search (and_on, and_off, bool_called)
 
-returns-2 : tie.Need-returns-2
+returns-2 : tie.Need-returns-else-axis_fair-2
 unfolding edge_fair
 returns-2 c = search (and_on, and_off, bool_called)
 
-returns-3 : tie.Need-returns-3
+returns-3 : tie.Need-returns-else-axis_fair
 unfolding edge_fair
 returns-3 c = search (and_on, and_off, bool_called)
 
-pub edge-fair-spec : {M : Type 1} → statement M
-edge-fair-spec = tie.close (tie.spec (λ c κs. tt) (λ c κs. tt) (λ c κs. tt) returns returns-2 returns-3)
+pub edge_fair_spec : {M : Type 1} → statement M
+edge_fair_spec = tie.close (tie.spec (λ c κs. tt) (λ c κs. tt) (λ c κs. tt) returns returns-2 returns-3)

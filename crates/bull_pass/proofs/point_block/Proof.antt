@@ -7,5 +7,5 @@ returns : tie.Need-returns
 unfolding point_block
 returns c = refl
 
-pub point-block-spec : {M : Type 1} → statement M
-point-block-spec = tie.close (tie.spec returns)
+pub point_block_spec : {M : Type 1} → statement M
+point_block_spec = tie.close (tie.spec returns)

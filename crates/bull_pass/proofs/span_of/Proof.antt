@@ -6,5 +6,5 @@ returns : tie.Need-returns
 unfolding range_of
 returns c = rw (c.max.ensures, c.before.min.ensures)
 
-pub span-of-spec : {M : Type 1} → statement M
-span-of-spec = tie.close (tie.spec (λ c κs. tt) (λ c κs. tt) returns)
+pub span_of_spec : {M : Type 1} → statement M
+span_of_spec = tie.close (tie.spec (λ c κs. tt) (λ c κs. tt) returns)

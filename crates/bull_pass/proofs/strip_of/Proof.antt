@@ -5,12 +5,12 @@ use Rattle.bull_pass.proofs.strip_of.Tie as tie
 returns : tie.Need-returns
 unfolding strip_of
 returns c = rw (
-  c.min3.ensures,
-  c.before.max2.ensures,
-  c.before.before.min2.ensures,
+  c.min-3.ensures,
+  c.before.max-2.ensures,
+  c.before.before.min-2.ensures,
   c.before.before.before.max.ensures,
   c.before.before.before.before.min.ensures,
 )
 
-pub strip-of-spec : {M : Type 1} → statement M
-strip-of-spec = tie.close (tie.spec (λ c κs. tt) (λ c κs. tt) (λ c κs. tt) (λ c κs. tt) (λ c κs. tt) returns)
+pub strip_of_spec : {M : Type 1} → statement M
+strip_of_spec = tie.close (tie.spec (λ c κs. tt) (λ c κs. tt) (λ c κs. tt) (λ c κs. tt) (λ c κs. tt) returns)

@@ -3,15 +3,15 @@ use Rattle.bull_pass.specs.Inside.{under_of}
 use Rattle.bull_pass.proofs.under.Statement.{statement}
 use Rattle.bull_pass.proofs.under.Tie as tie
 
-returns : tie.Need-returns
+returns : tie.Need-returns-then-not-tame
 unfolding under_of
 returns c = search flags
 
-returns-2 : tie.Need-returns-2
+returns-2 : tie.Need-returns-then-z-high
 unfolding under_of
 returns-2 c = search flags
 
-returns-3 : tie.Need-returns-3
+returns-3 : tie.Need-returns
 unfolding under_of
 returns-3 c = search flags
 

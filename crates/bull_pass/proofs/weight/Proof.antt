@@ -4,7 +4,7 @@ use Rattle.bull_pass.proofs.weight.Tie as tie
 
 returns : tie.Need-returns
 unfolding weight_of
-returns c = rw (c.min2.ensures, c.before.max2.ensures, c.before.before.max.ensures, c.before.before.before.min.ensures)
+returns c = rw (c.min-2.ensures, c.before.max-2.ensures, c.before.before.max.ensures, c.before.before.before.min.ensures)
 
-pub weight-spec : {M : Type 1} → statement M
-weight-spec = tie.close (tie.spec (λ c κs. tt) (λ c κs. tt) (λ c κs. tt) (λ c κs. tt) returns)
+pub weight_spec : {M : Type 1} → statement M
+weight_spec = tie.close (tie.spec (λ c κs. tt) (λ c κs. tt) (λ c κs. tt) (λ c κs. tt) returns)

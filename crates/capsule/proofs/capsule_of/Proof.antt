@@ -6,5 +6,5 @@ returns : tie.Need-returns
 unfolding capsule_of
 returns c = cc
 
-pub capsule-of-spec : {M : Type 1} → statement M
-capsule-of-spec = tie.close (tie.spec (λ c κs. tt) (λ c κs. tt) returns)
+pub capsule_of_spec : {M : Type 1} → statement M
+capsule_of_spec = tie.close (tie.spec (λ c κs. tt) (λ c κs. tt) returns)

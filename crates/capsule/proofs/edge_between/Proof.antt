@@ -7,5 +7,5 @@ returns : tie.Need-returns
 unfolding edge_of
 returns c = refl
 
-pub edge-between-spec : {M : Type 1} → statement M
-edge-between-spec = tie.close (tie.spec returns)
+pub edge_between_spec : {M : Type 1} → statement M
+edge_between_spec = tie.close (tie.spec returns)

@@ -7,5 +7,5 @@ returns : tie.Need-returns
 unfolding flank
 returns c = refl
 
-pub flank-at-spec : {M : Type 1} → statement M
-flank-at-spec = tie.close (tie.spec returns)
+pub flank_at_spec : {M : Type 1} → statement M
+flank_at_spec = tie.close (tie.spec returns)

@@ -6,7 +6,7 @@ use Rattle.capsule.proofs.highest_above.Tie as tie
 
 returns : tie.Need-returns
 unfolding contact_of
-returns c = c.contact-of.ensures ∙ (c.before.found_from.ensures ∙ topped _ _ _)
+returns c = c.contact_of.ensures ∙ (c.before.found_from.ensures ∙ topped _ _ _)
 
-pub highest-above-spec : {M : Type 1} → statement M
-highest-above-spec = tie.close (tie.spec (λ c κs. tt) (λ c κs. tt) returns)
+pub highest_above_spec : {M : Type 1} → statement M
+highest_above_spec = tie.close (tie.spec (λ c κs. tt) (λ c κs. tt) returns)

@@ -3,7 +3,7 @@ use Rattle.capsule.proofs.highest_in.Statement.{statement}
 use Rattle.capsule.proofs.highest_in.Tie as tie
 
 returns : tie.Need-returns
-returns c = c.contact-of.ensures ∙ c.before.found_in.ensures.0
+returns c = c.contact_of.ensures ∙ c.before.found_in.ensures.0
 
-pub highest-in-spec : {M : Type 1} → statement M
-highest-in-spec = tie.close (tie.spec (λ c κs. tt) (λ c κs. tt) returns)
+pub highest_in_spec : {M : Type 1} → statement M
+highest_in_spec = tie.close (tie.spec (λ c κs. tt) (λ c κs. tt) returns)

@@ -4,17 +4,17 @@ use Rattle.capsule.proofs.Gathering.{on, off, solving}
 use Rattle.capsule.proofs.offer_circle.Statement.{statement}
 use Rattle.capsule.proofs.offer_circle.Tie as tie
 
-returns : tie.Need-returns
+returns : tie.Need-returns-then-disc
 unfolding circled squared
 returns c =
     let m = c.before in
     on _ _ _ _ _
-    m.before.before.if1.true
-    (solving _ _ _ _ _ _ _ _ m.before.root.ensures m.offer-at.ensures c.offer-at2.ensures)
+    m.before.before.if-disc.true
+    (solving _ _ _ _ _ _ _ _ m.before.root-s.ensures m.offer_at-b.ensures c.offer_at.ensures)
 
-returns-2 : tie.Need-returns-2
+returns-2 : tie.Need-returns
 unfolding circled squared
-returns-2 c = off _ _ _ _ _ c.if1.false refl
+returns-2 c = off _ _ _ _ _ c.if-disc.false refl
 
-pub offer-circle-spec : {M : Type 1} → statement M
-offer-circle-spec = tie.close (tie.spec (λ c κs. tt) (λ c κs. tt) (λ c κs. tt) returns returns-2)
+pub offer_circle_spec : {M : Type 1} → statement M
+offer_circle_spec = tie.close (tie.spec (λ c κs. tt) (λ c κs. tt) (λ c κs. tt) returns returns-2)

@@ -7,5 +7,5 @@ returns : tie.Need-returns
 unfolding offered_all corners corner_a corner_b corner_c
 returns c = cc
 
-pub offer-corners-spec : {M : Type 1} → statement M
-offer-corners-spec = tie.close (tie.spec (λ c κs. tt) (λ c κs. tt) (λ c κs. tt) returns)
+pub offer_corners_spec : {M : Type 1} → statement M
+offer_corners_spec = tie.close (tie.spec (λ c κs. tt) (λ c κs. tt) (λ c κs. tt) returns)

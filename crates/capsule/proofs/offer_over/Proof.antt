@@ -5,20 +5,20 @@ use Rattle.capsule.proofs.Extremes.{none_over, beside, on_it}
 use Rattle.capsule.proofs.offer_over.Statement.{statement}
 use Rattle.capsule.proofs.offer_over.Tie as tie
 
-returns : tie.Need-returns
-returns c = none_over _ _ _ _ (sym c.before.before.bary.ensures ∙ c.enum_told.given.1)
+returns : tie.Need-returns-in-Nowhere
+returns c = none_over _ _ _ _ (sym c.before.before.bary.ensures ∙ c.enum_told-1.given.1)
 
-returns-2 : tie.Need-returns-2
+returns-2 : tie.Need-returns-then-at_least
 unfolding point_over
 returns-2 c =
     let m = c.before.before.before.before.before.before.before in
     let d = m.before.before.before in
-    on_it _ _ _ _ _ _ (sym d.before.before.bary.ensures ∙ d.w.given.1) (sym m.before.at_least.ensures ∙ m.if1.true) c.offer.ensures
+    on_it _ _ _ _ _ _ (sym d.before.before.bary.ensures ∙ d.w-1.given.1) (sym m.before.at_least.ensures ∙ m.if-at_least.true) c.offer.ensures
 
-returns-3 : tie.Need-returns-3
+returns-3 : tie.Need-returns-else-at_least
 returns-3 c =
     let d = c.before.before.before in
-    beside _ _ _ _ _ (sym d.before.before.bary.ensures ∙ d.w.given.1) (sym c.before.at_least.ensures ∙ c.if1.false)
+    beside _ _ _ _ _ (sym d.before.before.bary.ensures ∙ d.w-1.given.1) (sym c.before.at_least.ensures ∙ c.if-at_least.false)
 
-pub offer-over-spec : {M : Type 1} → statement M
-offer-over-spec = tie.close (tie.spec (λ c κs. tt) (λ c. search rules) (λ c. search rules) (λ c κs. tt) (λ c κs. tt) returns returns-2 returns-3)
+pub offer_over_spec : {M : Type 1} → statement M
+offer_over_spec = tie.close (tie.spec (λ c κs. tt) (λ c. search rules) (λ c. search rules) (λ c κs. tt) (λ c κs. tt) returns returns-2 returns-3)

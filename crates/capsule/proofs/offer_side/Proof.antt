@@ -4,13 +4,13 @@ use Rattle.capsule.proofs.Gathering.{on, off}
 use Rattle.capsule.proofs.offer_side.Statement.{statement}
 use Rattle.capsule.proofs.offer_side.Tie as tie
 
-returns : tie.Need-returns
+returns : tie.Need-returns-then-den
 unfolding sided
-returns c = on _ _ _ _ _ c.before.before.before.before.before.before.before.before.if1.true c.offer-at.ensures
+returns c = on _ _ _ _ _ c.before.before.before.before.before.before.before.before.if-den.true c.offer_at.ensures
 
-returns-2 : tie.Need-returns-2
+returns-2 : tie.Need-returns
 unfolding sided
-returns-2 c = off _ _ _ _ _ c.if1.false refl
+returns-2 c = off _ _ _ _ _ c.if-den.false refl
 
-pub offer-side-spec : {M : Type 1} → statement M
-offer-side-spec = tie.close (tie.spec (λ c κs. tt) returns returns-2)
+pub offer_side_spec : {M : Type 1} → statement M
+offer_side_spec = tie.close (tie.spec (λ c κs. tt) returns returns-2)

@@ -4,13 +4,13 @@ use Rattle.capsule.proofs.Picking.{last₂}
 use Rattle.capsule.proofs.side_of.Statement.{statement}
 use Rattle.capsule.proofs.side_of.Tie as tie
 
-returns : tie.Need-returns
+returns : tie.Need-returns-then-i-eq0
 unfolding sides
-returns c = rw c.if1.true
+returns c = rw c.if-i-eq0.true
 
-returns-2 : tie.Need-returns-2
+returns-2 : tie.Need-returns-else-i-eq0
 unfolding sides
-returns-2 c = last₂ _ _ _ _ refl c.if1.false
+returns-2 c = last₂ _ _ _ _ refl c.if-i-eq0.false
 
-pub side-of-spec : {M : Type 1} → statement M
-side-of-spec = tie.close (tie.spec returns returns-2)
+pub side_of_spec : {M : Type 1} → statement M
+side_of_spec = tie.close (tie.spec returns returns-2)

@@ -8,51 +8,51 @@ use Rattle.cells.proofs.Entries.{counted_one, counted_none, counted_join, counte
 use Rattle.cells.proofs.count_row.Statement.{statement}
 use Rattle.cells.proofs.count_row.Tie as tie
 
-abbrev invariant-loop : tie.invariant-loop
+abbrev invariant-loop : tie.invariant-loop-c
 invariant-loop starts₀ a e c₀ starts c = Counted (between a c) starts₀ starts × (a ≤ c) × (c ≤ max a e)
 
-abbrev decreases-loop : tie.decreases-loop
+abbrev decreases-loop : tie.decreases-loop-c
 decreases-loop starts₀ a e c₀ starts c = e - c
 
-loop-holds : tie.Need-loop-init invariant-loop decreases-loop
+loop-holds : tie.Need-loop-c-init invariant-loop decreases-loop
 loop-holds c = (counted_none _ _ (λ k. between_none _ _ k (omega arith)), omega arith, omega arith)
 
 -- the next entry has room
-here : (c : tie.In-loop invariant-loop decreases-loop) → (c.before.loop.c < length c.before.before.args.starts.now)
-    × (get_or c.before.before.args.starts.now c.before.loop.c 0 + 1 < 2 ^ 32)
-here c = c.before.before.requires c.before.loop.c (between_on _ _ _ (omega arith) (omega arith))
+here : (c : tie.In-loop-c invariant-loop decreases-loop) → (c.before.loop-c.c < length c.before.before.args.starts.now)
+    × (get_or c.before.before.args.starts.now c.before.loop-c.c 0 + 1 < 2 ^ 32)
+here c = c.before.before.requires c.before.loop-c.c (between_on _ _ _ (omega arith) (omega arith))
 
-within : (c : tie.In-loop invariant-loop decreases-loop) → c.before.loop.c < length c.before.loop.starts
-within c = omega (arith, (here c).0, c.before.loop.invariant.0.size)
+within : (c : tie.In-loop-c invariant-loop decreases-loop) → c.before.loop-c.c < length c.before.loop-c.starts
+within c = omega (arith, (here c).0, c.before.loop-c.invariant.0.size)
 
-mul-starts : tie.Need-overflow-mul-starts invariant-loop decreases-loop
+mul-starts : tie.Need-offset_bounds-starts-c invariant-loop decreases-loop
 mul-starts c = omega (arith, (here c).0)
 
-add-starts : tie.Need-overflow-add-starts invariant-loop decreases-loop
+add-starts : tie.Need-overflow_add-starts invariant-loop decreases-loop
 add-starts c =
     let d = c.before in
-    let l = d.before.loop in
+    let l = d.before.loop-c in
     record { fits = omega (arith, (here d).1, l.invariant.0.each l.c, over_between d.before.before.args.a l.c l.c (omega arith)) }
 
-add-c : tie.Need-overflow-add-c invariant-loop decreases-loop
+add-c : tie.Need-overflow_step-c invariant-loop decreases-loop
 add-c c = omega (arith, (here c.before).0)
 
-loop-again : tie.Need-loop-preserved invariant-loop decreases-loop
+loop-again : tie.Need-loop-c-preserved invariant-loop decreases-loop
 loop-again c =
-    let l = c.before.before.loop in
+    let l = c.before.before.loop-c in
     (counted_join _ _ _ _ _ _ (between_more _ _ (omega arith)) l.invariant.0 (counted_one l.starts l.c (within c.before)), omega arith, omega arith)
 
-same_length : tie.Need-same-length invariant-loop decreases-loop
-same_length c = c.before.loop.invariant.0.size
+same_length : tie.Need-shape_of-starts invariant-loop decreases-loop
+same_length c = c.before.loop-c.invariant.0.size
 
 returns : tie.Need-returns invariant-loop decreases-loop
 returns c =
-    let l = c.before.loop in
+    let l = c.before.loop-c in
     let s = c.before.before in
     counted_as _ _ _ _ (between_ends s.args.a s.args.e l.c (omega arith) (omega arith)) l.invariant.0
 
-pub count-row-spec : {M : Type 1} → statement M
-count-row-spec =
+pub count_row_spec : {M : Type 1} → statement M
+count_row_spec =
     tie.close
     (tie.spec invariant-loop decreases-loop loop-holds mul-starts (λ c. within c.before) add-starts (λ c. within c.before) add-c
     (λ c. omega arith) loop-again same_length returns)

@@ -7,19 +7,19 @@ use Rattle.cells.proofs.Entries.{summed_none, summed_more, summed_here, summed_a
 use Rattle.cells.proofs.sum_up.Statement.{statement}
 use Rattle.cells.proofs.sum_up.Tie as tie
 
-abbrev invariant-loop : tie.invariant-loop
+abbrev invariant-loop : tie.invariant-loop-c
 invariant-loop starts₀ k c₀ starts c = Summed c starts₀ starts × (0 < c) × (c ≤ k)
 
-abbrev decreases-loop : tie.decreases-loop
+abbrev decreases-loop : tie.decreases-loop-c
 decreases-loop starts₀ k c₀ starts c = k - c
 
-within : (c : tie.In-loop invariant-loop decreases-loop) → c.before.loop.c < length c.before.loop.starts
-within c = omega (arith, c.before.loop.invariant.0.size)
+within : (c : tie.In-loop-c invariant-loop decreases-loop) → c.before.loop-c.c < length c.before.loop-c.starts
+within c = omega (arith, c.before.loop-c.invariant.0.size)
 
-add-starts : tie.Need-overflow-add-starts invariant-loop decreases-loop
+add-starts : tie.Need-overflow_add-starts invariant-loop decreases-loop
 add-starts c =
     let s = c.before.before.before.before in
-    let l = c.before.before.before.loop in
+    let l = c.before.before.before.loop-c in
     omega (
       arith,
       summed_here s.args.starts.now l.starts l.c (omega arith) l.invariant.0,
@@ -27,15 +27,15 @@ add-starts c =
       s.requires,
     )
 
-loop-again : tie.Need-loop-preserved invariant-loop decreases-loop
-loop-again c = let l = c.before.before.before.loop in (summed_more _ _ _ (omega arith) (omega arith) l.invariant.0, omega arith, omega arith)
+loop-again : tie.Need-loop-c-preserved invariant-loop decreases-loop
+loop-again c = let l = c.before.before.before.loop-c in (summed_more _ _ _ (omega arith) (omega arith) l.invariant.0, omega arith, omega arith)
 
 returns : tie.Need-returns invariant-loop decreases-loop
-returns c = summed_as _ _ _ _ (omega arith) c.before.loop.invariant.0
+returns c = summed_as _ _ _ _ (omega arith) c.before.loop-c.invariant.0
 
-pub sum-up-spec : {M : Type 1} → statement M
-sum-up-spec =
+pub sum_up_spec : {M : Type 1} → statement M
+sum_up_spec =
     tie.close
     (tie.spec invariant-loop decreases-loop (λ c. (summed_none _, omega arith, omega arith)) (λ c. omega arith) (λ c. omega arith) (λ c. omega (arith, within c.before))
     (λ c. omega arith) (λ c. within c.before.before) add-starts (λ c. within c.before.before) (λ c. omega arith) (λ c. omega arith) loop-again
-    (λ c. c.before.loop.invariant.0.size) returns)
+    (λ c. c.before.loop-c.invariant.0.size) returns)

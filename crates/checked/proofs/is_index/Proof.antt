@@ -15,16 +15,16 @@ use Rattle.checked.proofs.Rebuilding.{from_same, to_same}
 use Rattle.checked.proofs.is_index.Statement.{statement}
 use Rattle.checked.proofs.is_index.Tie as tie
 
-grid-of-requires : tie.Need-grid-of-requires
-grid-of-requires c κs = let a = accepted _ _ _ _ c.before.before.before.before.requires in (omega (arith, a.nine), (a.numbers, grid_fits _ _ _ _ a))
+grid_of-requires : tie.Need-grid_of-g-requires
+grid_of-requires c κs = let a = accepted _ _ _ _ c.before.before.before.before.requires in (omega (arith, a.nine), (a.numbers, grid_fits _ _ _ _ a))
 
-is-index-under-requires : tie.Need-is-index-under-requires
-is-index-under-requires c κs =
+is_index_under-requires : tie.Need-is_index_under-requires
+is_index_under-requires c κs =
     let s = c.before.before.before.before.before in
     let a = accepted _ _ _ _ s.requires in (
       (omega (arith, a.nine), a.five, a.numbers),
       subst⁻¹ (λ (g : Grid). refusal_of_grid g.columns g.rows (length s.args.starts.now) ≡ 0
-          → Gridded s.args.mesh.now (triangles_in s.args.mesh.now) g) c.grid-of.ensures
+          → Gridded s.args.mesh.now (triangles_in s.args.mesh.now) g) c.grid_of-g.ensures
           (λ e. grid_gridded _ _ _ _ a _ (passed _ _ _ e)),
     )
 
@@ -33,8 +33,8 @@ returns c =
     let s = c.before.before.before.before.before.before in
     let ix = index_of s.args.mesh.now s.args.h s.args.starts.now s.args.members.now s.args.boxes.now in
     tells_as _ (from_same ix s.requires) (λ f. (to_same ix f).1)
-    (subst (λ (g : Grid). Tells c.is-index-under.result (SameIndex (triangles_in s.args.mesh.now) g ix)) c.before.grid-of.ensures
-    c.is-index-under.ensures)
+    (subst (λ (g : Grid). Tells c.is_index_under.result (SameIndex (triangles_in s.args.mesh.now) g ix)) c.before.grid_of-g.ensures
+    c.is_index_under.ensures)
 
-pub is-index-spec : {M : Type 1} → statement M
-is-index-spec = tie.close (tie.spec grid-of-requires is-index-under-requires returns)
+pub is_index_spec : {M : Type 1} → statement M
+is_index_spec = tie.close (tie.spec grid_of-requires is_index_under-requires returns)

@@ -6,5 +6,5 @@ returns : tie.Need-returns
 unfolding blocked_at_once
 returns c = rw c.min.ensures
 
-pub blocked-at-once-spec : {M : Type 1} → statement M
-blocked-at-once-spec = tie.close (tie.spec (λ c κs. tt) returns)
+pub blocked_at_once_spec : {M : Type 1} → statement M
+blocked_at_once_spec = tie.close (tie.spec (λ c κs. tt) returns)

@@ -34,11 +34,11 @@ module _ (mesh boxes table : List Float) (m : Chord) (s : Shape) (i : ℕ) (b : 
   found_at t r f g =
       g ∙ ap (λ (x : Triangle). shape_blocks x b m s table) f ∙ ap (λ (x : Bounds). shape_blocks (triangle_of mesh i) x m s table) e
 
-returns : tie.Need-returns
-returns c = under_at _ _ _ _ _ _ _ c.before.before.box-at.ensures _ c.before.is-under.ensures c.if1.true
+returns : tie.Need-returns-then-is_under
+returns c = under_at _ _ _ _ _ _ _ c.before.before.box_at-b.ensures _ c.before.is_under.ensures c.if-is_under.true
 
-returns-2 : tie.Need-returns-2
-returns-2 c = found_at _ _ _ _ _ _ _ c.before.before.before.before.box-at.ensures _ _ c.before.triangle-at.ensures c.blocks-on.ensures
+returns-2 : tie.Need-returns
+returns-2 c = found_at _ _ _ _ _ _ _ c.before.before.before.before.box_at-b.ensures _ _ c.before.triangle_at.ensures c.blocks_on.ensures
 
-pub blocks-at-spec : {M : Type 1} → statement M
-blocks-at-spec = tie.close (tie.spec (λ c κs. search rules) (λ c κs. tt) returns (λ c κs. search rules) (λ c κs. tt) returns-2)
+pub blocks_at_spec : {M : Type 1} → statement M
+blocks_at_spec = tie.close (tie.spec (λ c κs. search rules) (λ c κs. tt) returns (λ c κs. search rules) (λ c κs. tt) returns-2)

@@ -16,13 +16,13 @@ of_kind : (t : Triangle) (b : Bounds) (m : Chord) (table : List Float) (s k : Sh
     → r ≡ shape_blocks t b m s table
 of_kind t b m table s k r e p = p ∙ ap (λ (x : Shape). shape_blocks t b m x table) (sym e)
 
-returns : tie.Need-returns
+returns : tie.Need-returns-in-Nose
 unfolding shape_blocks
-returns c = of_kind _ _ _ _ _ _ _ c.before.before.shape.given.1 c.bull-blocks.ensures
+returns c = of_kind _ _ _ _ _ _ _ c.before.before.shape-1.given.1 c.bull_blocks.ensures
 
-returns-2 : tie.Need-returns-2
+returns-2 : tie.Need-returns-in-Sections
 unfolding shape_blocks
-returns-2 c = of_kind _ _ _ _ _ _ _ c.before.before.shape2.given.1 c.tool-blocks.ensures
+returns-2 c = of_kind _ _ _ _ _ _ _ c.before.before.shape-in-Sections-1.given.1 c.tool_blocks.ensures
 
-pub blocks-on-spec : {M : Type 1} → statement M
-blocks-on-spec = tie.close (tie.spec (λ c. search rules) (λ c κs. tt) (λ c. search rules) (λ c κs. tt) returns returns-2)
+pub blocks_on_spec : {M : Type 1} → statement M
+blocks_on_spec = tie.close (tie.spec (λ c. search rules) (λ c κs. tt) (λ c. search rules) (λ c κs. tt) returns returns-2)

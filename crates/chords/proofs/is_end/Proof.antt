@@ -3,7 +3,7 @@ use Rattle.chords.specs.Chords.{is_end}
 use Rattle.chords.proofs.is_end.Statement.{statement}
 use Rattle.chords.proofs.is_end.Tie as tie
 
-pub is-end-spec : {M : Type 1} → statement M
+pub is_end_spec : {M : Type 1} → statement M
 unfolding is_end
-is-end-spec = tie.close (tie.spec (λ c κs. tt) (λ c κs. tt) (λ c κs. tt) (λ c. search (and_on, and_off, bool_called))
+is_end_spec = tie.close (tie.spec (λ c κs. tt) (λ c κs. tt) (λ c κs. tt) (λ c. search (and_on, and_off, bool_called))
     (λ c. search (and_on, and_off, bool_called)) (λ c. search (and_on, and_off, bool_called)))

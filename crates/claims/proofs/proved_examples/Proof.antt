@@ -34,5 +34,5 @@ unfolding worked bytes_in numbers_in read_of accepted_of refusal_of refusal_of_h
     refusalOfCoordinates refusal_of_mesh is_boxed refusal_of_grid refusal_of_members refused_by accepted_with unless filled_of gridded build_of
 returns c = (refl, refl)
 
-pub proved-examples-spec : {M : Type 1} → statement M
-proved-examples-spec = tie.close (tie.spec returns)
+pub proved_examples_spec : {M : Type 1} → statement M
+proved_examples_spec = tie.close (tie.spec returns)

@@ -8,42 +8,42 @@ use Rattle.crests.proofs.Capping.{Capped, capped_none, capped_more}
 use Rattle.crests.proofs.crest_of.Statement.{statement}
 use Rattle.crests.proofs.crest_of.Tie as tie
 
-abbrev invariant-loop : tie.invariant-loop
+abbrev invariant-loop : tie.invariant-loop-j
 invariant-loop boxes part crest highest₀ j₀ j-end highest j = Capped boxes part crest j highest × (j-end ≡ length part) × (j ≤ j-end)
 
-abbrev decreases-loop : tie.decreases-loop
+abbrev decreases-loop : tie.decreases-loop-j
 decreases-loop boxes part crest highest₀ j₀ j-end highest j = j-end - j
 
-loop-holds : tie.Need-loop-init invariant-loop decreases-loop
+loop-holds : tie.Need-loop-j-init invariant-loop decreases-loop
 loop-holds c = (capped_none _ _ _, search rules, search rules)
 
-mul-box-at : tie.Need-overflow-mul-box-at invariant-loop decreases-loop
-mul-box-at c = search rules
+mul-box_at : tie.Need-offset_bounds-part-j invariant-loop decreases-loop
+mul-box_at c = search rules
 
-shared-slice-read-box-at : tie.Need-shared-slice-read-box-at invariant-loop decreases-loop
-shared-slice-read-box-at c = omega (arith, c.before.loop-test.true)
+shared_slice_read-box_at : tie.Need-bounds-part-j invariant-loop decreases-loop
+shared_slice_read-box_at c = omega (arith, c.before.loop-j-test.true)
 
-cast-box-at : tie.Need-overflow-cast-box-at invariant-loop decreases-loop
-cast-box-at c = omega (arith, c.shared-slice-known3.given c.before.before.loop.j)
+cast-box_at : tie.Need-overflow_cast-part invariant-loop decreases-loop
+cast-box_at c = omega (arith, c.shared_slice_known-in-loop-j-1.given c.before.before.loop-j.j)
 
-box-at-requires : tie.Need-box-at-requires invariant-loop decreases-loop
-box-at-requires c κs = c.before.before.before.before.before.requires c.before.before.loop.j (omega (arith, c.before.loop-test.true))
+box_at-requires : tie.Need-box_at-b-requires invariant-loop decreases-loop
+box_at-requires c κs = c.before.before.before.before.before.requires c.before.before.loop-j.j (omega (arith, c.before.loop-j-test.true))
 
-loop-again : tie.Need-loop-preserved invariant-loop decreases-loop
+loop-again : tie.Need-loop-j-preserved invariant-loop decreases-loop
 loop-again c =
-    let l = c.before.before.before.before.loop in (
-      capped_more _ _ _ l.j _ _ _ l.invariant.0 c.before.box-at.ensures c.higher.ensures,
+    let l = c.before.before.before.before.loop-j in (
+      capped_more _ _ _ l.j _ _ _ l.invariant.0 c.before.box_at-b.ensures c.higher-highest.ensures,
       search rules,
-      omega (arith, c.before.before.before.loop-test.true),
+      omega (arith, c.before.before.before.loop-j-test.true),
     )
 
 returns : tie.Need-returns invariant-loop decreases-loop
 returns c =
-    let l = c.before.loop in
-    (l.invariant.0.first, (λ k h. l.invariant.0.each k (omega (arith, c.loop-test.false))))
+    let l = c.before.loop-j in
+    (l.invariant.0.first, (λ k h. l.invariant.0.each k (omega (arith, c.loop-j-test.false))))
 
-pub crest-of-spec : {M : Type 1} → statement M
-crest-of-spec =
+pub crest_of_spec : {M : Type 1} → statement M
+crest_of_spec =
     tie.close
-    (tie.spec invariant-loop decreases-loop loop-holds mul-box-at shared-slice-read-box-at cast-box-at box-at-requires (λ c κs. tt) (λ c. omega arith)
+    (tie.spec invariant-loop decreases-loop loop-holds mul-box_at shared_slice_read-box_at cast-box_at box_at-requires (λ c κs. tt) (λ c. omega arith)
     (λ c. omega arith) loop-again returns)

@@ -12,6 +12,6 @@ returns c =
     let s = c.before.before.before in
     ap (λ (k : ℕ). le (num s.args.crests.now k) s.args.z) c.before.place_of.ensures.0
 
-pub is-low-spec : {M : Type 1} → statement M
-is-low-spec = tie.close (tie.spec (λ c κs. tt) (λ c. search rules)
+pub is_low_spec : {M : Type 1} → statement M
+is_low_spec = tie.close (tie.spec (λ c κs. tt) (λ c. search rules)
     (λ c. omega (arith, c.before.place_of.ensures.1, c.before.before.before.requires)) returns)

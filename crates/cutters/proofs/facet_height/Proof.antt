@@ -5,7 +5,7 @@ use Rattle.cutters.proofs.facet_height.Tie as tie
 
 returns : tie.Need-returns
 unfolding facet_height
-returns c = c.spot-height.ensures ∙ ap (spot_height _ _) c.before.bary.ensures
+returns c = c.spot_height.ensures ∙ ap (spot_height _ _) c.before.bary.ensures
 
-pub facet-height-spec : {M : Type 1} → statement M
-facet-height-spec = tie.close (tie.spec (λ c κs. tt) (λ c κs. tt) returns)
+pub facet_height_spec : {M : Type 1} → statement M
+facet_height_spec = tie.close (tie.spec (λ c κs. tt) (λ c κs. tt) returns)

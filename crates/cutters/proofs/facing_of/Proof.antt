@@ -5,13 +5,13 @@ use Rattle.cutters.specs.Touch.{facing_of}
 use Rattle.cutters.proofs.facing_of.Statement.{statement}
 use Rattle.cutters.proofs.facing_of.Tie as tie
 
-returns : tie.Need-returns
+returns : tie.Need-returns-then-abs
 unfolding facing_of
-returns c = taken _ _ _ _ (called_lt _ _ _ _ c.before.before.abs.ensures c.before.if1.true) (ap Leaning c.gradient-of.ensures)
+returns c = taken _ _ _ _ (called_lt _ _ _ _ c.before.before.abs.ensures c.before.if-abs.true) (ap Leaning c.gradient_of.ensures)
 
-returns-2 : tie.Need-returns-2
+returns-2 : tie.Need-returns-else-abs
 unfolding facing_of
-returns-2 c = left _ _ _ _ (called_lt _ _ _ _ c.before.abs.ensures c.if1.false) refl
+returns-2 c = left _ _ _ _ (called_lt _ _ _ _ c.before.abs.ensures c.if-abs.false) refl
 
-pub facing-of-spec : {M : Type 1} → statement M
-facing-of-spec = tie.close (tie.spec (λ c κs. tt) (λ c κs. tt) returns returns-2)
+pub facing_of_spec : {M : Type 1} → statement M
+facing_of_spec = tie.close (tie.spec (λ c κs. tt) (λ c κs. tt) returns returns-2)

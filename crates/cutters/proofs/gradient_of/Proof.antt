@@ -6,5 +6,5 @@ returns : tie.Need-returns
 unfolding gradient_of
 returns c = rw c.hypot.ensures
 
-pub gradient-of-spec : {M : Type 1} → statement M
-gradient-of-spec = tie.close (tie.spec (λ c κs. tt) returns)
+pub gradient_of_spec : {M : Type 1} → statement M
+gradient_of_spec = tie.close (tie.spec (λ c κs. tt) returns)

@@ -4,18 +4,18 @@ use Rattle.cutters.specs.Touch.{reached_of, crossed_of}
 use Rattle.cutters.proofs.reached.Statement.{statement}
 use Rattle.cutters.proofs.reached.Tie as tie
 
-returns : tie.Need-returns
+returns : tie.Need-returns-then-qa
 unfolding reached_of
-returns c = taken _ _ _ _ c.if1.true refl
+returns c = taken _ _ _ _ c.if-qa.true refl
 
-returns-2 : tie.Need-returns-2
+returns-2 : tie.Need-returns-then-disc
 unfolding reached_of
-returns-2 c = left _ _ _ _ c.before.if1.false (taken _ _ _ _ c.if2.true refl)
+returns-2 c = left _ _ _ _ c.before.if-qa.false (taken _ _ _ _ c.if-disc.true refl)
 
-returns-3 : tie.Need-returns-3
+returns-3 : tie.Need-returns
 unfolding reached_of
-returns-3 c = left _ _ _ _ c.before.before.before.if1.false
-    (left _ _ _ _ c.before.before.if2.false (c.crossed.ensures ∙ ap (crossed_of _ _) c.before.root.ensures))
+returns-3 c = left _ _ _ _ c.before.before.before.if-qa.false
+    (left _ _ _ _ c.before.before.if-disc.false (c.crossed.ensures ∙ ap (crossed_of _ _) c.before.root.ensures))
 
-pub reached-spec : {M : Type 1} → statement M
-reached-spec = tie.close (tie.spec returns returns-2 (λ c κs. tt) (λ c κs. tt) returns-3)
+pub reached_spec : {M : Type 1} → statement M
+reached_spec = tie.close (tie.spec returns returns-2 (λ c κs. tt) (λ c κs. tt) returns-3)

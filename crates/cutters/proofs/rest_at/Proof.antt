@@ -7,5 +7,5 @@ returns : tie.Need-returns
 unfolding rest_of
 returns c = refl
 
-pub rest-at-spec : {M : Type 1} → statement M
-rest-at-spec = tie.close (tie.spec returns)
+pub rest_at_spec : {M : Type 1} → statement M
+rest_at_spec = tie.close (tie.spec returns)

@@ -4,13 +4,13 @@ use Rattle.cutters.specs.Touch.{spot_height}
 use Rattle.cutters.proofs.spot_height.Statement.{statement}
 use Rattle.cutters.proofs.spot_height.Tie as tie
 
-returns : tie.Need-returns
+returns : tie.Need-returns-in-Nowhere
 unfolding spot_height
-returns c = ap (spot_height _ _) (sym c.enum_told.given.1)
+returns c = ap (spot_height _ _) (sym c.enum_told-1.given.1)
 
-returns-2 : tie.Need-returns-2
+returns-2 : tie.Need-returns-in-At
 unfolding spot_height
-returns-2 c = c.weighed.ensures ∙ ap (spot_height _ _) (sym c.before.before.s.given.1)
+returns-2 c = c.weighed.ensures ∙ ap (spot_height _ _) (sym c.before.before.s-1.given.1)
 
-pub spot-height-spec : {M : Type 1} → statement M
-spot-height-spec = tie.close (tie.spec (λ c. search rules) (λ c. search rules) (λ c κs. tt) returns returns-2)
+pub spot_height_spec : {M : Type 1} → statement M
+spot_height_spec = tie.close (tie.spec (λ c. search rules) (λ c. search rules) (λ c κs. tt) returns returns-2)

@@ -7,42 +7,42 @@ use Rattle.desk.proofs.Left.{narrow, refused_left, accepted_left}
 use Rattle.desk.proofs.mandrikelo_build.Statement.{statement}
 use Rattle.desk.proofs.mandrikelo_build.Tie as tie
 
-returns : tie.Need-returns
+returns : tie.Need-returns-then-k-ne0
 returns c =
-    let b = c.before.before.before.before.before.before.before.before.before.before.build in
-    let some = c.before.before.if1.true in (
+    let b = c.before.before.before.before.before.before.before.before.before.before.build-b in
+    let some = c.before.before.if-k-ne0.true in (
       refused_left (outcome b.result b.new.1.1.1.0 b.new.1.1.1.1.0 b.new.1.1.1.1.1.0) some
           ∙ ap built_left_by b.ensures.0,
       record { sound = λ none. absurd (some none); built = λ none. absurd (some none) },
     )
 
-cast-t22 : tie.Need-overflow-cast-t22
+cast-t22 : tie.Need-overflow_cast-sizes
 cast-t22 c =
-    let b = c.before.before.before.before.before.before.before.before.before.before.before.build in
-    record { fits = (narrow b.result.header (b.ensures.1.sound c.before.before.before.if1.false).ranges).n }
+    let b = c.before.before.before.before.before.before.before.before.before.before.before.build-b in
+    record { fits = (narrow b.result.header (b.ensures.1.sound c.before.before.before.if-k-ne0.false).ranges).n }
 
-cast-t23 : tie.Need-overflow-cast-t23
+cast-t23 : tie.Need-overflow_cast-sizes-2
 cast-t23 c =
-    let b = c.before.before.before.before.before.before.before.before.before.before.before.before.build in
-    record { fits = (narrow b.result.header (b.ensures.1.sound c.before.before.before.before.if1.false).ranges).columns }
+    let b = c.before.before.before.before.before.before.before.before.before.before.before.before.build-b in
+    record { fits = (narrow b.result.header (b.ensures.1.sound c.before.before.before.before.if-k-ne0.false).ranges).columns }
 
-cast-t24 : tie.Need-overflow-cast-t24
+cast-t24 : tie.Need-overflow_cast-sizes-3
 cast-t24 c =
-    let b = c.before.before.before.before.before.before.before.before.before.before.before.before.before.build in
-    record { fits = (narrow b.result.header (b.ensures.1.sound c.before.before.before.before.before.if1.false).ranges).rows }
+    let b = c.before.before.before.before.before.before.before.before.before.before.before.before.before.build-b in
+    record { fits = (narrow b.result.header (b.ensures.1.sound c.before.before.before.before.before.if-k-ne0.false).ranges).rows }
 
-returns-2 : tie.Need-returns-2
+returns-2 : tie.Need-returns
 unfolding header_from
 returns-2 c =
-    let b = c.before.before.before.before.before.before.before.before.before.before.before.before.before.before.build in
-    let zero = c.before.before.before.before.before.before.if1.false in (
+    let b = c.before.before.before.before.before.before.before.before.before.before.before.before.before.before.build-b in
+    let zero = c.before.before.before.before.before.before.if-k-ne0.false in (
       accepted_left (outcome b.result b.new.1.1.1.0 b.new.1.1.1.1.0 b.new.1.1.1.1.1.0) zero
           ∙ ap built_left_by b.ensures.0,
       b.ensures.1,
     )
 
-pub mandrikelo-build-spec : {M : Type 1} → statement M
-mandrikelo-build-spec =
+pub mandrikelo_build_spec : {M : Type 1} → statement M
+mandrikelo_build_spec =
     tie.close
     (tie.spec
     (λ c κs. tt)

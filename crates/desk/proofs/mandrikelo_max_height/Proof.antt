@@ -12,13 +12,13 @@ returns : tie.Need-returns
 returns c =
     let b = c.before.before.before.before.before.before.before in
     let a = b.before.before.before.before.before.before.args in
-    let q = c.before.before.before.before.before.max-height in
-    height_told b.header-from.result (header_from a.measures.now a.sizes.now) b.header-from.ensures
+    let q = c.before.before.before.before.before.max_height-a in
+    height_told b.header_from.result (header_from a.measures.now a.sizes.now) b.header_from.ensures
     (λ h. max_height_of (index_of a.mesh.now h a.starts.now a.members.now a.boxes.now) a.marks.now a.stamp
     (sweep a.px a.py a.qx a.qy a.r))
     (λ h w. DiskPromise (index_of a.mesh.now h a.starts.now a.members.now a.boxes.now) a.marks.now a.stamp
     (sweep a.px a.py a.qx a.qy a.r) w)
     q.result _ q.ensures.0 q.ensures.1
 
-pub mandrikelo-max-height-spec : {M : Type 1} → statement M
-mandrikelo-max-height-spec = tie.close (tie.spec (λ c κs. tt) (λ c κs. tt) (λ c. search rules) returns)
+pub mandrikelo_max_height_spec : {M : Type 1} → statement M
+mandrikelo_max_height_spec = tie.close (tie.spec (λ c κs. tt) (λ c κs. tt) (λ c. search rules) returns)

@@ -10,13 +10,13 @@ returns : tie.Need-returns
 returns c =
     let b = c.before.before.before.before.before.before.before in
     let a = b.before.before.before.before.before.before.before.args in
-    let q = c.before.before.before.before.before.max-sections in
-    height_told b.header-from.result (header_from a.measures.now a.sizes.now) b.header-from.ensures
+    let q = c.before.before.before.before.before.max_sections-a in
+    height_told b.header_from.result (header_from a.measures.now a.sizes.now) b.header_from.ensures
     (λ h. max_sections_of (index_of a.mesh.now h a.starts.now a.members.now a.boxes.now) a.marks.now a.stamp a.px
     a.py a.sections.now)
     (λ h w. SectionsPromise (index_of a.mesh.now h a.starts.now a.members.now a.boxes.now) a.marks.now a.stamp a.px
     a.py a.sections.now w)
     q.result _ q.ensures.0 q.ensures.1
 
-pub mandrikelo-max-sections-spec : {M : Type 1} → statement M
-mandrikelo-max-sections-spec = tie.close (tie.spec (λ c κs. tt) (λ c κs. tt) (λ c. search rules) returns)
+pub mandrikelo_max_sections_spec : {M : Type 1} → statement M
+mandrikelo_max_sections_spec = tie.close (tie.spec (λ c κs. tt) (λ c κs. tt) (λ c. search rules) returns)

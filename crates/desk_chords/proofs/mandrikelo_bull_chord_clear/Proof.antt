@@ -11,12 +11,12 @@ returns : tie.Need-returns
 returns c =
     let b = c.before.before.before.before.before.before in
     let a = b.before.before.before.before.before.before.args in
-    let q = c.before.before.before.before.bull-chord-clear in
+    let q = c.before.before.before.before.bull_chord_clear-a in
     let m : Chord = record { ax = a.ax; ay = a.ay; az = a.az; bx = a.bx; by = a.by; bz = a.bz; lift = a.lift } in
-    verdict_told b.header-from.result (header_from a.measures.now a.sizes.now) b.header-from.ensures
+    verdict_told b.header_from.result (header_from a.measures.now a.sizes.now) b.header_from.ensures
     (λ h. bull_chord_of (index_of a.mesh.now h a.starts.now a.members.now a.boxes.now) a.marks.now a.stamp m a.r a.rc)
     (λ h w. BullChordPromise (index_of a.mesh.now h a.starts.now a.members.now a.boxes.now) a.marks.now a.stamp m a.r a.rc w)
-    q.result _ c.before.finding-number.result c.before.finding-number.ensures q.ensures.0 q.ensures.1
+    q.result _ c.before.finding_number-verdict.result c.before.finding_number-verdict.ensures q.ensures.0 q.ensures.1
 
-pub mandrikelo-bull-chord-clear-spec : {M : Type 1} → statement M
-mandrikelo-bull-chord-clear-spec = tie.close (tie.spec (λ c κs. tt) (λ c κs. tt) (λ c κs. tt) (λ c. search rules) returns)
+pub mandrikelo_bull_chord_clear_spec : {M : Type 1} → statement M
+mandrikelo_bull_chord_clear_spec = tie.close (tie.spec (λ c κs. tt) (λ c κs. tt) (λ c κs. tt) (λ c. search rules) returns)

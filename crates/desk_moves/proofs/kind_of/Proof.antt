@@ -4,13 +4,13 @@ use Rattle.desk_moves.specs.Doors.{kind_left}
 use Rattle.desk_moves.proofs.kind_of.Statement.{statement}
 use Rattle.desk_moves.proofs.kind_of.Tie as tie
 
-returns : tie.Need-returns
+returns : tie.Need-returns-in-Nothing
 unfolding kind_left
-returns c = sym (ap kind_left c.enum_told.given.1)
+returns c = sym (ap kind_left c.enum_told-1.given.1)
 
-returns-2 : tie.Need-returns-2
+returns-2 : tie.Need-returns-in-Go
 unfolding kind_left
-returns-2 c = c.kind-number.ensures ∙ sym (ap kind_left c.before.before.s.given.1)
+returns-2 c = c.kind_number.ensures ∙ sym (ap kind_left c.before.before.s-1.given.1)
 
-pub kind-of-spec : {M : Type 1} → statement M
-kind-of-spec = tie.close (tie.spec (λ c. search rules) (λ c. search rules) (λ c κs. tt) returns returns-2)
+pub kind_of_spec : {M : Type 1} → statement M
+kind_of_spec = tie.close (tie.spec (λ c. search rules) (λ c. search rules) (λ c κs. tt) returns returns-2)

@@ -7,5 +7,5 @@ returns : tie.Need-returns
 unfolding state_from
 returns c = cc
 
-pub state-from-spec : {M : Type 1} → statement M
-state-from-spec = tie.close (tie.spec (λ c κs. tt) (λ c. search rules) (λ c κs. tt) (λ c. search rules) (λ c. search rules) returns)
+pub state_from_spec : {M : Type 1} → statement M
+state_from_spec = tie.close (tie.spec (λ c κs. tt) (λ c. search rules) (λ c κs. tt) (λ c. search rules) (λ c. search rules) returns)

@@ -12,8 +12,8 @@ returns c =
     let k : Bull = record { x = a.px; y = a.py; r = a.r; rc = a.rc } in
     c.lay.ensures
     ∙ ap contact_left_by
-    (c.before.before.before.bull-contact-above.ensures
-    ∙ ap (λ t. bull_contact_above t k a.floor) c.before.before.before.before.triangle-at.ensures)
+    (c.before.before.before.bull_contact_above.ensures
+    ∙ ap (λ t. bull_contact_above t k a.floor) c.before.before.before.before.triangle_at.ensures)
 
-pub mandrikelo-bull-contact-spec : {M : Type 1} → statement M
-mandrikelo-bull-contact-spec = tie.close (tie.spec (λ c κs. search rules) (λ c κs. tt) (λ c κs. tt) returns)
+pub mandrikelo_bull_contact_spec : {M : Type 1} → statement M
+mandrikelo_bull_contact_spec = tie.close (tie.spec (λ c κs. search rules) (λ c κs. tt) (λ c κs. tt) returns)

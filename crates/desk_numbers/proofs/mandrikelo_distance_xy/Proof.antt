@@ -7,7 +7,7 @@ use Rattle.desk_numbers.proofs.mandrikelo_distance_xy.Tie as tie
 returns : tie.Need-returns
 returns c =
     let a = c.before.before.before.args in
-    c.distance-xy.ensures ∙ ap (λ t. distance_xy t a.x a.y) c.before.triangle-at.ensures
+    c.distance_xy.ensures ∙ ap (λ t. distance_xy t a.x a.y) c.before.triangle_at.ensures
 
-pub mandrikelo-distance-xy-spec : {M : Type 1} → statement M
-mandrikelo-distance-xy-spec = tie.close (tie.spec (λ c κs. search rules) (λ c κs. tt) returns)
+pub mandrikelo_distance_xy_spec : {M : Type 1} → statement M
+mandrikelo_distance_xy_spec = tie.close (tie.spec (λ c κs. search rules) (λ c κs. tt) returns)

@@ -10,8 +10,8 @@ returns c =
     let a = c.before.before.before.before.before.before.args in
     c.lay.ensures
     ∙ ap contact_left_by
-    (c.before.before.before.max-in-capsule.ensures
-    ∙ ap (λ t. max_in_capsule t a.px a.py a.qx a.qy a.r a.eps) c.before.before.before.before.triangle-at.ensures)
+    (c.before.before.before.max_in_capsule.ensures
+    ∙ ap (λ t. max_in_capsule t a.px a.py a.qx a.qy a.r a.eps) c.before.before.before.before.triangle_at.ensures)
 
-pub mandrikelo-max-in-capsule-spec : {M : Type 1} → statement M
-mandrikelo-max-in-capsule-spec = tie.close (tie.spec (λ c κs. search rules) (λ c κs. tt) (λ c κs. tt) returns)
+pub mandrikelo_max_in_capsule_spec : {M : Type 1} → statement M
+mandrikelo_max_in_capsule_spec = tie.close (tie.spec (λ c κs. search rules) (λ c κs. tt) (λ c κs. tt) returns)

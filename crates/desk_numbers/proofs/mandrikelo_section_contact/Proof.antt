@@ -11,11 +11,11 @@ returns c =
     let a = c.before.before.before.before.before.before.before.before.before.before.args in
     c.lay.ensures
     ∙ ap contact_left_by
-    (c.before.before.before.section-contact.ensures
-    ∙ ap (λ t. section_contact t a.px a.py (section_from a.section.now)) c.before.before.before.before.triangle-at.ensures)
+    (c.before.before.before.section_contact.ensures
+    ∙ ap (λ t. section_contact t a.px a.py (section_from a.section.now)) c.before.before.before.before.triangle_at.ensures)
 
-pub mandrikelo-section-contact-spec : {M : Type 1} → statement M
-mandrikelo-section-contact-spec =
+pub mandrikelo_section_contact_spec : {M : Type 1} → statement M
+mandrikelo_section_contact_spec =
     tie.close
     (tie.spec
     (λ c. search rules)

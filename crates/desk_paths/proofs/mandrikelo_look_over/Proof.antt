@@ -11,11 +11,11 @@ returns c =
     let q = c.before.before.before.before.before.before in
     let b = q.before.before in
     let a = b.before.before.before.before.before.before.before.before.args in
-    look_told b.header-from.result (header_from a.measures.now a.sizes.now) b.header-from.ensures
+    look_told b.header_from.result (header_from a.measures.now a.sizes.now) b.header_from.ensures
     (λ h. index_of a.mesh.now h a.starts.now a.members.now a.boxes.now) a.bytes.now a.sections.now a.tolerance
     (λ ix. look_over_of a.bytes.now ix a.marks.now a.sections.now a.tolerance)
-    q.look-over.result _ _ _ _ c.before.before.before.verdict-number.ensures c.before.before.bad-number.ensures
-    c.before.reason-number.ensures q.look-over.ensures.0 q.look-over.ensures.1.0
+    q.look_over-a.result _ _ _ _ c.before.before.before.verdict_number-verdict.ensures c.before.before.bad_number-bad.ensures
+    c.before.reason_number-reason.ensures q.look_over-a.ensures.0 q.look_over-a.ensures.1.0
 
-pub mandrikelo-look-over-spec : {M : Type 1} → statement M
-mandrikelo-look-over-spec = tie.close (tie.spec (λ c κs. tt) (λ c κs. tt) (λ c κs. tt) (λ c κs. tt) (λ c κs. tt) (λ c. search rules) returns)
+pub mandrikelo_look_over_spec : {M : Type 1} → statement M
+mandrikelo_look_over_spec = tie.close (tie.spec (λ c κs. tt) (λ c κs. tt) (λ c κs. tt) (λ c κs. tt) (λ c κs. tt) (λ c. search rules) returns)

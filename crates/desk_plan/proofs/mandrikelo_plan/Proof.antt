@@ -15,25 +15,25 @@ returns : tie.Need-returns
 returns c =
     let n = c.before.before in
     let d = n.before.before.before.before.before.before.before.before.before in
-    let q = d.plan-along in
+    let q = d.plan_along-a in
     let b = d.before.before.before.before in
     let a = b.before.before.before.before.before.before.before.before.before.args in
     let along : Header → Parameters → _ = λ h p. plan_along (index_of a.mesh.now h a.starts.now a.members.now a.boxes.now) a.marks.now
     a.levels.now a.runs.now p a.axis in
     let e = q.ensures.0
-    ∙ ap (λ (h : Header). along h b.parameters-from.result) b.before.header-from.ensures
-    ∙ ap (λ (p : Parameters). along (header_from a.measures.now a.sizes.now) p) b.parameters-from.ensures in
+    ∙ ap (λ (h : Header). along h b.parameters_from-p.result) b.before.header_from-h.ensures
+    ∙ ap (λ (p : Parameters). along (header_from a.measures.now a.sizes.now) p) b.parameters_from-p.ensures in
     let lost : Header → Parameters → Type 0 = λ h p. q.result.refusal ≡ 0
     → NothingLost (index_of a.mesh.now h a.starts.now a.members.now a.boxes.now) p (axis_from a.axis) q.result in
-    let f = subst (λ (p : Parameters). lost (header_from a.measures.now a.sizes.now) p) b.parameters-from.ensures
-    (subst (λ (h : Header). lost h b.parameters-from.result) b.before.header-from.ensures q.ensures.1) in
+    let f = subst (λ (p : Parameters). lost (header_from a.measures.now a.sizes.now) p) b.parameters_from-p.ensures
+    (subst (λ (h : Header). lost h b.parameters_from-p.result) b.before.header_from-h.ensures q.ensures.1) in
     let o = outcome q.result q.new.1.1.1.1.1.1.0 q.new.1.1.1.1.1.1.1.0 q.new.1.1.1.1.1.0 in (
-      laid o _ _ _ n.before.before.narrow.ensures n.before.narrow2.ensures n.narrow3.ensures ∙ ap plan_left_by e,
+      laid o _ _ _ n.before.before.narrow-level_count.ensures n.before.narrow-row_count.ensures n.narrow-run_count.ensures ∙ ap plan_left_by e,
       (along_never _ _ _ _ _ _ o e, lost_laid _ _ _ q.result _ refl refl f),
     )
 
-pub mandrikelo-plan-spec : {M : Type 1} → statement M
-mandrikelo-plan-spec =
+pub mandrikelo_plan_spec : {M : Type 1} → statement M
+mandrikelo_plan_spec =
     tie.close
     (tie.spec
     (λ c κs. tt)

@@ -7,8 +7,8 @@ returns : tie.Need-returns
 unfolding parameters_from
 returns c = cc
 
-pub parameters-from-spec : {M : Type 1} → statement M
-parameters-from-spec =
+pub parameters_from_spec : {M : Type 1} → statement M
+parameters_from_spec =
     tie.close
     (tie.spec
     (λ c. search rules)

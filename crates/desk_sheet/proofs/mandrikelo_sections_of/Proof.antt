@@ -26,9 +26,9 @@ unfolding sheet_left_by
 returns c =
     let q = c.before.before.before in
     let f = q.before.before in
-    let s = f.before.shape-from.ensures.0 in
-    let e = q.sections-of.ensures in
-    (left_is _ _ _ _ _ _ _ _ _ e.0 s f.sheet-from.ensures, (e.1.0, λ z k. encloses_is _ _ _ _ _ (e.1.1 z) s f.sheet-from.ensures k))
+    let s = f.before.shape_from.ensures.0 in
+    let e = q.sections_of-a.ensures in
+    (left_is _ _ _ _ _ _ _ _ _ e.0 s f.sheet_from.ensures, (e.1.0, λ z k. encloses_is _ _ _ _ _ (e.1.1 z) s f.sheet_from.ensures k))
 
-pub mandrikelo-sections-of-spec : {M : Type 1} → statement M
-mandrikelo-sections-of-spec = tie.close (tie.spec (λ c κs. tt) (λ c κs. tt) (λ c κs. tt) (λ c. search rules) returns)
+pub mandrikelo_sections_of_spec : {M : Type 1} → statement M
+mandrikelo_sections_of_spec = tie.close (tie.spec (λ c κs. tt) (λ c κs. tt) (λ c κs. tt) (λ c. search rules) returns)

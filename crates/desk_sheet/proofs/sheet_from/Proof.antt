@@ -8,8 +8,8 @@ returns : tie.Need-returns
 unfolding sheet_from
 returns c = refl
 
-pub sheet-from-spec : {M : Type 1} → statement M
-sheet-from-spec =
+pub sheet_from_spec : {M : Type 1} → statement M
+sheet_from_spec =
     tie.close
     (tie.spec
     (λ c. search rules)

@@ -8,18 +8,18 @@ use Rattle.desk_um.proofs.header_from.Tie as tie
 returns : tie.Need-returns
 unfolding header_from
 returns c =
-    let x = c.before.before.before.before.before.before.before.before.before.before.before.before.before.before.before.x.given in
-    let y = c.before.before.before.before.before.before.before.before.before.before.before.before.before.before.y.given in
-    let f = c.before.before.before.before.before.before.before.before.before.before.before.before.before.floor.given in
-    let r = c.before.before.before.before.before.before.before.before.before.before.before.before.r.given in
+    let x = c.before.before.before.before.before.before.before.before.before.before.before.before.before.before.before.x-1.given in
+    let y = c.before.before.before.before.before.before.before.before.before.before.before.before.before.before.y-1.given in
+    let f = c.before.before.before.before.before.before.before.before.before.before.before.before.before.floor-1.given in
+    let r = c.before.before.before.before.before.before.before.before.before.before.before.before.r-1.given in
     rw (
       c.before.before.before.before.before.before.before.before.before.before.wide.ensures,
       c.before.before.before.before.before.before.before.before.before.count.ensures.0,
-      c.before.before.before.before.before.before.before.before.count2.ensures.0,
-      c.before.before.before.before.before.before.before.count3.ensures.0,
-      c.before.before.before.before.before.before.count4.ensures.0,
-      c.before.before.before.before.wide2.ensures,
-      c.before.before.wide3.ensures,
+      c.before.before.before.before.before.before.before.before.count-2.ensures.0,
+      c.before.before.before.before.before.before.before.count-3.ensures.0,
+      c.before.before.before.before.before.before.count-4.ensures.0,
+      c.before.before.before.before.wide-2.ensures,
+      c.before.before.wide-3.ensures,
       c.long.ensures,
       again _ x,
       again _ y,
@@ -27,8 +27,8 @@ returns c =
       again _ r,
     ) refl
 
-pub header-from-spec : {M : Type 1} → statement M
-header-from-spec =
+pub header_from_spec : {M : Type 1} → statement M
+header_from_spec =
     tie.close
     (tie.spec (λ c. search rules) (λ c. search rules) (λ c. search rules) (λ c. search rules) (λ c. search rules) (λ c κs. tt) (λ c κs. tt) (λ c κs. tt)
     (λ c κs. tt) (λ c κs. tt) (λ c. search rules) (λ c κs. tt) (λ c. search rules) (λ c κs. tt) (λ c. search rules) (λ c κs. tt) returns)

@@ -9,11 +9,11 @@ use Rattle.desk_um.proofs.mandrikelo_read_job_um.Tie as tie
 returns : tie.Need-returns
 returns c =
     let d = c.before.before in
-    let q = d.before.before.before.before.read-job-um in
-    let g = d.before.struct_told.given.1.1.1 in
+    let q = d.before.before.before.before.read_job_um-a in
+    let g = d.before.struct_told-1.given.1.1.1 in
     (job_left_lem _ _ _ _ _ (again _ g.0.1) (again _ g.1.0.1) ∙ ap job_left_by q.ensures.0, q.ensures.1)
 
-pub mandrikelo-read-job-um-spec : {M : Type 1} → statement M
-mandrikelo-read-job-um-spec =
+pub mandrikelo_read_job_um_spec : {M : Type 1} → statement M
+mandrikelo_read_job_um_spec =
     tie.close
     (tie.spec (λ c κs. tt) (λ c. search rules) (λ c. search rules) returns)

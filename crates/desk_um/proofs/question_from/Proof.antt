@@ -11,12 +11,12 @@ returns c =
     let f = d.before.before.ranges in
     question_is _ _ _ _ _ _ _ _ _ _
     (d.before.count.ensures.0 ∙ ap counted (again _ f.px.sfits))
-    (d.count2.ensures.0 ∙ ap counted (again _ f.py.sfits))
-    (c.before.before.count3.ensures.0 ∙ ap counted (again _ f.qx.sfits))
-    (c.before.count4.ensures.0 ∙ ap counted (again _ f.qy.sfits))
-    (c.count5.ensures.0 ∙ ap counted (again _ f.r.sfits))
+    (d.count-2.ensures.0 ∙ ap counted (again _ f.py.sfits))
+    (c.before.before.count-3.ensures.0 ∙ ap counted (again _ f.qx.sfits))
+    (c.before.count-4.ensures.0 ∙ ap counted (again _ f.qy.sfits))
+    (c.count-5.ensures.0 ∙ ap counted (again _ f.r.sfits))
 
-pub question-from-spec : {M : Type 1} → statement M
-question-from-spec =
+pub question_from_spec : {M : Type 1} → statement M
+question_from_spec =
     tie.close
     (tie.spec (λ c κs. tt) (λ c κs. tt) (λ c κs. tt) (λ c κs. tt) (λ c κs. tt) returns)

@@ -3,13 +3,13 @@ use Rattle.fields.specs.Room.{too_many}
 use Rattle.fields.proofs.too_many.Statement.{statement}
 use Rattle.fields.proofs.too_many.Tie as tie
 
-returns : tie.Need-returns
+returns : tie.Need-returns-then-count-gt-MOST
 unfolding too_many
 returns c = search branches
 
-returns-2 : tie.Need-returns-2
+returns-2 : tie.Need-returns
 unfolding too_many
 returns-2 c = search branches
 
-pub too-many-spec : {M : Type 1} → statement M
-too-many-spec = tie.close (tie.spec returns returns-2)
+pub too_many_spec : {M : Type 1} → statement M
+too_many_spec = tie.close (tie.spec returns returns-2)

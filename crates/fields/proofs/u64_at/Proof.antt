@@ -5,8 +5,8 @@ use Rattle.fields.proofs.u64_at.Statement.{statement}
 use Rattle.fields.proofs.u64_at.Tie as tie
 
 returns : tie.Need-returns
-returns c = joined _ _ 4 4 _ _ (omega arith) c.before.u32-at.ensures c.u32-at2.ensures
+returns c = joined _ _ 4 4 _ _ (omega arith) c.before.u32_at.ensures c.u32_at-2.ensures
 
-pub u64-at-spec : {M : Type 1} → statement M
-u64-at-spec = tie.close (tie.spec (λ c κs. search rules) (λ c. search rules) (λ c. search rules) (λ c κs. search rules) (λ c. search rules) (λ c. search rules)
+pub u64_at_spec : {M : Type 1} → statement M
+u64_at_spec = tie.close (tie.spec (λ c κs. search rules) (λ c. search rules) (λ c. search rules) (λ c κs. search rules) (λ c. search rules) (λ c. search rules)
     (λ c. search rules) returns)

@@ -11,27 +11,27 @@ use lib.Seq.{drop-length}
 use Rattle.fives.proofs.clear.Statement.{statement}
 use Rattle.fives.proofs.clear.Tie as tie
 
-abbrev invariant-loop : tie.invariant-loop
+abbrev invariant-loop : tie.invariant-loop-j
 invariant-loop table₀ j₀ j-end table j =
     (table ≡ replicate j f0 ++ drop j table₀) × (length table ≡ length table₀) × (j-end ≡ length table₀) × (j ≤ j-end)
 
-abbrev decreases-loop : tie.decreases-loop
+abbrev decreases-loop : tie.decreases-loop-j
 decreases-loop table₀ j₀ j-end table j = j-end - j
 
-loop-holds : tie.Need-loop-init invariant-loop decreases-loop
+loop-holds : tie.Need-loop-j-init invariant-loop decreases-loop
 loop-holds c = search rules
 
-loop-again : tie.Need-loop-preserved invariant-loop decreases-loop
+loop-again : tie.Need-loop-j-preserved invariant-loop decreases-loop
 loop-again c =
-    let l = c.before.loop in
+    let l = c.before.loop-j in
     (rw l.invariant.0 (clear_more l.j f0 _ (omega arith)), simp length-set l.invariant.1, search rules, search rules)
 
-same_length : tie.Need-same-length invariant-loop decreases-loop
-same_length c = c.before.loop.invariant.1
+same_length : tie.Need-shape_of-table invariant-loop decreases-loop
+same_length c = c.before.loop-j.invariant.1
 
 returns : tie.Need-returns invariant-loop decreases-loop
 returns c =
-    let l = c.before.loop in
+    let l = c.before.loop-j in
     let e : l.j ≡ length c.before.before.args.table.now = omega arith in
     l.invariant.0 ∙ simp (e, drop-length, append-nil)
 

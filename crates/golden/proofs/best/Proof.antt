@@ -6,5 +6,5 @@ returns : tie.Need-returns
 unfolding best_of
 returns c = cc
 
-pub best-spec : {M : Type 1} → statement M
-best-spec = tie.close (tie.spec (λ c κs. tt) (λ c κs. tt) (λ c κs. tt) returns)
+pub best_spec : {M : Type 1} → statement M
+best_spec = tie.close (tie.spec (λ c κs. tt) (λ c κs. tt) (λ c κs. tt) returns)

@@ -7,5 +7,5 @@ returns : tie.Need-returns
 unfolding bound_of
 returns c = refl
 
-pub bound-spec : {M : Type 1} → statement M
-bound-spec = tie.close (tie.spec returns)
+pub bound_spec : {M : Type 1} → statement M
+bound_spec = tie.close (tie.spec returns)

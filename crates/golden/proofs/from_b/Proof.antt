@@ -4,13 +4,13 @@ use Rattle.golden.specs.Upper.{from_b}
 use Rattle.golden.proofs.from_b.Statement.{statement}
 use Rattle.golden.proofs.from_b.Tie as tie
 
-returns : tie.Need-returns
+returns : tie.Need-returns-then-finite
 unfolding from_b
-returns c = taken _ _ _ _ (bool_called _ _ _ c.before.before.finite.ensures c.before.if1.true) (rw c.max.ensures)
+returns c = taken _ _ _ _ (bool_called _ _ _ c.before.before.finite.ensures c.before.if-finite.true) (rw c.max.ensures)
 
-returns-2 : tie.Need-returns-2
+returns-2 : tie.Need-returns
 unfolding from_b
-returns-2 c = left _ _ _ _ (bool_called _ _ _ c.before.finite.ensures c.if1.false) refl
+returns-2 c = left _ _ _ _ (bool_called _ _ _ c.before.finite.ensures c.if-finite.false) refl
 
-pub from-b-spec : {M : Type 1} → statement M
-from-b-spec = tie.close (tie.spec (λ c κs. tt) (λ c κs. tt) returns returns-2)
+pub from_b_spec : {M : Type 1} → statement M
+from_b_spec = tie.close (tie.spec (λ c κs. tt) (λ c κs. tt) returns returns-2)

@@ -3,11 +3,11 @@ use Rattle.rules.proofs.Branches.{branches}
 use Rattle.golden.proofs.held.Statement.{statement}
 use Rattle.golden.proofs.held.Tie as tie
 
-returns : tie.Need-returns
+returns : tie.Need-returns-then-old
 unfolding held_of
 returns c = search branches
 
-returns-2 : tie.Need-returns-2
+returns-2 : tie.Need-returns
 unfolding held_of
 returns-2 c = search branches
 

@@ -4,7 +4,7 @@ use Rattle.golden.proofs.outer.Tie as tie
 
 returns : tie.Need-returns
 unfolding outer_of
-returns c = rw (c.max4.ensures, c.before.max3.ensures, c.before.before.max2.ensures, c.before.before.before.max.ensures)
+returns c = rw (c.max-4.ensures, c.before.max-3.ensures, c.before.before.max-2.ensures, c.before.before.before.max.ensures)
 
-pub outer-spec : {M : Type 1} → statement M
-outer-spec = tie.close (tie.spec (λ c κs. tt) (λ c κs. tt) (λ c κs. tt) (λ c κs. tt) returns)
+pub outer_spec : {M : Type 1} → statement M
+outer_spec = tie.close (tie.spec (λ c κs. tt) (λ c κs. tt) (λ c κs. tt) (λ c κs. tt) returns)

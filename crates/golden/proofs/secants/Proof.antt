@@ -6,5 +6,5 @@ returns : tie.Need-returns
 unfolding secants_of
 returns c = cc
 
-pub secants-spec : {M : Type 1} → statement M
-secants-spec = tie.close (tie.spec (λ c κs. tt) (λ c κs. tt) (λ c κs. tt) (λ c κs. tt) (λ c κs. tt) returns)
+pub secants_spec : {M : Type 1} → statement M
+secants_spec = tie.close (tie.spec (λ c κs. tt) (λ c κs. tt) (λ c κs. tt) (λ c κs. tt) (λ c κs. tt) returns)

@@ -5,7 +5,7 @@ use Rattle.golden.proofs.upper_bound.Tie as tie
 
 returns : tie.Need-returns
 unfolding upper_of
-returns c = c.upper-from.ensures ∙ ap (upper_from _) c.before.best.ensures
+returns c = c.upper_from.ensures ∙ ap (upper_from _) c.before.best.ensures
 
-pub upper-bound-spec : {M : Type 1} → statement M
-upper-bound-spec = tie.close (tie.spec (λ c κs. tt) (λ c κs. tt) returns)
+pub upper_bound_spec : {M : Type 1} → statement M
+upper_bound_spec = tie.close (tie.spec (λ c κs. tt) (λ c κs. tt) returns)

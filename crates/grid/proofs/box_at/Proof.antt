@@ -8,8 +8,8 @@ returns : tie.Need-returns
 unfolding box_at
 returns c = refl
 
-pub box-at-spec : {M : Type 1} → statement M
-box-at-spec =
+pub box_at_spec : {M : Type 1} → statement M
+box_at_spec =
     tie.close
     (tie.spec (λ c. search rules) (λ c. search rules) (λ c. search rules) (λ c. search rules) (λ c. search rules) (λ c. search rules)
     (λ c. search rules) (λ c. search rules) (λ c. search rules) (λ c. search rules) (λ c. search rules) (λ c. search rules)

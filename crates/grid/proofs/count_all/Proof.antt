@@ -12,19 +12,19 @@ use Rattle.cells.proofs.Entries.{counted_all_none, counted_all_more, counted_all
 use Rattle.grid.proofs.count_all.Statement.{statement}
 use Rattle.grid.proofs.count_all.Tie as tie
 
-abbrev invariant-loop : tie.invariant-loop
+abbrev invariant-loop : tie.invariant-loop-i
 invariant-loop mesh n g starts₀ columns i₀ starts i = CountedAll (cover_of mesh g) i starts₀ starts × (i ≤ n)
 
-abbrev decreases-loop : tie.decreases-loop
+abbrev decreases-loop : tie.decreases-loop-i
 decreases-loop mesh n g starts₀ columns i₀ starts i = n - i
 
-cells-of-requires : tie.Need-cells-of-requires invariant-loop decreases-loop
-cells-of-requires c κs = let s = c.before.before.before.before.before in (omega (arith, s.requires.0), (s.requires.0.numbers, s.requires.0.near _ (omega arith)))
+cells_of-requires : tie.Need-cells_of-requires invariant-loop decreases-loop
+cells_of-requires c κs = let s = c.before.before.before.before.before in (omega (arith, s.requires.0), (s.requires.0.numbers, s.requires.0.near _ (omega arith)))
 
-count-cells-requires : tie.Need-count-cells-requires invariant-loop decreases-loop
-count-cells-requires c κs =
+count_cells-requires : tie.Need-count_cells-requires invariant-loop decreases-loop
+count_cells-requires c κs =
     let s = c.before.before.before.before.before.before in
-    let l = c.before.before.before.loop in
+    let l = c.before.before.before.loop-i in
     let lt : l.i < s.args.n = omega arith in
     subst⁻¹ (λ (b : Cells). Fitting s.args.g.columns b × Countable (covers s.args.g.columns b) l.starts) c.Cells-of.ensures (
       fitting _ _ _ s.requires.0 l.i,
@@ -39,17 +39,17 @@ count-cells-requires c κs =
       ),
     )
 
-loop-again : tie.Need-loop-preserved invariant-loop decreases-loop
+loop-again : tie.Need-loop-i-preserved invariant-loop decreases-loop
 loop-again c =
     let d = c.before.before.before in
-    let l = d.before.before.before.loop in
-    (counted_all_more _ _ _ _ _ l.invariant.0 (rw d.Cells-of.ensures at c.before.before.count-cells.ensures), omega arith)
+    let l = d.before.before.before.loop-i in
+    (counted_all_more _ _ _ _ _ l.invariant.0 (rw d.Cells-of.ensures at c.before.before.count_cells.ensures), omega arith)
 
 returns : tie.Need-returns invariant-loop decreases-loop
-returns c = counted_all_as _ _ _ _ _ (omega arith) c.before.loop.invariant.0
+returns c = counted_all_as _ _ _ _ _ (omega arith) c.before.loop-i.invariant.0
 
-pub count-all-spec : {M : Type 1} → statement M
-count-all-spec =
+pub count_all_spec : {M : Type 1} → statement M
+count_all_spec =
     tie.close
-    (tie.spec invariant-loop decreases-loop (λ c. (counted_all_none _ _, omega arith)) cells-of-requires count-cells-requires (λ c. omega arith) (λ c. omega arith) loop-again
-    (λ c. c.before.loop.invariant.0.size) returns)
+    (tie.spec invariant-loop decreases-loop (λ c. (counted_all_none _ _, omega arith)) cells_of-requires count_cells-requires (λ c. omega arith) (λ c. omega arith) loop-again
+    (λ c. c.before.loop-i.invariant.0.size) returns)

@@ -11,48 +11,48 @@ use Rattle.cells.proofs.Filling.{filled_none, filled_open, filled_more, filled_a
 use Rattle.grid.proofs.fill.Statement.{statement}
 use Rattle.grid.proofs.fill.Tie as tie
 
-abbrev invariant-loop : tie.invariant-loop
+abbrev invariant-loop : tie.invariant-loop-i
 invariant-loop mesh n g cells starts₀ members₀ columns i₀ starts members i =
     Filled (cover_of mesh g) n cells i starts₀ members₀ starts members × (i ≤ n)
 
-abbrev decreases-loop : tie.decreases-loop
+abbrev decreases-loop : tie.decreases-loop-i
 decreases-loop mesh n g cells starts₀ members₀ columns i₀ starts members i = i
 
-loop-holds : tie.Need-loop-init invariant-loop decreases-loop
+loop-holds : tie.Need-loop-i-init invariant-loop decreases-loop
 loop-holds c = (filled_none _ _ _ _ _ c.before.before.before.requires.1, omega arith)
 
-cells-of-requires : tie.Need-cells-of-requires invariant-loop decreases-loop
-cells-of-requires c κs = let s = c.before.before.before.before.before.before.before in
+cells_of-requires : tie.Need-cells_of-requires invariant-loop decreases-loop
+cells_of-requires c κs = let s = c.before.before.before.before.before.before.before in
     (omega (arith, s.requires.0), (s.requires.0.numbers, s.requires.0.near _ (omega arith)))
 
-cast-place-cells : tie.Need-overflow-cast-place-cells invariant-loop decreases-loop
-cast-place-cells c = let s = c.before.before.before.before.before.before.before.before in omega (arith, s.requires.0.few)
+cast-place_cells : tie.Need-overflow_cast-i invariant-loop decreases-loop
+cast-place_cells c = let s = c.before.before.before.before.before.before.before.before in omega (arith, s.requires.0.few)
 
-place-cells-requires : tie.Need-place-cells-requires invariant-loop decreases-loop
-place-cells-requires c κs =
+place_cells-requires : tie.Need-place_cells-requires invariant-loop decreases-loop
+place_cells-requires c κs =
     let s = c.before.before.before.before.before.before.before.before in
-    let l = c.before.before.before.before.loop in
+    let l = c.before.before.before.before.loop-i in
     let h : l.i - 1 < s.args.n = omega arith in
     subst⁻¹ (λ (b : Cells). Fitting s.args.g.columns b × Open (covers s.args.g.columns b) l.starts l.members) c.Cells-of.ensures
     (fitting _ _ _ s.requires.0 (l.i - 1), filled_open _ _ _ _ _ s.requires.1 _ _ _ h (filled_as _ _ _ _ _ _ _ _ _ (omega arith) l.invariant.0))
 
-loop-again : tie.Need-loop-preserved invariant-loop decreases-loop
+loop-again : tie.Need-loop-i-preserved invariant-loop decreases-loop
 loop-again c =
     let f = c.before.before.before.before in
     let d = f.before in
     let s = d.before.before.before.before.before.before.before.before in
-    let l = d.before.before.before.before.loop in
+    let l = d.before.before.before.before.loop-i in
     let h : l.i - 1 < s.args.n = omega arith in (
       filled_more _ _ _ _ _ s.requires.1 _ _ _ _ _ h (filled_as _ _ _ _ _ _ _ _ _ (omega arith) l.invariant.0)
-          (rw d.Cells-of.ensures at f.place-cells.ensures),
+          (rw d.Cells-of.ensures at f.place_cells.ensures),
       omega arith,
     )
 
 returns : tie.Need-returns invariant-loop decreases-loop
-returns c = filled_as _ _ _ _ _ _ _ _ _ (omega arith) c.before.loop.invariant.0
+returns c = filled_as _ _ _ _ _ _ _ _ _ (omega arith) c.before.loop-i.invariant.0
 
 pub fill_spec : {M : Type 1} → statement M
 fill_spec =
     tie.close
-    (tie.spec invariant-loop decreases-loop loop-holds (λ c. omega arith) cells-of-requires cast-place-cells place-cells-requires (λ c. omega arith) loop-again
-    (λ c. c.before.loop.invariant.0.cells') (λ c. c.before.loop.invariant.0.size) returns)
+    (tie.spec invariant-loop decreases-loop loop-holds (λ c. omega arith) cells_of-requires cast-place_cells place_cells-requires (λ c. omega arith) loop-again
+    (λ c. c.before.loop-i.invariant.0.cells') (λ c. c.before.loop-i.invariant.0.size) returns)

@@ -5,21 +5,21 @@ use Rattle.grid.proofs.Gridding.{grid_is, columns_are, rows_are}
 use Rattle.grid.proofs.grid_of.Statement.{statement}
 use Rattle.grid.proofs.grid_of.Tie as tie
 
-cells-along-requires : tie.Need-cells-along-requires
-cells-along-requires c κs =
+cells_along-requires : tie.Need-cells_along-columns-requires
+cells_along-requires c κs =
     let b = c.before.before in
-    omega (arith, columns_are _ _ _ _ _ _ b.extent-of.ensures c.before.span.ensures c.size.ensures, b.before.before.requires.1.1.0)
+    omega (arith, columns_are _ _ _ _ _ _ b.extent_of-e.ensures c.before.span.ensures c.size-size.ensures, b.before.before.requires.1.1.0)
 
-cells-along-requires-2 : tie.Need-cells-along-requires-2
-cells-along-requires-2 c κs =
+cells_along-requires-2 : tie.Need-cells_along-rows-requires
+cells_along-requires-2 c κs =
     let b = c.before.before.before in
-    omega (arith, rows_are _ _ _ _ _ _ b.extent-of.ensures c.before.before.span.ensures c.before.size.ensures, b.before.before.requires.1.1.1)
+    omega (arith, rows_are _ _ _ _ _ _ b.extent_of-e.ensures c.before.before.span.ensures c.before.size-size.ensures, b.before.before.requires.1.1.1)
 
 returns : tie.Need-returns
 returns c =
     let b = c.before.before.before.before in
-    grid_is _ _ _ _ _ _ b.extent-of.ensures c.before.before.before.span.ensures c.before.before.size.ensures _ _
-    c.before.cells-along.ensures c.cells-along2.ensures
+    grid_is _ _ _ _ _ _ b.extent_of-e.ensures c.before.before.before.span.ensures c.before.before.size-size.ensures _ _
+    c.before.cells_along-columns.ensures c.cells_along-rows.ensures
 
-pub grid-of-spec : {M : Type 1} → statement M
-grid-of-spec = tie.close (tie.spec (λ c κs. search rules) (λ c κs. tt) (λ c κs. tt) cells-along-requires cells-along-requires-2 returns)
+pub grid_of_spec : {M : Type 1} → statement M
+grid_of_spec = tie.close (tie.spec (λ c κs. search rules) (λ c κs. tt) (λ c κs. tt) cells_along-requires cells_along-requires-2 returns)

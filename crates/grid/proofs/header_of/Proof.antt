@@ -6,9 +6,9 @@ use Rattle.grid.proofs.header_of.Tie as tie
 
 returns : tie.Need-returns
 unfolding header_of
-returns c = rw c.eps.ensures
+returns c = rw c.eps-eps.ensures
 
-pub header-of-spec : {M : Type 1} → statement M
-header-of-spec =
+pub header_of_spec : {M : Type 1} → statement M
+header_of_spec =
     tie.close
     (tie.spec (λ c κs. search rules) returns)

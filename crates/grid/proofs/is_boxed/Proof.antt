@@ -8,5 +8,5 @@ returns : tie.Need-returns
 unfolding is_boxed
 returns c = refl
 
-pub is-boxed-spec : {M : Type 1} → statement M
-is-boxed-spec = tie.close (tie.spec (λ c. omega arith) returns)
+pub is_boxed_spec : {M : Type 1} → statement M
+is_boxed_spec = tie.close (tie.spec (λ c. omega arith) returns)

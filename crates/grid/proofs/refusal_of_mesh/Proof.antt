@@ -7,27 +7,27 @@ use Rattle.rules.proofs.Ladder.{ladder}
 use Rattle.grid.proofs.refusal_of_mesh.Statement.{statement}
 use Rattle.grid.proofs.refusal_of_mesh.Tie as tie
 
-returns : tie.Need-returns
+returns : tie.Need-returns-then-mesh-ne0
 unfolding refusal_of_mesh told_with
 returns c = (search ladder depth 9, refl)
 
-returns-2 : tie.Need-returns-2
+returns-2 : tie.Need-returns-then-n-gt-MOST
 unfolding refusal_of_mesh told_with
 returns-2 c = (search ladder depth 9, refl)
 
-returns-3 : tie.Need-returns-3
+returns-3 : tie.Need-returns-then-not-is_boxed
 unfolding refusal_of_mesh told_with
 returns-3 c = (search (ladder, bool_called) depth 9, refl)
 
-returns-4 : tie.Need-returns-4
+returns-4 : tie.Need-returns-then-n-eq0
 unfolding refusal_of_mesh told_with
 returns-4 c = (search (ladder, bool_called) depth 9, refl)
 
-returns-5 : tie.Need-returns-5
+returns-5 : tie.Need-returns
 unfolding refusal_of_mesh
-returns-5 c = let e = c.refusal-of-numbers.ensures.0 in (search (ladder, e, bool_called) depth 9, c.refusal-of-numbers.ensures.1)
+returns-5 c = let e = c.refusal_of_numbers.ensures.0 in (search (ladder, e, bool_called) depth 9, c.refusal_of_numbers.ensures.1)
 
-pub refusal-of-mesh-spec : {M : Type 1} → statement M
-refusal-of-mesh-spec =
+pub refusal_of_mesh_spec : {M : Type 1} → statement M
+refusal_of_mesh_spec =
     tie.close
     (tie.spec returns returns-2 (λ c κs. tt) returns-3 returns-4 (λ c κs. omega arith) returns-5)

@@ -19,7 +19,7 @@ use Rattle.halving.proofs.Halving.{splits_less, some_left, stack_ends, waiting_f
 use Rattle.halving.proofs.halve.Statement.{statement}
 use Rattle.halving.proofs.halve.Tie as tie
 
-abbrev invariant-loop : tie.invariant-loop
+abbrev invariant-loop : tie.invariant-loop-top
 invariant-loop mesh h starts members boxes crests marks₀ runs₀ a z bx₀ by₀ left₀ ax₀ ay₀ top₀ tally₀ stamp₀ marks runs bx by left ax ay top tally stamp =
     (taken_all (work runs tally) (waiting (clear (height_under (index_of mesh h starts members boxes)) a) a.least z ax ay (stack_of bx by left top)) ≡ taken_all
     (work runs₀ tally₀) (waiting (clear (height_under (index_of mesh h starts members boxes)) a) a.least z ax₀ ay₀ (stack_of bx₀ by₀ left₀ top₀)))
@@ -28,11 +28,11 @@ invariant-loop mesh h starts members boxes crests marks₀ runs₀ a z bx₀ by�
     × (length marks ≡ length marks₀)
     × (length runs ≡ length runs₀)
 
-abbrev decreases-loop : tie.decreases-loop
+abbrev decreases-loop : tie.decreases-loop-top
 decreases-loop mesh h starts members boxes crests marks₀ runs₀ a z bx₀ by₀ left₀ ax₀ ay₀ top₀ tally₀ stamp₀ marks runs bx by left ax ay top tally stamp =
     weight (stack_of bx by left top)
 
-loop-holds : tie.Need-loop-init invariant-loop decreases-loop
+loop-holds : tie.Need-loop-top-init invariant-loop decreases-loop
 loop-holds c = (
   refl,
   record { xs = refl; ys = refl; ls = refl; deep = λ i l. let e : i ≡ 0 = omega arith in rw e (lit≤ tt) },
@@ -42,33 +42,33 @@ loop-holds c = (
 )
 
 -- the top of the stack lies in the arrays
-inside : (c : tie.In-loop invariant-loop decreases-loop) → c.before.loop.top - 1 < 33
+inside : (c : tie.In-loop-top invariant-loop decreases-loop) → c.before.loop-top.top - 1 < 33
 inside c =
-    let l = c.before.loop in
+    let l = c.before.loop-top in
     omega (arith, l.invariant.1.deep (l.top - 1) (omega arith))
 
-judge-requires : tie.Need-judge-requires invariant-loop decreases-loop
+judge-requires : tie.Need-judge-j-requires invariant-loop decreases-loop
 judge-requires c κs = let s = c.before.before.before.before.before.before.before.before.before.before.before in
-    (s.requires.0, c.before.before.loop.invariant.2, s.requires.2)
+    (s.requires.0, c.before.before.loop-top.invariant.2, s.requires.2)
 
 -- whether the piece on top is halved
-told : (c : tie.After-judge invariant-loop decreases-loop) →
-    let l = c.before.before.before.loop in
+told : (c : tie.After-judge-j invariant-loop decreases-loop) →
+    let l = c.before.before.before.loop-top in
     let s = c.before.before.before.before.before.before.before.before.before.before.before.before in
     let r : Run = record { ax = l.ax; ay = l.ay; bx = num l.bx (l.top - 1); by = num l.by (l.top - 1); z = s.args.r.z } in
     splits_of (clear (height_under (index_of s.args.mesh.now s.args.h s.args.starts.now s.args.members.now s.args.boxes.now))
-    s.args.a r) s.args.a.least (get_or l.left (l.top - 1) 0) r ≡ c.judge.result.split
+    s.args.a r) s.args.a.least (get_or l.left (l.top - 1) 0) r ≡ c.judge-j.result.split
 told c =
-    let l = c.before.before.before.loop in
+    let l = c.before.before.before.loop-top in
     let s = c.before.before.before.before.before.before.before.before.before.before.before.before in
     let r : Run = record { ax = l.ax; ay = l.ay; bx = num l.bx (l.top - 1); by = num l.by (l.top - 1); z = s.args.r.z } in
-    ap (λ (b : Bool). splits_of b s.args.a.least (get_or l.left (l.top - 1) 0) r) (sym c.judge.ensures.0) ∙ sym c.judge.ensures.1
+    ap (λ (b : Bool). splits_of b s.args.a.least (get_or l.left (l.top - 1) 0) r) (sym c.judge-j.ensures.0) ∙ sym c.judge-j.ensures.1
 
 -- a piece that is halved has a halving left, and there is room for its half
-module _ (c : tie.After-first-half invariant-loop decreases-loop) where
-  halved_left : 0 < get_or c.before.before.before.before.before.before.before.loop.left
-      (c.before.before.before.before.before.before.before.loop.top - 1) 0
-  halved_left = let l = c.before.before.before.before.before.before.before.loop in some_left (clear (height_under (index_of
+module _ (c : tie.After-first_half-half invariant-loop decreases-loop) where
+  halved_left : 0 < get_or c.before.before.before.before.before.before.before.loop-top.left
+      (c.before.before.before.before.before.before.before.loop-top.top - 1) 0
+  halved_left = let l = c.before.before.before.before.before.before.before.loop-top in some_left (clear (height_under (index_of
       c.before.before.before.before.before.before.before.before.before.before.before.before.before.before.before.before.args.mesh.now
       c.before.before.before.before.before.before.before.before.before.before.before.before.before.before.before.before.args.h
       c.before.before.before.before.before.before.before.before.before.before.before.before.before.before.before.before.args.starts.now
@@ -77,10 +77,10 @@ module _ (c : tie.After-first-half invariant-loop decreases-loop) where
       c.before.before.before.before.before.before.before.before.before.before.before.before.before.before.before.before.args.a)
       c.before.before.before.before.before.before.before.before.before.before.before.before.before.before.before.before.args.a.least
       c.before.before.before.before.before.before.before.before.before.before.before.before.before.before.before.before.args.r.z l.bx
-      l.by l.left (l.top - 1) l.ax l.ay l.top (omega arith) l.invariant.1 (told c.before.before.before.before ∙ c.before.if1.true)
+      l.by l.left (l.top - 1) l.ax l.ay l.top (omega arith) l.invariant.1 (told c.before.before.before.before ∙ c.before.if-j.true)
 
-  halved_fits : c.before.before.before.before.before.before.before.loop.top < 33
-  halved_fits = let l = c.before.before.before.before.before.before.before.loop in split_fits (clear (height_under (index_of
+  halved_fits : c.before.before.before.before.before.before.before.loop-top.top < 33
+  halved_fits = let l = c.before.before.before.before.before.before.before.loop-top in split_fits (clear (height_under (index_of
       c.before.before.before.before.before.before.before.before.before.before.before.before.before.before.before.before.args.mesh.now
       c.before.before.before.before.before.before.before.before.before.before.before.before.before.before.before.before.args.h
       c.before.before.before.before.before.before.before.before.before.before.before.before.before.before.before.before.args.starts.now
@@ -89,12 +89,12 @@ module _ (c : tie.After-first-half invariant-loop decreases-loop) where
       c.before.before.before.before.before.before.before.before.before.before.before.before.before.before.before.before.args.a)
       c.before.before.before.before.before.before.before.before.before.before.before.before.before.before.before.before.args.a.least
       c.before.before.before.before.before.before.before.before.before.before.before.before.before.before.before.before.args.r.z l.bx
-      l.by l.left (l.top - 1) l.ax l.ay l.top (omega arith) l.invariant.1 (told c.before.before.before.before ∙ c.before.if1.true)
+      l.by l.left (l.top - 1) l.ax l.ay l.top (omega arith) l.invariant.1 (told c.before.before.before.before ∙ c.before.if-j.true)
 
-loop-less : tie.Need-loop-smaller invariant-loop decreases-loop
+loop-less : tie.Need-loop-top-smaller-then-j invariant-loop decreases-loop
 loop-less c =
-    let l = c.before.before.before.before.before.before.before.loop in
-    rw c.first-half.ensures
+    let l = c.before.before.before.before.before.before.before.loop-top in
+    rw c.first_half-half.ensures
     (splits_less (clear (height_under (index_of
     c.before.before.before.before.before.before.before.before.before.before.before.before.before.before.before.before.args.mesh.now
     c.before.before.before.before.before.before.before.before.before.before.before.before.before.before.before.before.args.h
@@ -103,13 +103,13 @@ loop-less c =
     c.before.before.before.before.before.before.before.before.before.before.before.before.before.before.before.before.args.a.least
     c.before.before.before.before.before.before.before.before.before.before.before.before.before.before.before.before.args.r.z
     l.bx l.by l.left (l.top - 1) l.ax l.ay l.top (omega arith) l.invariant.1 (told c.before.before.before.before
-    ∙ c.before.if1.true))
+    ∙ c.before.if-j.true))
 
-loop-again : tie.Need-loop-preserved invariant-loop decreases-loop
+loop-again : tie.Need-loop-top-preserved-then-j invariant-loop decreases-loop
 loop-again c =
-    let l = c.before.before.before.before.before.before.before.loop in
-    let h = told c.before.before.before.before ∙ c.before.if1.true in (
-      rw c.first-half.ensures (stack_splits (clear (height_under (index_of
+    let l = c.before.before.before.before.before.before.before.loop-top in
+    let h = told c.before.before.before.before ∙ c.before.if-j.true in (
+      rw c.first_half-half.ensures (stack_splits (clear (height_under (index_of
           c.before.before.before.before.before.before.before.before.before.before.before.before.before.before.before.before.args.mesh.now
           c.before.before.before.before.before.before.before.before.before.before.before.before.before.before.before.before.args.h
           c.before.before.before.before.before.before.before.before.before.before.before.before.before.before.before.before.args.starts.now c.before.before.before.before.before.before.before.before.before.before.before.before.before.before.before.before.args.members.now c.before.before.before.before.before.before.before.before.before.before.before.before.before.before.before.before.args.boxes.now))
@@ -117,7 +117,7 @@ loop-again c =
           c.before.before.before.before.before.before.before.before.before.before.before.before.before.before.before.before.args.a.least
           c.before.before.before.before.before.before.before.before.before.before.before.before.before.before.before.before.args.r.z
           l.bx l.by l.left (l.top - 1) l.ax l.ay l.top (omega arith) l.invariant.1 h _ _ l.invariant.0),
-      rw c.first-half.ensures (split_stacked (clear (height_under (index_of
+      rw c.first_half-half.ensures (split_stacked (clear (height_under (index_of
           c.before.before.before.before.before.before.before.before.before.before.before.before.before.before.before.before.args.mesh.now
           c.before.before.before.before.before.before.before.before.before.before.before.before.before.before.before.before.args.h
           c.before.before.before.before.before.before.before.before.before.before.before.before.before.before.before.before.args.starts.now c.before.before.before.before.before.before.before.before.before.before.before.before.before.before.before.before.args.members.now c.before.before.before.before.before.before.before.before.before.before.before.before.before.before.before.before.args.boxes.now))
@@ -125,40 +125,40 @@ loop-again c =
           c.before.before.before.before.before.before.before.before.before.before.before.before.before.before.before.before.args.a.least
           c.before.before.before.before.before.before.before.before.before.before.before.before.before.before.before.before.args.r.z
           l.bx l.by l.left (l.top - 1) l.ax l.ay l.top (omega arith) l.invariant.1 h),
-      c.before.before.before.before.judge.ensures.2,
+      c.before.before.before.before.judge-j.ensures.2,
       search rules,
       l.invariant.4,
     )
 
-loop-less-2 : tie.Need-loop-smaller-2 invariant-loop decreases-loop
+loop-less-2 : tie.Need-loop-top-smaller invariant-loop decreases-loop
 loop-less-2 c =
-    let l = c.before.before.before.before.before.before.before.before.before.before.loop in
+    let l = c.before.before.before.before.before.before.before.before.before.before.loop-top in
     let e : l.top ≡ l.top - 1 + 1 = omega arith in
     let h = takes_less (clear (height_under (index_of c.before.before.before.before.before.before.before.before.before.before.before.before.before.before.before.before.before.before.before.args.mesh.now c.before.before.before.before.before.before.before.before.before.before.before.before.before.before.before.before.before.before.before.args.h c.before.before.before.before.before.before.before.before.before.before.before.before.before.before.before.before.before.before.before.args.starts.now c.before.before.before.before.before.before.before.before.before.before.before.before.before.before.before.before.before.before.before.args.members.now
     c.before.before.before.before.before.before.before.before.before.before.before.before.before.before.before.before.before.before.before.args.boxes.now)) c.before.before.before.before.before.before.before.before.before.before.before.before.before.before.before.before.before.before.before.args.a) c.before.before.before.before.before.before.before.before.before.before.before.before.before.before.before.before.before.before.before.args.a.least c.before.before.before.before.before.before.before.before.before.before.before.before.before.before.before.before.before.before.before.args.r.z l.bx l.by l.left (l.top - 1) l.ax l.ay in
     falls l.bx l.by l.left l.top (l.top - 1) e h
 
-loop-again-2 : tie.Need-loop-preserved-2 invariant-loop decreases-loop
+loop-again-2 : tie.Need-loop-top-preserved invariant-loop decreases-loop
 loop-again-2 c =
-    let l = c.before.before.before.before.before.before.before.before.before.before.loop in
+    let l = c.before.before.before.before.before.before.before.before.before.before.loop-top in
     let s = c.before.before.before.before.before.before.before.before.before.before.before.before.before.before.before.before.before.before.before in
-    let e : l.top ≡ l.top - 1 + 1 = omega (arith, c.before.before.before.before.before.before.before.before.before.loop-test.true) in (
+    let e : l.top ≡ l.top - 1 + 1 = omega (arith, c.before.before.before.before.before.before.before.before.before.loop-top-test.true) in (
       stack_takes (clear (height_under (index_of s.args.mesh.now s.args.h s.args.starts.now s.args.members.now s.args.boxes.now))
           s.args.a) s.args.a.least s.args.r.z l.bx l.by l.left (l.top - 1) l.ax l.ay (work l.runs l.tally) _ _
-          (told c.before.before.before.before.before.before.before ∙ c.before.before.before.before.if1.false)
+          (told c.before.before.before.before.before.before.before ∙ c.before.before.before.before.if-j.false)
           (one_more _ _ _ _ _ _ l.top (l.top - 1) _ _ _ _ e l.invariant.0)
-          (c.before.before.take.ensures ∙ ap (λ (b : Bool). taken_by l.runs l.tally
+          (c.before.before.take-tally.ensures ∙ ap (λ (b : Bool). taken_by l.runs l.tally
           (record { ax = l.ax; ay = l.ay; bx = num l.bx (l.top - 1); by = num l.by (l.top - 1); z = s.args.r.z }) b)
-          c.before.before.before.before.before.before.before.judge.ensures.0),
+          c.before.before.before.before.before.before.before.judge-j.ensures.0),
       stacked_less _ _ _ l.top (l.top - 1) (omega arith) l.invariant.1,
-      c.before.before.before.before.before.before.before.judge.ensures.2,
+      c.before.before.before.before.before.before.before.judge-j.ensures.2,
       search rules,
       search rules,
     )
 
 returns : tie.Need-returns invariant-loop decreases-loop
 returns c =
-    let l = c.before.loop in
+    let l = c.before.loop-top in
     let s = c.before.before.before.before.before.before.before.before.before.before in (
       stack_ends _ _ _ _ _ _ l.top _ _ _ _ (omega arith) l.invariant.0
           ∙ ap (taken_all (work s.args.runs.now s.args.s.tally)) (waiting_first (clear (height_under (index_of s.args.mesh.now s.args.h
@@ -167,20 +167,20 @@ returns c =
       whole _ _ 32 s.args.r,
     )
 
-pub halve-spec : {M : Type 1} → statement M
-halve-spec =
+pub halve_spec : {M : Type 1} → statement M
+halve_spec =
     tie.close
     (tie.spec invariant-loop decreases-loop (λ c. search rules) (λ c. search rules) (λ c. search rules) loop-holds (λ c. omega arith)
-    (λ c. record { fits = omega (arith, inside c) }) (λ c. omega (arith, inside c, c.before.loop.invariant.1.xs))
-    (λ c. record { fits = omega (arith, inside c) }) (λ c. omega (arith, inside c, c.before.loop.invariant.1.ys))
-    (λ c. record { fits = omega (arith, inside c) }) (λ c. omega (arith, inside c, c.before.loop.invariant.1.ls))
+    (λ c. record { fits = omega (arith, inside c) }) (λ c. omega (arith, inside c, c.before.loop-top.invariant.1.xs))
+    (λ c. record { fits = omega (arith, inside c) }) (λ c. omega (arith, inside c, c.before.loop-top.invariant.1.ys))
+    (λ c. record { fits = omega (arith, inside c) }) (λ c. omega (arith, inside c, c.before.loop-top.invariant.1.ls))
     judge-requires (λ c κs. tt) (λ c. omega (arith, halved_left c))
     (λ c. record { fits = omega (arith, halved_fits c) })
-    (λ c. omega (arith, halved_fits c, c.before.before.before.before.before.before.before.loop.invariant.1.ls))
+    (λ c. omega (arith, halved_fits c, c.before.before.before.before.before.before.before.loop-top.invariant.1.ls))
     (λ c. record { fits = omega (arith, halved_fits c) })
-    (λ c. omega (arith, halved_fits c, c.before.before.before.before.before.before.before.loop.invariant.1.xs))
+    (λ c. omega (arith, halved_fits c, c.before.before.before.before.before.before.before.loop-top.invariant.1.xs))
     (λ c. record { fits = omega (arith, halved_fits c) })
-    (λ c. omega (arith, halved_fits c, c.before.before.before.before.before.before.before.loop.invariant.1.ys))
+    (λ c. omega (arith, halved_fits c, c.before.before.before.before.before.before.before.loop-top.invariant.1.ys))
     (λ c. omega (arith, halved_left c)) (λ c. record { fits = omega (arith, halved_fits c) }) (λ c. omega (arith, halved_fits c))
-    (λ c. omega (arith, halved_fits c)) loop-less loop-again (λ c κs. tt) loop-less-2 loop-again-2 (λ c. c.before.loop.invariant.3)
-    (λ c. c.before.loop.invariant.4) returns)
+    (λ c. omega (arith, halved_fits c)) loop-less loop-again (λ c κs. tt) loop-less-2 loop-again-2 (λ c. c.before.loop-top.invariant.3)
+    (λ c. c.before.loop-top.invariant.4) returns)

@@ -7,8 +7,8 @@ returns : tie.Need-returns
 unfolding header_from
 returns c = cc
 
-pub header-from-spec : {M : Type 1} → statement M
-header-from-spec =
+pub header_from_spec : {M : Type 1} → statement M
+header_from_spec =
     tie.close
     (tie.spec
     (λ c. search rules)

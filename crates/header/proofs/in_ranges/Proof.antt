@@ -3,14 +3,14 @@ use Rattle.header.proofs.Ranges.{ranges_are}
 use Rattle.header.proofs.in_ranges.Statement.{statement}
 use Rattle.header.proofs.in_ranges.Tie as tie
 
-returns : tie.Need-returns
+returns : tie.Need-returns-then-places_in_ranges
 returns c = ranges_are _ _ (search (branches, bool_called))
 
-returns-2 : tie.Need-returns-2
+returns-2 : tie.Need-returns-else-places_in_ranges
 returns-2 c = ranges_are _ _ (search (branches, bool_called))
 
-returns-3 : tie.Need-returns-3
+returns-3 : tie.Need-returns-else-is_from
 returns-3 c = ranges_are _ _ (search (branches, bool_called))
 
-pub in-ranges-spec : {M : Type 1} → statement M
-in-ranges-spec = tie.close (tie.spec (λ c κs. tt) (λ c κs. tt) (λ c κs. tt) returns returns-2 returns-3)
+pub in_ranges_spec : {M : Type 1} → statement M
+in_ranges_spec = tie.close (tie.spec (λ c κs. tt) (λ c κs. tt) (λ c κs. tt) returns returns-2 returns-3)

@@ -9,21 +9,21 @@ fill-requires c κs =
     let p = c.before.before.before.before.requires in
     ((omega arith, p.0.1), λ i h. p.1 i (omega arith))
 
-number-at-requires : tie.Need-number-at-requires
-number-at-requires c κs =
+number_at-requires : tie.Need-number_at-requires
+number_at-requires c κs =
     let p = c.before.before.before.before.before.before.before.before.before.before.before.requires in
     (omega (arith, p.0), p.1 0 (omega arith))
 
-number-at-requires-2 : tie.Need-number-at-requires-2
-number-at-requires-2 c κs =
+number_at-requires-2 : tie.Need-number_at-requires-2
+number_at-requires-2 c κs =
     let p = c.before.before.before.before.before.before.before.before.before.before.before.before.requires in
     (omega (arith, p.0), p.1 1 (omega arith))
 
 returns : tie.Need-returns
 returns c =
     let d = c.before.before.before.before in
-    decoded_is _ _ _ _ _ _ _ _ _ c.before.number_at.ensures c.number-at2.ensures d.before.before.before.before.fill.ensures d.fill2.ensures
+    decoded_is _ _ _ _ _ _ _ _ _ c.before.number_at.ensures c.number_at-2.ensures d.before.before.before.before.fill.ensures d.fill-2.ensures
 
-pub decoded-spec : {M : Type 1} → statement M
-decoded-spec = tie.close (tie.spec (λ c. search rules) fill-requires (λ c. search rules) (λ c. search rules)
-    (λ c κs. search rules) number-at-requires number-at-requires-2 (λ c. search rules) (λ c. search rules) returns)
+pub decoded_spec : {M : Type 1} → statement M
+decoded_spec = tie.close (tie.spec (λ c. search rules) fill-requires (λ c. search rules) (λ c. search rules)
+    (λ c κs. search rules) number_at-requires number_at-requires-2 (λ c. search rules) (λ c. search rules) returns)

@@ -7,13 +7,13 @@ use Rattle.job.specs.Reader.{refusal_of_numbers}
 use Rattle.job.proofs.refusal_of_numbers.Statement.{statement}
 use Rattle.job.proofs.refusal_of_numbers.Tie as tie
 
-returns : tie.Need-returns
+returns : tie.Need-returns-in-Nowhere
 unfolding refusal_of_numbers somewhere refuse
-returns c = ap (λ (p : Place). refuse (somewhere p) 20 0) (sym c.enum_told.given.1 ∙ c.before.before.first-bad.ensures)
+returns c = ap (λ (p : Place). refuse (somewhere p) 20 0) (sym c.enum_told-1.given.1 ∙ c.before.before.first_bad.ensures)
 
-returns-2 : tie.Need-returns-2
+returns-2 : tie.Need-returns-in-At
 unfolding refusal_of_numbers somewhere refuse
-returns-2 c = ap (λ (p : Place). refuse (somewhere p) 20 0) (sym c.enum-told2.given.1 ∙ c.before.before.first-bad.ensures)
+returns-2 c = ap (λ (p : Place). refuse (somewhere p) 20 0) (sym c.enum_told-in-At-1.given.1 ∙ c.before.before.first_bad.ensures)
 
-pub refusal-of-numbers-spec : {M : Type 1} → statement M
-refusal-of-numbers-spec = tie.close (tie.spec (λ c κs. search rules) (λ c. search rules) (λ c. search rules) returns returns-2)
+pub refusal_of_numbers_spec : {M : Type 1} → statement M
+refusal_of_numbers_spec = tie.close (tie.spec (λ c κs. search rules) (λ c. search rules) (λ c. search rules) returns returns-2)

@@ -6,5 +6,5 @@ use Rattle.job.proofs.shape.Tie as tie
 returns : tie.Need-returns
 returns c = refl
 
-pub shape-spec : {M : Type 1} → statement M
-shape-spec = tie.close (tie.spec (λ c. omega arith) (λ c. omega arith) (λ c. omega arith) (λ c. omega arith) returns)
+pub shape_spec : {M : Type 1} → statement M
+shape_spec = tie.close (tie.spec (λ c. omega arith) (λ c. omega arith) (λ c. omega arith) (λ c. omega arith) returns)

@@ -13,32 +13,32 @@ use Rattle.job_um.specs.Reader.{number_of}
 use Rattle.job_um.proofs.fill.Statement.{statement}
 use Rattle.job_um.proofs.fill.Tie as tie
 
-abbrev invariant-loop : tie.invariant-loop
+abbrev invariant-loop : tie.invariant-loop-i
 invariant-loop bytes k count out₀ i₀ out i = (out ≡ row (number_of bytes) k i ++ drop i out₀) × (length out ≡ length out₀) × (i ≤ count)
 
-abbrev decreases-loop : tie.decreases-loop
+abbrev decreases-loop : tie.decreases-loop-i
 decreases-loop bytes k count out₀ i₀ out i = count - i
 
-loop-holds : tie.Need-loop-init invariant-loop decreases-loop
+loop-holds : tie.Need-loop-i-init invariant-loop decreases-loop
 unfolding row
 loop-holds c = (refl, refl, search rules)
 
-loop-again : tie.Need-loop-preserved invariant-loop decreases-loop
+loop-again : tie.Need-loop-i-preserved invariant-loop decreases-loop
 loop-again c =
-    let l = c.before.before.loop in (
-      rw (l.invariant.0, again _ c.number_at.type-inv, c.number_at.ensures) (filled_next _ (pos 0) _ l.i _ (omega arith)),
+    let l = c.before.before.loop-i in (
+      rw (l.invariant.0, again _ c.number_at-z.type_inv, c.number_at-z.ensures) (filled_next _ (pos 0) _ l.i _ (omega arith)),
       simp length-set l.invariant.1,
       omega arith,
     )
 
 returns : tie.Need-returns invariant-loop decreases-loop
 returns c =
-    let e : c.before.loop.i ≡ c.before.before.before.args.count = omega arith in
-    rw (← e) c.before.loop.invariant.0
+    let e : c.before.loop-i.i ≡ c.before.before.before.args.count = omega arith in
+    rw (← e) c.before.loop-i.invariant.0
 
 pub fill_spec : {M : Type 1} → statement M
 fill_spec =
     tie.close
     (tie.spec invariant-loop decreases-loop loop-holds (λ c. omega arith) (λ c κs. omega arith) (λ c. omega arith) (λ c. omega arith) (λ c. omega arith)
     (λ c. omega arith) loop-again
-    (λ c. c.before.loop.invariant.1) returns)
+    (λ c. c.before.loop-i.invariant.1) returns)

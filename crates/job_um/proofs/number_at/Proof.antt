@@ -8,7 +8,7 @@ use Rattle.job_um.proofs.number_at.Tie as tie
 
 returns : tie.Need-returns
 unfolding number_of
-returns c = again _ c.whole.type-inv ∙ c.whole.ensures ∙ ap whole_of c.before.u32-at.ensures
+returns c = again _ c.whole.type_inv ∙ c.whole.ensures ∙ ap whole_of c.before.u32_at.ensures
 
-pub number-at-spec : {M : Type 1} → statement M
-number-at-spec = tie.close (tie.spec (λ c. search rules) (λ c. search rules) (λ c κs. search rules) (λ c κs. tt) returns)
+pub number_at_spec : {M : Type 1} → statement M
+number_at_spec = tie.close (tie.spec (λ c. search rules) (λ c. search rules) (λ c κs. search rules) (λ c κs. tt) returns)

@@ -2,11 +2,11 @@ use native.Mathlib.Omega.{arith}
 use Rattle.job_um.proofs.refused.Statement.{statement}
 use Rattle.job_um.proofs.refused.Tie as tie
 
-told-with-requires : tie.Need-told-with-requires
-told-with-requires c κs = (omega arith, c.before.requires)
+told_with-requires : tie.Need-told_with-requires
+told_with-requires c κs = (omega arith, c.before.requires)
 
 returns : tie.Need-returns
 returns c = rw c.Told-with.ensures
 
-pub refused-spec : {M : Type 1} → statement M
-refused-spec = tie.close (tie.spec told-with-requires returns)
+pub refused_spec : {M : Type 1} → statement M
+refused_spec = tie.close (tie.spec told_with-requires returns)

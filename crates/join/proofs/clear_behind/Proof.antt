@@ -10,8 +10,8 @@ returns c =
     let a = c.before.before.before.before.before.args in
     cleared_part (a.n * 5) a.runs.now _ (omega arith) c.before.before.clear.ensures
 
-pub clear-behind-spec : {M : Type 1} → statement M
-clear-behind-spec =
+pub clear_behind_spec : {M : Type 1} → statement M
+clear_behind_spec =
     tie.close
     (tie.spec (λ c. search rules) (λ c. search rules) (λ c. search rules) (λ c. search rules) (λ c. search rules) (λ c κs. search rules)
     (λ c. search rules) returns)

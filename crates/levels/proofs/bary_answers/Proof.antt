@@ -10,19 +10,19 @@ use Rattle.plane.proofs.bary.Reads as bary-reads
 bary-requires : tie.Need-bary-requires
 bary-requires c κs = search rules
 
-enum_told : tie.Need-enum-told
+enum_told : tie.Need-enum_told-1
 enum_told c = search rules
 
-enum-told-2 : tie.Need-enum-told-2
-enum-told-2 c = search rules
+enum_told-2 : tie.Need-enum_told-in-At
+enum_told-2 c = search rules
 
-returns : tie.Need-returns
+returns : tie.Need-returns-in-Nowhere
 unfolding answers
-returns c = ap answers (sym c.enum_told.given.1 ∙ c.before.before.bary.ensures)
+returns c = ap answers (sym c.enum_told-1.given.1 ∙ c.before.before.bary.ensures)
 
-returns-2 : tie.Need-returns-2
+returns-2 : tie.Need-returns-in-At
 unfolding answers
-returns-2 c = ap answers (sym c.enum-told2.given.1 ∙ c.before.before.bary.ensures)
+returns-2 c = ap answers (sym c.enum_told-in-At-1.given.1 ∙ c.before.before.bary.ensures)
 
-pub bary-answers-spec : {M : Type 1} → statement M
-bary-answers-spec = tie.close (tie.spec bary-requires enum_told enum-told-2 returns returns-2)
+pub bary_answers_spec : {M : Type 1} → statement M
+bary_answers_spec = tie.close (tie.spec bary-requires enum_told enum_told-2 returns returns-2)

@@ -18,79 +18,79 @@ use Rattle.levels.proofs.collect.Tie as tie
 use Rattle.levels.proofs.collect.Reads as reads
 use Rattle.levels.proofs.collect.Lts as lts
 
-abbrev invariant-loop : tie.invariant-loop
+abbrev invariant-loop : tie.invariant-loop-j
 invariant-loop mesh boxes n list k level-tolerance levels₀ first g₀ j₀ levels g j =
     Collecting mesh boxes level-tolerance (take k list) levels₀ levels g j × (j ≤ k) × (length levels ≡ length levels₀)
 
-abbrev decreases-loop : tie.decreases-loop
+abbrev decreases-loop : tie.decreases-loop-j
 decreases-loop mesh boxes n list k level-tolerance levels₀ first g₀ j₀ levels g j = k - j
 
-returns : tie.Need-returns invariant-loop decreases-loop
-returns c = collected_none _ _ _ _ _ _ c.if1.true
+returns : tie.Need-returns-then-k-eq0 invariant-loop decreases-loop
+returns c = collected_none _ _ _ _ _ _ c.if-k-eq0.true
 
 -- the first number of the list, and number j
-first_below : (c : tie.After-shared-slice-known4 invariant-loop decreases-loop) → let s = c.before.before.before.before.before.before in
+first_below : (c : tie.After-shared_slice_known-4-1 invariant-loop decreases-loop) → let s = c.before.before.before.before.before.before in
     get_or s.args.list.now 0 0 < s.args.n
 first_below c =
     let s = c.before.before.before.before.before.before in
-    number_below _ _ 0 _ s.requires.1 (omega (arith, c.before.if1.false))
+    number_below _ _ 0 _ s.requires.1 (omega (arith, c.before.if-k-eq0.false))
 
-next_below : (c : tie.After-shared-slice-known5 invariant-loop decreases-loop)
+next_below : (c : tie.After-shared_slice_known-in-loop-j-1 invariant-loop decreases-loop)
     → let s = c.before.before.before.before.before.before.before.before.before.before.before.before in
-    get_or s.args.list.now c.before.before.loop.j 0 < s.args.n
+    get_or s.args.list.now c.before.before.loop-j.j 0 < s.args.n
 next_below c =
     let s = c.before.before.before.before.before.before.before.before.before.before.before.before in
-    number_below _ _ c.before.before.loop.j _ s.requires.1 c.before.loop-test.true
+    number_below _ _ c.before.before.loop-j.j _ s.requires.1 c.before.loop-j-test.true
 
-triangle-at-requires : tie.Need-triangle-at-requires invariant-loop decreases-loop
-triangle-at-requires c κs = omega (arith, first_below c, c.before.before.before.before.before.before.requires.0)
+triangle_at-requires : tie.Need-triangle_at-requires invariant-loop decreases-loop
+triangle_at-requires c κs = omega (arith, first_below c, c.before.before.before.before.before.before.requires.0)
 
-box-at-requires : tie.Need-box-at-requires invariant-loop decreases-loop
-box-at-requires c κs = omega (arith, first_below c.before, c.before.before.before.before.before.before.before.requires.3)
+box_at-requires : tie.Need-box_at-requires invariant-loop decreases-loop
+box_at-requires c κs = omega (arith, first_below c.before, c.before.before.before.before.before.before.before.requires.3)
 
-loop-holds : tie.Need-loop-init invariant-loop decreases-loop
+loop-holds : tie.Need-loop-j-init invariant-loop decreases-loop
 loop-holds c =
     let s = c.before.before.before.before.before.before.before.before.before in
-    let h : 0 < s.args.k = omega (arith, c.before.before.before.before.if1.false) in
+    let h : 0 < s.args.k = omega (arith, c.before.before.before.before.if-k-eq0.false) in
     let e = sym (get_or-take s.args.k s.args.list.now 0 0 h) in
     let l = length-take-le s.args.k s.args.list.now s.requires.1.table in (
       collecting_starts _ _ _ _ _ _ (omega arith)
-          (c.opened-by.ensures
-          ∙ ap₂ opened_by (c.before.before.triangle-at.ensures ∙ ap (triangle_of s.args.mesh.now) e) (c.before.box-at.ensures
+          (c.opened_by.ensures
+          ∙ ap₂ opened_by (c.before.before.triangle_at.ensures ∙ ap (triangle_of s.args.mesh.now) e) (c.before.box_at.ensures
           ∙ ap (box_at s.args.boxes.now) e)),
       omega arith,
       refl,
     )
 
-triangle-at-requires-2 : tie.Need-triangle-at-requires-2 invariant-loop decreases-loop
-triangle-at-requires-2 c κs =
+triangle_at-requires-2 : tie.Need-triangle_at-requires-in-loop-j invariant-loop decreases-loop
+triangle_at-requires-2 c κs =
     omega (arith, next_below c.before, c.before.before.before.before.before.before.before.before.before.before.before.before.before.requires.0)
 
-box-at-requires-2 : tie.Need-box-at-requires-2 invariant-loop decreases-loop
-box-at-requires-2 c κs = omega (
+box_at-requires-2 : tie.Need-box_at-requires-in-loop-j invariant-loop decreases-loop
+box_at-requires-2 c κs = omega (
   arith,
   next_below c.before.before,
   c.before.before.before.before.before.before.before.before.before.before.before.before.before.before.requires.3,
 )
 
-grow-requires : tie.Need-grow-requires invariant-loop decreases-loop
+grow-requires : tie.Need-grow-g-requires invariant-loop decreases-loop
 grow-requires c κs = omega (
   arith,
-  c.before.before.before.before.before.loop.invariant.0.few,
+  c.before.before.before.before.before.loop-j.invariant.0.few,
   c.before.before.before.before.before.before.before.before.before.before.before.before.before.before.before.requires.2,
 )
 
-loop-again : tie.Need-loop-preserved invariant-loop decreases-loop
+loop-again : tie.Need-loop-j-preserved invariant-loop decreases-loop
 loop-again c =
     let s = c.before.before.before.before.before.before.before.before.before.before.before.before.before.before.before.before.before.before in
-    let l = c.before.before.before.before.before.before.before.before.loop in
-    let h = c.before.before.before.before.before.before.before.loop-test.true in
+    let l = c.before.before.before.before.before.before.before.before.loop-j in
+    let h = c.before.before.before.before.before.before.before.loop-j-test.true in
     let i = sym (get_or-take s.args.k s.args.list.now l.j 0 h) in
     let r = length-take-le s.args.k s.args.list.now s.requires.1.table in (
       collecting_goes _ _ _ _ _ _ _ l.g _ l.j (omega arith) l.invariant.0
-          (c.before.before.grow.ensures
-          ∙ ap₂ (λ (t : Triangle) (b : Bounds). grown_by s.args.level-tolerance l.levels l.g t b)
-          (c.before.before.before.before.triangle-at2.ensures ∙ ap (triangle_of s.args.mesh.now) i) (c.before.before.before.box-at2.ensures
+          (c.before.before.grow-g.ensures
+          ∙ ap₂ (λ (t : Triangle) (b : Bounds). grown_by s.args.level_tolerance l.levels l.g t b)
+          (c.before.before.before.before.triangle_at-in-loop-j.ensures ∙ ap (triangle_of s.args.mesh.now) i) (c.before.before.before.box_at-in-loop-j.ensures
           ∙ ap (box_at s.args.boxes.now) i)),
       omega arith,
       search rules,
@@ -99,32 +99,32 @@ loop-again c =
 close-requires : tie.Need-close-requires invariant-loop decreases-loop
 close-requires c κs = omega (
   arith,
-  c.before.before.loop.invariant.0.few,
+  c.before.before.loop-j.invariant.0.few,
   c.before.before.before.before.before.before.before.before.before.before.before.before.requires.2,
-  c.before.before.loop.invariant.1,
+  c.before.before.loop-j.invariant.1,
 )
 
-same_length : tie.Need-same-length invariant-loop decreases-loop
+same_length : tie.Need-shape_of-levels invariant-loop decreases-loop
 same_length c = search rules
 
-returns-2 : tie.Need-returns-2 invariant-loop decreases-loop
+returns-2 : tie.Need-returns invariant-loop decreases-loop
 returns-2 c =
     let s = c.before.before.before.before.before.before.before.before.before.before.before.before.before.before.before in
-    let l = c.before.before.before.before.before.loop in
+    let l = c.before.before.before.before.before.loop-j in
     let r = length-take-le s.args.k s.args.list.now s.requires.1.table in
     let e = collecting_ends _ _ _ _ _ _ _ l.g l.j (take_all l.j (take s.args.k s.args.list.now) (omega arith)) l.invariant.0
     c.before.before.close.ensures.0 in
     (e.0, c.before.before.close.ensures.1 ∙ e.1)
 
-pub collect-spec : {M : Type 1} → statement M
-collect-spec =
+pub collect_spec : {M : Type 1} → statement M
+collect_spec =
     tie.close
-    (tie.spec invariant-loop decreases-loop returns (λ c. omega (arith, c.before.if1.false, c.before.before.before.before.before.before.requires.1.table))
-    (λ c. omega (arith, c.shared-slice-known4.given 0))
-    triangle-at-requires box-at-requires (λ c κs. tt) loop-holds (λ c. search rules)
+    (tie.spec invariant-loop decreases-loop returns (λ c. omega (arith, c.before.if-k-eq0.false, c.before.before.before.before.before.before.requires.1.table))
+    (λ c. omega (arith, c.shared_slice_known-4-1.given 0))
+    triangle_at-requires box_at-requires (λ c κs. tt) loop-holds (λ c. search rules)
     (λ c. omega (arith, c.before.before.before.before.before.before.before.before.before.before.before.before.requires.1.table))
-    (λ c. omega (arith, c.shared-slice-known5.given c.before.before.loop.j))
-    triangle-at-requires-2 box-at-requires-2 grow-requires (λ c. omega (
+    (λ c. omega (arith, c.shared_slice_known-in-loop-j-1.given c.before.before.loop-j.j))
+    triangle_at-requires-2 box_at-requires-2 grow-requires (λ c. omega (
       arith,
       c.before.before.before.before.before.before.before.before.before.before.before.before.before.before.before.before.before.before.requires.2,
     )) (λ c. omega arith) loop-again close-requires same_length returns-2)

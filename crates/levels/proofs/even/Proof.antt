@@ -10,24 +10,24 @@ use Rattle.levels.proofs.near.Reads as near-reads
 near-requires : tie.Need-near-requires
 near-requires c κs = search rules
 
-near-requires-2 : tie.Need-near-requires-2
+near-requires-2 : tie.Need-near-requires-then-near
 near-requires-2 c κs = search rules
 
-near-requires-3 : tie.Need-near-requires-3
+near-requires-3 : tie.Need-near-requires-then-near-2
 near-requires-3 c κs = search rules
 
-returns : tie.Need-returns
+returns : tie.Need-returns-then-near-2
 unfolding even_of
 returns c = search (flags, and_on, and_off)
 
-returns-2 : tie.Need-returns-2
+returns-2 : tie.Need-returns-else-near-2
 unfolding even_of
 returns-2 c = search (flags, and_on, and_off)
 
-returns-3 : tie.Need-returns-3
+returns-3 : tie.Need-returns-else-near
 unfolding even_of
 returns-3 c = search (flags, and_on, and_off)
 
-pub even-spec : {M : Type 1} → statement M
-even-spec =
+pub even_spec : {M : Type 1} → statement M
+even_spec =
     tie.close (tie.spec near-requires near-requires-2 near-requires-3 returns returns-2 returns-3)

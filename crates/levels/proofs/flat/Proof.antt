@@ -11,20 +11,20 @@ use Rattle.levels.proofs.even.Reads as even-reads
 even-requires : tie.Need-even-requires
 even-requires c κs = search rules
 
-bary-answers-requires : tie.Need-bary-answers-requires
-bary-answers-requires c κs = search rules
+bary_answers-requires : tie.Need-bary_answers-requires
+bary_answers-requires c κs = search rules
 
-returns : tie.Need-returns
+returns : tie.Need-returns-then-bary_answers
 unfolding is_flat
 returns c = search (flags, and_on, and_off)
 
-returns-2 : tie.Need-returns-2
+returns-2 : tie.Need-returns-else-bary_answers
 unfolding is_flat
 returns-2 c = search (flags, and_on, and_off)
 
-returns-3 : tie.Need-returns-3
+returns-3 : tie.Need-returns-else-even
 unfolding is_flat
 returns-3 c = search (flags, and_on, and_off)
 
-pub flat-spec : {M : Type 1} → statement M
-flat-spec = tie.close (tie.spec even-requires bary-answers-requires returns returns-2 returns-3)
+pub flat_spec : {M : Type 1} → statement M
+flat_spec = tie.close (tie.spec even-requires bary_answers-requires returns returns-2 returns-3)

@@ -12,25 +12,25 @@ use Rattle.levels.proofs.gather_one.Lts as lts
 use Rattle.levels.proofs.flat.Reads as flat-reads
 use Rattle.plane.proofs.triangle_at.Reads as triangle-at-reads
 
-triangle-at-requires : tie.Need-triangle-at-requires
-triangle-at-requires c κs = search rules
+triangle_at-requires : tie.Need-triangle_at-requires
+triangle_at-requires c κs = search rules
 
 flat-requires : tie.Need-flat-requires
 flat-requires c κs = search rules
 
-cast-list : tie.Need-overflow-cast-list
+cast-list : tie.Need-overflow_cast-list
 cast-list c = search rules
 
-mul-list : tie.Need-overflow-mul-list
+mul-list : tie.Need-offset_bounds-list-k
 mul-list c = search rules
 
-slice-write-list : tie.Need-slice-write-list
-slice-write-list c = search rules
+slice_write-list : tie.Need-bounds-list-k
+slice_write-list c = search rules
 
-add-result : tie.Need-overflow-add-result
+add-result : tie.Need-overflow_add-result
 add-result c = search rules
 
-same_length : tie.Need-same-length
+same_length : tie.Need-shape_of-list-then-flat
 same_length c = search rules
 
 tested : (c : tie.After-flat) →
@@ -38,25 +38,25 @@ tested : (c : tie.After-flat) →
     is_flat (triangle_of a.mesh.now a.i) a.tolerance a.least ≡ c.flat.result
 tested c =
     let a = c.before.before.before.before.args in
-    ap (λ (t : Triangle). is_flat t a.tolerance a.least) (sym c.before.triangle-at.ensures) ∙ sym c.flat.ensures
+    ap (λ (t : Triangle). is_flat t a.tolerance a.least) (sym c.before.triangle_at.ensures) ∙ sym c.flat.ensures
 
-returns : tie.Need-returns
+returns : tie.Need-returns-then-flat
 unfolding gathered_one
-returns c = taken _ _ _ _ (tested c.before ∙ c.if1.true) refl
+returns c = taken _ _ _ _ (tested c.before ∙ c.if-flat.true) refl
 
-returns-2 : tie.Need-returns-2
+returns-2 : tie.Need-returns
 unfolding gathered_one
-returns-2 c = left _ _ _ _ (tested c.before ∙ c.if1.false) refl
+returns-2 c = left _ _ _ _ (tested c.before ∙ c.if-flat.false) refl
 
-pub gather-one-spec : {M : Type 1} → statement M
-gather-one-spec =
+pub gather_one_spec : {M : Type 1} → statement M
+gather_one_spec =
     tie.close
     (tie.spec
-    triangle-at-requires
+    triangle_at-requires
     flat-requires
     cast-list
     mul-list
-    slice-write-list
+    slice_write-list
     add-result
     same_length
     returns

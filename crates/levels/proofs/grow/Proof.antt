@@ -8,13 +8,13 @@ use Rattle.levels.proofs.grow.Tie as tie
 use Rattle.levels.proofs.grow.Reads as reads
 use Rattle.levels.proofs.grow.Lts as lts
 
-returns : tie.Need-returns
+returns : tie.Need-returns-then-level-t
 unfolding grown_by joins_level
-returns c = taken _ _ _ _ c.before.if1.true (rw c.widened-by.ensures)
+returns c = taken _ _ _ _ c.before.if-level-t.true (rw c.widened_by.ensures)
 
-returns-2 : tie.Need-returns-2
+returns-2 : tie.Need-returns
 unfolding grown_by joins_level
-returns-2 c = left _ _ _ _ c.before.before.before.before.before.if1.false (rw (c.opened-by.ensures, c.before.before.before.close.ensures.0))
+returns-2 c = left _ _ _ _ c.before.before.before.before.before.if-level-t.false (rw (c.opened_by.ensures, c.before.before.before.close.ensures.0))
 
 pub grow_spec : {M : Type 1} → statement M
 grow_spec =

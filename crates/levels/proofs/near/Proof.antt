@@ -13,5 +13,5 @@ returns : tie.Need-returns
 unfolding near_to
 returns c = rw c.abs.ensures
 
-pub near-spec : {M : Type 1} → statement M
-near-spec = tie.close (tie.spec abs-requires returns)
+pub near_spec : {M : Type 1} → statement M
+near_spec = tie.close (tie.spec abs-requires returns)

@@ -7,5 +7,5 @@ returns : tie.Need-returns
 unfolding opened_by
 returns c = refl
 
-pub opened-by-spec : {M : Type 1} → statement M
-opened-by-spec = tie.close (tie.spec returns)
+pub opened_by_spec : {M : Type 1} → statement M
+opened_by_spec = tie.close (tie.spec returns)

@@ -23,7 +23,7 @@ returns : tie.Need-returns
 unfolding widened_by
 returns c = cc
 
-pub widened-by-spec : {M : Type 1} → statement M
-widened-by-spec =
+pub widened_by_spec : {M : Type 1} → statement M
+widened_by_spec =
     tie.close
     (tie.spec min-requires min-requires-2 max-requires max-requires-2 returns)

@@ -52,9 +52,9 @@ spell-returns-2 : (t : ℕ) → spell-lts.Need-returns-2 (
   put_reads.Asked,
   put_reads.Learnt,
 ) (spell_at t) spell.Post
-spell-returns-2 t c = spells_done _ _ _ _ _ _ _ c.before.is-done.ensures c.if2.true
+spell-returns-2 t c = spells_done _ _ _ _ _ _ _ c.before.is_done.ensures c.if2.true
 
-spell_sub_spell : (t : ℕ) → spell-lts.Need-overflow-sub-spell (
+spell_sub_spell : (t : ℕ) → spell-lts.Need-overflow_sub-spell (
   is-done-reads.Asked,
   is-done-reads.Learnt,
   one-less-reads.Asked,
@@ -118,7 +118,7 @@ spell_put_requires t c κs =
     let s = d.before.before.before.before.before.before.before in
     omega (arith, reach _ _ _ _ d.spell.ensures, d.spell.auto.0, pos_of_ne-zero d.before.before.before.before.before.if1.false, s.requires.1.0)
 
-spell_same_length : (t : ℕ) → spell-lts.Need-same-length (
+spell_same_length : (t : ℕ) → spell-lts.Need-same_length (
   is-done-reads.Asked,
   is-done-reads.Learnt,
   one-less-reads.Asked,
@@ -147,11 +147,11 @@ spell-returns-3 : (t : ℕ) → spell-lts.Need-returns-3 (
 spell-returns-3 t c =
     let d = c.before.before in
     let e = d.before.before.before.before.before in
-    spells_more _ _ _ _ _ _ _ _ _ _ _ _ _ e.before.before.before.before.before.if1.false e.before.before.before.before.is-done.ensures
+    spells_more _ _ _ _ _ _ _ _ _ _ _ _ _ e.before.before.before.before.before.if1.false e.before.before.before.before.is_done.ensures
     e.before.before.before.if2.false e.before.one_less.ensures e.spell.ensures d.before.glyph.ensures d.put.ensures
 
-pub +spell-spec : {M : Type 1} → statement M
-+spell-spec =
+pub +spell_spec : {M : Type 1} → statement M
++spell_spec =
     close μ-spell
     (λ t. spell-lts.spec (
       is-done-reads.Asked,

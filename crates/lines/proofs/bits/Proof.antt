@@ -5,12 +5,12 @@ use Rattle.rules.proofs.Branches.{nan_left}
 use Rattle.lines.proofs.bits.Statement.{statement}
 use Rattle.lines.proofs.bits.Tie as tie
 
-returns : tie.Need-returns
+returns : tie.Need-returns-then-x
 unfolding to_bits
-returns c = rw (differs_from_itself c.before.args.x (rw c.if1.true tt))
+returns c = rw (differs_from_itself c.before.args.x (rw c.if-x.true tt))
 
-float-to-bits-result : tie.Need-float-to-bits-result
-float-to-bits-result c = rw (nan_left _ c.if1.false) tt
+float_to_bits-result : tie.Need-float_to_bits-result
+float_to_bits-result c = rw (nan_left _ c.if-x.false) tt
 
-pub bits-spec : {M : Type 1} → statement M
-bits-spec = tie.close (tie.spec returns float-to-bits-result (λ c. search rules))
+pub bits_spec : {M : Type 1} → statement M
+bits_spec = tie.close (tie.spec returns float_to_bits-result (λ c. search rules))

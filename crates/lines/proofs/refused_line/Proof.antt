@@ -8,9 +8,9 @@ use Rattle.lines.proofs.refused_line.Tie as tie
 returns : tie.Need-returns
 unfolding refused_line
 returns c =
-    let a = c.before.before.before.before.before.before.put_word.ensures in
-    let b = c.before.before.put-decimal.ensures in
+    let a = c.before.before.before.before.before.before.put_word-a.ensures in
+    let b = c.before.before.put_decimal.ensures in
     (a then b.0, omega (arith, a.ends, b.1))
 
-pub refused-line-spec : {M : Type 1} → statement M
-refused-line-spec = tie.close (tie.spec (λ c. search rules) (λ c κs. search rules) (λ c κs. search rules) (λ c. search rules) returns)
+pub refused_line_spec : {M : Type 1} → statement M
+refused_line_spec = tie.close (tie.spec (λ c. search rules) (λ c κs. search rules) (λ c κs. search rules) (λ c. search rules) returns)

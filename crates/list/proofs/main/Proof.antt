@@ -5,19 +5,19 @@ use Rattle.list.proofs.Parts.{within_is}
 use Rattle.list.proofs.main.Statement.{statement}
 use Rattle.list.proofs.main.Tie as tie
 
-array-share-prefix-bytes : tie.Need-array-share-prefix-bytes
-array-share-prefix-bytes c = within_is _ _ _ c.before.input.given.1 c.before.before.before.before.read-input.ensures
+array_share_prefix-bytes : tie.Need-slice_bounds-bytes-end
+array_share_prefix-bytes c = within_is _ _ _ c.before.input-1.given.1 c.before.before.before.before.read_input-input.ensures
 
-slice-aggregate-listing : tie.Need-slice-aggregate-listing
-slice-aggregate-listing c = sym (length-take-le _ _ (array-share-prefix-bytes c.before))
+slice_aggregate-listing : tie.Need-slice_bounds-listing-end
+slice_aggregate-listing c = sym (length-take-le _ _ (array_share_prefix-bytes c.before))
 
-array-share-prefix-text : tie.Need-array-share-prefix-text
-array-share-prefix-text c = c.listing.ensures.1
+array_share_prefix-text : tie.Need-slice_bounds-text-end
+array_share_prefix-text c = c.listing-k.ensures.1
 
-slice-aggregate-write-all : tie.Need-slice-aggregate-write-all
-slice-aggregate-write-all c = sym (length-take-le _ _ c.before.listing.ensures.1)
+slice_aggregate-write_all : tie.Need-slice_bounds-write_all-end
+slice_aggregate-write_all c = sym (length-take-le _ _ c.before.listing-k.ensures.1)
 
 pub main_spec : {M : Type 1} → statement M
 main_spec = tie.close (tie.spec (λ c. search rules) (λ c κs. tt) (λ c. search rules) (λ c. search rules) (λ c. search rules) (λ c κs. tt)
-    (λ c. search rules) array-share-prefix-bytes slice-aggregate-listing (λ c κs. tt) array-share-prefix-text slice-aggregate-write-all (λ c κs. tt)
+    (λ c. search rules) array_share_prefix-bytes slice_aggregate-listing (λ c κs. tt) array_share_prefix-text slice_aggregate-write_all (λ c κs. tt)
     (λ c. search rules) (λ c κs. tt) (λ c. search rules) (λ c. search rules))

@@ -4,7 +4,7 @@ use Rattle.look_over.proofs.is_place.Tie as tie
 
 returns : tie.Need-returns
 unfolding is_place
-returns c = c.is-end.ensures
+returns c = c.is_end.ensures
 
-pub is-place-spec : {M : Type 1} → statement M
-is-place-spec = tie.close (tie.spec (λ c κs. tt) returns)
+pub is_place_spec : {M : Type 1} → statement M
+is_place_spec = tie.close (tie.spec (λ c κs. tt) returns)

@@ -4,21 +4,21 @@ use Rattle.look_over.specs.Inside.{is_sound}
 use Rattle.look_over.proofs.is_sound.Statement.{statement}
 use Rattle.look_over.proofs.is_sound.Tie as tie
 
-returns : tie.Need-returns
+returns : tie.Need-returns-in-Sound
 unfolding is_sound
-returns c = ap is_sound (sym c.enum_told.given.1)
+returns c = ap is_sound (sym c.enum_told-1.given.1)
 
-returns-2 : tie.Need-returns-2
+returns-2 : tie.Need-returns-in-BlockedRapid
 unfolding is_sound
-returns-2 c = ap is_sound (sym c.enum-told2.given.1)
+returns-2 c = ap is_sound (sym c.enum_told-in-BlockedRapid-1.given.1)
 
-returns-3 : tie.Need-returns-3
+returns-3 : tie.Need-returns-in-ChangedZ
 unfolding is_sound
-returns-3 c = ap is_sound (sym c.enum-told3.given.1)
+returns-3 c = ap is_sound (sym c.enum_told-in-ChangedZ-1.given.1)
 
-returns-4 : tie.Need-returns-4
+returns-4 : tie.Need-returns-in-TooDeep
 unfolding is_sound
-returns-4 c = ap is_sound (sym c.enum-told4.given.1)
+returns-4 c = ap is_sound (sym c.enum_told-in-TooDeep-1.given.1)
 
-pub is-sound-spec : {M : Type 1} → statement M
-is-sound-spec = tie.close (tie.spec (λ c. search rules) (λ c. search rules) (λ c. search rules) (λ c. search rules) returns returns-2 returns-3 returns-4)
+pub is_sound_spec : {M : Type 1} → statement M
+is_sound_spec = tie.close (tie.spec (λ c. search rules) (λ c. search rules) (λ c. search rules) (λ c. search rules) returns returns-2 returns-3 returns-4)

@@ -6,11 +6,11 @@ use Rattle.look_over.proofs.Trying.{rapid_told}
 use Rattle.look_over.proofs.rapid.Statement.{statement}
 use Rattle.look_over.proofs.rapid.Tie as tie
 
-tool-ruling-requires : tie.Need-tool-ruling-requires
-tool-ruling-requires c κs =
+tool_ruling-requires : tie.Need-tool_ruling-r-requires
+tool_ruling-requires c κs =
     let s = c.before.before.before.before.before.before.before.before.before.before in
     walk_ready (index_of s.args.mesh.now s.args.h s.args.starts.now s.args.members.now s.args.boxes.now) s.requires.0.0.indexed _ _
-    s.requires.0.1 c.before.patch-of.result (inside _ _ _ _ _ _ _ c.before.patch-of.ensures)
+    s.requires.0.1 c.before.patch_of-p.result (inside _ _ _ _ _ _ _ c.before.patch_of-p.ensures)
 
 returns : tie.Need-returns
 returns c =
@@ -18,7 +18,7 @@ returns c =
     rapid_told (index_of s.args.mesh.now s.args.h s.args.starts.now s.args.members.now s.args.boxes.now) s.args.stamp
     s.args.marks.now s.requires.0.1 s.args.m s.requires.0.2 s.args.table.now s.requires.0.0 s.args.reach s.args.low
     s.requires.1.0 s.requires.1.1
-    _ c.before.before.before.before.before.patch-of.ensures _ _ _ c.before.before.before.tool-ruling.ensures c.fault-of.ensures
+    _ c.before.before.before.before.before.patch_of-p.ensures _ _ _ c.before.before.before.tool_ruling-r.ensures c.fault_of.ensures
 
-pub rapid-spec : {M : Type 1} → statement M
-rapid-spec = tie.close (tie.spec (λ c κs. tt) tool-ruling-requires (λ c κs. tt) (λ c. search rules) returns)
+pub rapid_spec : {M : Type 1} → statement M
+rapid_spec = tie.close (tie.spec (λ c κs. tt) tool_ruling-requires (λ c κs. tt) (λ c. search rules) returns)

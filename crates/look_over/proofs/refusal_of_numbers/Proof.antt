@@ -6,49 +6,49 @@ use Rattle.look_over.specs.Verdict.{refusal_of_numbers}
 use Rattle.look_over.proofs.refusal_of_numbers.Statement.{statement}
 use Rattle.look_over.proofs.refusal_of_numbers.Tie as tie
 
-returns : tie.Need-returns
+returns : tie.Need-returns-then-not-is_marked
 unfolding refusal_of_numbers
 returns c = search ladder depth 9
 
-returns-2 : tie.Need-returns-2
+returns-2 : tie.Need-returns-then-not-is_boxed
 unfolding refusal_of_numbers
 returns-2 c = search ladder depth 9
 
-returns-3 : tie.Need-returns-3
+returns-3 : tie.Need-returns-then-not-is_tolerance
 unfolding refusal_of_numbers
 returns-3 c =
-    demand_next _ _ _ _ (bool_called _ _ _ c.before.before.before.before.before.is-marked.ensures
-    (not-false _ c.before.before.before.before.if1.false))
-    (demand_next _ _ _ _ (bool_called _ _ _ c.before.before.before.is-boxed.ensures (not-false _ c.before.before.if2.false))
-    (demand_here _ _ _ _ (bool_called _ _ _ c.before.is-tolerance.ensures (not-true _ c.if3.true)) refl))
+    demand_next _ _ _ _ (bool_called _ _ _ c.before.before.before.before.before.is_marked.ensures
+    (c.before.before.before.before.if-not-is_marked.false))
+    (demand_next _ _ _ _ (bool_called _ _ _ c.before.before.before.is_boxed.ensures (c.before.before.if-not-is_boxed.false))
+    (demand_here _ _ _ _ (bool_called _ _ _ c.before.is_tolerance.ensures (c.if-not-is_tolerance.true)) refl))
 
-are-places-requires : tie.Need-are-places-requires
-are-places-requires c κs = c.before.before.before.before.before.before.before.before.before.before.before.before.before.requires
+are_places-requires : tie.Need-are_places-requires
+are_places-requires c κs = c.before.before.before.before.before.before.before.before.before.before.before.before.before.requires
 
-returns-4 : tie.Need-returns-4
+returns-4 : tie.Need-returns-then-not-are_places
 unfolding refusal_of_numbers
 returns-4 c =
-    demand_next _ _ _ _ (bool_called _ _ _ c.before.before.before.before.before.before.before.is-marked.ensures
-    (not-false _ c.before.before.before.before.before.before.if1.false))
-    (demand_next _ _ _ _ (bool_called _ _ _ c.before.before.before.before.before.is-boxed.ensures
-    (not-false _ c.before.before.before.before.if2.false))
-    (demand_next _ _ _ _ (bool_called _ _ _ c.before.before.before.is-tolerance.ensures (not-false _ c.before.before.if3.false))
-    (demand_here _ _ _ _ (bool_called _ _ _ c.before.are-places.ensures (not-true _ c.if4.true)) refl)))
+    demand_next _ _ _ _ (bool_called _ _ _ c.before.before.before.before.before.before.before.is_marked.ensures
+    (c.before.before.before.before.before.before.if-not-is_marked.false))
+    (demand_next _ _ _ _ (bool_called _ _ _ c.before.before.before.before.before.is_boxed.ensures
+    (c.before.before.before.before.if-not-is_boxed.false))
+    (demand_next _ _ _ _ (bool_called _ _ _ c.before.before.before.is_tolerance.ensures (c.before.before.if-not-is_tolerance.false))
+    (demand_here _ _ _ _ (bool_called _ _ _ c.before.are_places.ensures (c.if-not-are_places.true)) refl)))
 
-refusal-of-tool-requires : tie.Need-refusal-of-tool-requires
-refusal-of-tool-requires c κs =
-    bool_called _ _ _ c.before.before.before.before.before.is-boxed.ensures (not-false _ c.before.before.before.before.if2.false)
+refusal_of_tool-requires : tie.Need-refusal_of_tool-requires
+refusal_of_tool-requires c κs =
+    bool_called _ _ _ c.before.before.before.before.before.is_boxed.ensures (c.before.before.before.before.if-not-is_boxed.false)
 
-returns-5 : tie.Need-returns-5
+returns-5 : tie.Need-returns
 unfolding refusal_of_numbers
 returns-5 c =
-    demand_next _ _ _ _ (bool_called _ _ _ c.before.before.before.before.before.before.before.before.is-marked.ensures
-    (not-false _ c.before.before.before.before.before.before.before.if1.false))
-    (demand_next _ _ _ _ (bool_called _ _ _ c.before.before.before.before.before.before.is-boxed.ensures
-    (not-false _ c.before.before.before.before.before.if2.false))
-    (demand_next _ _ _ _ (bool_called _ _ _ c.before.before.before.before.is-tolerance.ensures (not-false _ c.before.before.before.if3.false))
-    (demand_next _ _ _ _ (bool_called _ _ _ c.before.before.are-places.ensures (not-false _ c.before.if4.false)) c.refusal-of-tool.ensures)))
+    demand_next _ _ _ _ (bool_called _ _ _ c.before.before.before.before.before.before.before.before.is_marked.ensures
+    (c.before.before.before.before.before.before.before.if-not-is_marked.false))
+    (demand_next _ _ _ _ (bool_called _ _ _ c.before.before.before.before.before.before.is_boxed.ensures
+    (c.before.before.before.before.before.if-not-is_boxed.false))
+    (demand_next _ _ _ _ (bool_called _ _ _ c.before.before.before.before.is_tolerance.ensures (c.before.before.before.if-not-is_tolerance.false))
+    (demand_next _ _ _ _ (bool_called _ _ _ c.before.before.are_places.ensures (c.before.if-not-are_places.false)) c.refusal_of_tool.ensures)))
 
-pub refusal-of-numbers-spec : {M : Type 1} → statement M
-refusal-of-numbers-spec =
-    tie.close (tie.spec (λ c κs. tt) returns (λ c κs. tt) returns-2 (λ c κs. tt) returns-3 are-places-requires returns-4 refusal-of-tool-requires returns-5)
+pub refusal_of_numbers_spec : {M : Type 1} → statement M
+refusal_of_numbers_spec =
+    tie.close (tie.spec (λ c κs. tt) returns (λ c κs. tt) returns-2 (λ c κs. tt) returns-3 are_places-requires returns-4 refusal_of_tool-requires returns-5)

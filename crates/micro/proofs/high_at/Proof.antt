@@ -11,11 +11,11 @@ unfolding high_at
 returns c =
     let l = c.before.before in
     let b = l.before in (
-      c.higher2.ensures ∙ ap₂ max (l.higher.ensures ∙ ap₂ max b.before.number_at.ensures.0 b.number-at2.ensures.0)
-          c.before.number-at3.ensures.0,
-      omega (arith, c.higher2.ensures, l.higher.ensures, b.before.number_at.ensures.1, b.number-at2.ensures.1, c.before.number-at3.ensures.1),
+      c.higher-2.ensures ∙ ap₂ max (l.higher.ensures ∙ ap₂ max b.before.number_at.ensures.0 b.number_at-2.ensures.0)
+          c.before.number_at-3.ensures.0,
+      omega (arith, c.higher-2.ensures, l.higher.ensures, b.before.number_at.ensures.1, b.number_at-2.ensures.1, c.before.number_at-3.ensures.1),
     )
 
-pub high-at-spec : {M : Type 1} → statement M
-high-at-spec = tie.close (tie.spec (λ c κs. search rules) (λ c. search rules) (λ c κs. search rules) (λ c κs. tt) (λ c. search rules)
+pub high_at_spec : {M : Type 1} → statement M
+high_at_spec = tie.close (tie.spec (λ c κs. search rules) (λ c. search rules) (λ c κs. search rules) (λ c κs. tt) (λ c. search rules)
     (λ c κs. search rules) (λ c κs. tt) returns)

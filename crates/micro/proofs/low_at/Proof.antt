@@ -10,9 +10,9 @@ unfolding low_at
 returns c =
     let l = c.before.before in
     let b = l.before in
-    c.lower2.ensures ∙ ap₂ min (l.lower.ensures ∙ ap₂ min b.before.number_at.ensures.0 b.number-at2.ensures.0)
-    c.before.number-at3.ensures.0
+    c.lower-2.ensures ∙ ap₂ min (l.lower.ensures ∙ ap₂ min b.before.number_at.ensures.0 b.number_at-2.ensures.0)
+    c.before.number_at-3.ensures.0
 
-pub low-at-spec : {M : Type 1} → statement M
-low-at-spec = tie.close (tie.spec (λ c κs. search rules) (λ c. search rules) (λ c κs. search rules) (λ c κs. tt) (λ c. search rules)
+pub low_at_spec : {M : Type 1} → statement M
+low_at_spec = tie.close (tie.spec (λ c κs. search rules) (λ c. search rules) (λ c κs. search rules) (λ c κs. tt) (λ c. search rules)
     (λ c κs. search rules) (λ c κs. tt) returns)

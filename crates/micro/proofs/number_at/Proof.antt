@@ -9,8 +9,8 @@ use Rattle.micro.proofs.number_at.Tie as tie
 returns : tie.Need-returns
 unfolding number_at
 returns c =
-    let e = to_z-of_z w32 _ (record { sfits = c.before.z.given }) in
+    let e = to_z-of_z w32 _ (record { sfits = c.before.z-1.given }) in
     (c.count.ensures.0 ∙ ap counted e, c.count.ensures.1)
 
-pub number-at-spec : {M : Type 1} → statement M
-number-at-spec = tie.close (tie.spec (λ c. search rules) (λ c. search rules) (λ c κs. search rules) returns)
+pub number_at_spec : {M : Type 1} → statement M
+number_at_spec = tie.close (tie.spec (λ c. search rules) (λ c. search rules) (λ c κs. search rules) returns)

@@ -10,7 +10,7 @@ use Rattle.moves.proofs.approach.Tie as tie
 returns : tie.Need-returns
 unfolding line_of
 returns c = c.line.ensures ∙ ap (λ (r : Run). leg (point r.ax r.ay c.before.before.before.args.p.z) kind.Rapid phase.Descend
-    c.before.before.before.args.m) c.before.run_at.ensures
+    c.before.before.before.args.m) c.before.run_at-r.ensures
 
-pub approach-spec : {M : Type 1} → statement M
-approach-spec = tie.close (tie.spec (λ c κs. search rules) (λ c κs. tt) returns)
+pub approach_spec : {M : Type 1} → statement M
+approach_spec = tie.close (tie.spec (λ c κs. search rules) (λ c κs. tt) returns)

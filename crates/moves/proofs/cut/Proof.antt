@@ -10,7 +10,7 @@ use Rattle.moves.proofs.cut.Tie as tie
 returns : tie.Need-returns
 unfolding line_of
 returns c = c.line.ensures
-    ∙ ap (λ (r : Run). leg (point r.bx r.by r.z) kind.Cut phase.Retract c.before.before.before.args.m) c.before.run_at.ensures
+    ∙ ap (λ (r : Run). leg (point r.bx r.by r.z) kind.Cut phase.Retract c.before.before.before.args.m) c.before.run_at-r.ensures
 
 pub cut_spec : {M : Type 1} → statement M
 cut_spec = tie.close (tie.spec (λ c κs. search rules) (λ c κs. tt) returns)

@@ -6,5 +6,5 @@ use Rattle.moves.proofs.given.Tie as tie
 returns : tie.Need-returns
 returns c = refl
 
-pub given-spec : {M : Type 1} → statement M
-given-spec = tie.close (tie.spec (λ c. search rules) returns)
+pub given_spec : {M : Type 1} → statement M
+given_spec = tie.close (tie.spec (λ c. search rules) returns)

@@ -6,7 +6,7 @@ use Rattle.moves.proofs.is_ended.Tie as tie
 
 returns : tie.Need-returns
 unfolding is_ended
-returns c = ap (λ n. eqb n 7) c.phase-number.ensures
+returns c = ap (λ n. eqb n 7) c.phase_number.ensures
 
-pub is-ended-spec : {M : Type 1} → statement M
-is-ended-spec = tie.close (tie.spec (λ c κs. tt) returns)
+pub is_ended_spec : {M : Type 1} → statement M
+is_ended_spec = tie.close (tie.spec (λ c κs. tt) returns)

@@ -6,7 +6,7 @@ use Rattle.moves.proofs.is_lift.Tie as tie
 
 returns : tie.Need-returns
 unfolding is_lift
-returns c = ap (λ n. eqb n 0) c.phase-number.ensures
+returns c = ap (λ n. eqb n 0) c.phase_number.ensures
 
-pub is-lift-spec : {M : Type 1} → statement M
-is-lift-spec = tie.close (tie.spec (λ c κs. tt) returns)
+pub is_lift_spec : {M : Type 1} → statement M
+is_lift_spec = tie.close (tie.spec (λ c κs. tt) returns)

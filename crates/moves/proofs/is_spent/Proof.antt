@@ -3,13 +3,13 @@ use Rattle.moves.specs.Next.{is_spent}
 use Rattle.moves.proofs.is_spent.Statement.{statement}
 use Rattle.moves.proofs.is_spent.Tie as tie
 
-returns : tie.Need-returns
+returns : tie.Need-returns-then-is_ended
 unfolding is_spent
-returns c = rw (sym c.before.is-ended.ensures ∙ c.if1.true)
+returns c = rw (sym c.before.is_ended.ensures ∙ c.if-is_ended.true)
 
-returns-2 : tie.Need-returns-2
+returns-2 : tie.Need-returns
 unfolding is_spent
-returns-2 c = rw (sym c.before.before.is-ended.ensures ∙ c.before.if1.false)
+returns-2 c = rw (sym c.before.before.is_ended.ensures ∙ c.before.if-is_ended.false)
 
-pub is-spent-spec : {M : Type 1} → statement M
-is-spent-spec = tie.close (tie.spec (λ c κs. tt) returns returns-2)
+pub is_spent_spec : {M : Type 1} → statement M
+is_spent_spec = tie.close (tie.spec (λ c κs. tt) returns returns-2)

@@ -4,21 +4,21 @@ use Rattle.moves.specs.Phases.{kind_number}
 use Rattle.moves.proofs.kind_number.Statement.{statement}
 use Rattle.moves.proofs.kind_number.Tie as tie
 
-returns : tie.Need-returns
+returns : tie.Need-returns-in-Rapid
 unfolding kind_number
-returns c = sym (ap kind_number c.enum_told.given.1)
+returns c = sym (ap kind_number c.enum_told-1.given.1)
 
-returns-2 : tie.Need-returns-2
+returns-2 : tie.Need-returns-in-Plunge
 unfolding kind_number
-returns-2 c = sym (ap kind_number c.enum-told2.given.1)
+returns-2 c = sym (ap kind_number c.enum_told-in-Plunge-1.given.1)
 
-returns-3 : tie.Need-returns-3
+returns-3 : tie.Need-returns-in-Cut
 unfolding kind_number
-returns-3 c = sym (ap kind_number c.enum-told3.given.1)
+returns-3 c = sym (ap kind_number c.enum_told-in-Cut-1.given.1)
 
-returns-4 : tie.Need-returns-4
+returns-4 : tie.Need-returns-in-Retract
 unfolding kind_number
-returns-4 c = sym (ap kind_number c.enum-told4.given.1)
+returns-4 c = sym (ap kind_number c.enum_told-in-Retract-1.given.1)
 
-pub kind-number-spec : {M : Type 1} → statement M
-kind-number-spec = tie.close (tie.spec (λ c. search rules) (λ c. search rules) (λ c. search rules) (λ c. search rules) returns returns-2 returns-3 returns-4)
+pub kind_number_spec : {M : Type 1} → statement M
+kind_number_spec = tie.close (tie.spec (λ c. search rules) (λ c. search rules) (λ c. search rules) (λ c. search rules) returns returns-2 returns-3 returns-4)

@@ -4,38 +4,38 @@ use Rattle.moves.specs.Phases.{phase_number}
 use Rattle.moves.proofs.phase_number.Statement.{statement}
 use Rattle.moves.proofs.phase_number.Tie as tie
 
-returns : tie.Need-returns
+returns : tie.Need-returns-in-Lift
 unfolding phase_number
-returns c = sym (ap phase_number c.enum_told.given.1)
+returns c = sym (ap phase_number c.enum_told-1.given.1)
 
-returns-2 : tie.Need-returns-2
+returns-2 : tie.Need-returns-in-Approach
 unfolding phase_number
-returns-2 c = sym (ap phase_number c.enum-told2.given.1)
+returns-2 c = sym (ap phase_number c.enum_told-in-Approach-1.given.1)
 
-returns-3 : tie.Need-returns-3
+returns-3 : tie.Need-returns-in-Descend
 unfolding phase_number
-returns-3 c = sym (ap phase_number c.enum-told3.given.1)
+returns-3 c = sym (ap phase_number c.enum_told-in-Descend-1.given.1)
 
-returns-4 : tie.Need-returns-4
+returns-4 : tie.Need-returns-in-Plunge
 unfolding phase_number
-returns-4 c = sym (ap phase_number c.enum-told4.given.1)
+returns-4 c = sym (ap phase_number c.enum_told-in-Plunge-1.given.1)
 
-returns-5 : tie.Need-returns-5
+returns-5 : tie.Need-returns-in-Cut
 unfolding phase_number
-returns-5 c = sym (ap phase_number c.enum-told5.given.1)
+returns-5 c = sym (ap phase_number c.enum_told-in-Cut-1.given.1)
 
-returns-6 : tie.Need-returns-6
+returns-6 : tie.Need-returns-in-Retract
 unfolding phase_number
-returns-6 c = sym (ap phase_number c.enum-told6.given.1)
+returns-6 c = sym (ap phase_number c.enum_told-in-Retract-1.given.1)
 
-returns-7 : tie.Need-returns-7
+returns-7 : tie.Need-returns-in-Rise
 unfolding phase_number
-returns-7 c = sym (ap phase_number c.enum-told7.given.1)
+returns-7 c = sym (ap phase_number c.enum_told-in-Rise-1.given.1)
 
-returns-8 : tie.Need-returns-8
+returns-8 : tie.Need-returns-in-Ended
 unfolding phase_number
-returns-8 c = sym (ap phase_number c.enum-told8.given.1)
+returns-8 c = sym (ap phase_number c.enum_told-in-Ended-1.given.1)
 
-pub phase-number-spec : {M : Type 1} → statement M
-phase-number-spec = tie.close (tie.spec (λ c. search rules) (λ c. search rules) (λ c. search rules) (λ c. search rules) (λ c. search rules) (λ c. search rules)
+pub phase_number_spec : {M : Type 1} → statement M
+phase_number_spec = tie.close (tie.spec (λ c. search rules) (λ c. search rules) (λ c. search rules) (λ c. search rules) (λ c. search rules) (λ c. search rules)
     (λ c. search rules) (λ c. search rules) returns returns-2 returns-3 returns-4 returns-5 returns-6 returns-7 returns-8)

@@ -10,7 +10,7 @@ use Rattle.moves.proofs.plunge.Tie as tie
 returns : tie.Need-returns
 unfolding line_of
 returns c = c.line.ensures ∙ ap (λ (r : Run). leg (point c.before.before.before.args.p.x c.before.before.before.args.p.y r.z) kind.Plunge
-    phase.Cut c.before.before.before.args.m) c.before.run_at.ensures
+    phase.Cut c.before.before.before.args.m) c.before.run_at-r.ensures
 
-pub plunge-spec : {M : Type 1} → statement M
-plunge-spec = tie.close (tie.spec (λ c κs. search rules) (λ c κs. tt) returns)
+pub plunge_spec : {M : Type 1} → statement M
+plunge_spec = tie.close (tie.spec (λ c κs. search rules) (λ c κs. tt) returns)

@@ -5,5 +5,5 @@ use Rattle.moves.proofs.state_at.Tie as tie
 returns : tie.Need-returns
 returns c = refl
 
-pub state-at-spec : {M : Type 1} → statement M
-state-at-spec = tie.close (tie.spec returns)
+pub state_at_spec : {M : Type 1} → statement M
+state_at_spec = tie.close (tie.spec returns)

@@ -13,7 +13,7 @@ use Rattle.numbers.proofs.round_down.Tie as tie
 
 -- what owning an f64 tells: the format holds it
 held : (c : tie.Start) → T (fits binary64 c.args.x)
-held c = subst T (sym c.well-formed.0.1) tt
+held c = subst T (sym c.well_formed.0.1) tt
 
 abbrev bits : tie.Start → ℕ
 bits c = to_bits binary64 c.args.x
@@ -22,34 +22,34 @@ down_nan : (x : Float) → x ≡ nan → x ≡ round_down_of x
 unfolding round_down_of
 down_nan x e = e ∙ ap round_down_of (sym e)
 
-returns : tie.Need-returns
-returns c = down_nan c.before.args.x (differs_from_itself c.before.args.x (subst T (sym c.if1.true) tt))
+returns : tie.Need-returns-then-x
+returns c = down_nan c.before.args.x (differs_from_itself c.before.args.x (subst T (sym c.if-x.true) tt))
 
-returns-2 : tie.Need-returns-2
+returns-2 : tie.Need-returns-then-exponent-ge1075
 returns-2 c =
     let a = c.before.before in
     let s = leb (2 ^ 63) (bits a) in
     let e = apart a.args.x s (held a) refl in
-    e ∙ down_whole s (exponent_of (bits a)) (fraction_of (bits a)) c.if2.true (exponent_lt (bits a)) (fraction_lt (bits a)) ∙ ap round_down_of (sym e)
+    e ∙ down_whole s (exponent_of (bits a)) (fraction_of (bits a)) c.if-exponent-ge1075.true (exponent_lt (bits a)) (fraction_lt (bits a)) ∙ ap round_down_of (sym e)
 
-round-down-small-requires : tie.Need-round-down-small-requires
-round-down-small-requires c κs = let a = c.before.before.before in (sym (of_bits-to_bits binary64 a.args.x (held a)), c.if3.true)
+round_down_small-requires : tie.Need-round_down_small-requires
+round_down_small-requires c κs = let a = c.before.before.before in (sym (of_bits-to_bits binary64 a.args.x (held a)), c.if-exponent-lt1023.true)
 
 -- ---- past the tests: from 1 to 52 digits stand behind the point
 abbrev low : tie.Start → ℕ
 low c = 1075 - exponent_of (bits c)
 
-few : (c : tie.Else3) → low c.before.before.before ≤ 52
-few c = go (exponent_of (bits c.before.before.before)) c.if3.false
+few : (c : tie.Else-exponent-lt1023) → low c.before.before.before ≤ 52
+few c = go (exponent_of (bits c.before.before.before)) c.if-exponent-lt1023.false
   where
     go : (e : ℕ) → 1023 ≤ e → 1075 - e ≤ 52
     go e h = omega arith
 
-cut : (c : tie.Else3) → Stepped (bits c.before.before.before) (low c.before.before.before)
+cut : (c : tie.Else-exponent-lt1023) → Stepped (bits c.before.before.before) (low c.before.before.before)
 cut c =
     let a = c.before.before.before in
     let e = exponent_of (bits a) in
-    cut_any (bits a) (low a) (to_bits-lt binary64 a.args.x (held a)) (sum e c.before.if2.false) (some e c.before.if2.false) (few c)
+    cut_any (bits a) (low a) (to_bits-lt binary64 a.args.x (held a)) (sum e c.before.if-exponent-ge1075.false) (some e c.before.if-exponent-ge1075.false) (few c)
   where
     sum : (e : ℕ) → e < 1075 → 1075 - e + e ≡ 1075
     sum e h = omega arith
@@ -57,17 +57,17 @@ cut c =
     some : (e : ℕ) → e < 1075 → 1 ≤ 1075 - e
     some e h = omega arith
 
-returns-4 : tie.Need-returns-4
+returns-4 : tie.Need-returns
 returns-4 c = let a = c.before.before.before in (cut c).1.is ∙ ap round_down_of (of_bits-to_bits binary64 a.args.x (held a))
 
-pub round-down-spec : {M : Type 1} → statement M
-round-down-spec =
+pub round_down_spec : {M : Type 1} → statement M
+round_down_spec =
     tie.close
     (tie.spec
     returns
-    (λ c. no_nan c.before.args.x c.if1.false)
+    (λ c. no_nan c.before.args.x c.if-x.false)
     returns-2
-    round-down-small-requires
+    round_down_small-requires
     (λ c. search rules)
     (λ c. search rules)
     (λ c. search rules)

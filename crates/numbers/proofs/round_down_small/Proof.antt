@@ -19,29 +19,29 @@ plus_zero : of_bits binary64 0 ≡ round binary64 false 0 1
 unfolding of_bits round
 plus_zero = refl
 
-returns : tie.Need-returns
+returns : tie.Need-returns-then-bits-eq0
 returns c =
     let b = c.before.args.bits in
     let s = leb (2 ^ 63) b in
-    let z = magnitude_zero b c.if1.true in
+    let z = magnitude_zero b c.if-bits-eq0.true in
     let e = by_fields c.before s refl ∙ ap (λ (n : ℕ). of_fields binary64 s n (fraction_of b)) z.0 ∙ ap (λ (n : ℕ). of_fields binary64 s 0 n) z.1 in
     e ∙ down_zero s ∙ ap round_down_of (sym e)
 
-returns-2 : tie.Need-returns-2
+returns-2 : tie.Need-returns-then-bits-ne0
 returns-2 c =
     let a = c.before.before in
     let b = a.args.bits in
     minus_one
-    ∙ down_small true (exponent_of b) (fraction_of b) a.requires.1 (fraction_lt b) (magnitude_some b c.before.if1.false)
-    ∙ ap round_down_of (sym (by_fields a true (sign_set b c.if2.true)))
+    ∙ down_small true (exponent_of b) (fraction_of b) a.requires.1 (fraction_lt b) (magnitude_some b c.before.if-bits-eq0.false)
+    ∙ ap round_down_of (sym (by_fields a true (sign_set b c.if-bits-ne0.true)))
 
-returns-3 : tie.Need-returns-3
+returns-3 : tie.Need-returns
 returns-3 c =
     let a = c.before.before in
     let b = a.args.bits in
     plus_zero
-    ∙ down_small false (exponent_of b) (fraction_of b) a.requires.1 (fraction_lt b) (magnitude_some b c.before.if1.false)
-    ∙ ap round_down_of (sym (by_fields a false (sign_clear b c.if2.false)))
+    ∙ down_small false (exponent_of b) (fraction_of b) a.requires.1 (fraction_lt b) (magnitude_some b c.before.if-bits-eq0.false)
+    ∙ ap round_down_of (sym (by_fields a false (sign_clear b c.if-bits-ne0.false)))
 
-pub round-down-small-spec : {M : Type 1} → statement M
-round-down-small-spec = tie.close (tie.spec returns returns-2 returns-3)
+pub round_down_small_spec : {M : Type 1} → statement M
+round_down_small_spec = tie.close (tie.spec returns returns-2 returns-3)

@@ -8,5 +8,5 @@ returns : tie.Need-returns
 unfolding round_up_of
 returns c = ap neg c.round_down.ensures
 
-pub round-up-spec : {M : Type 1} → statement M
-round-up-spec = tie.close (tie.spec (λ c κs. tt) returns)
+pub round_up_spec : {M : Type 1} → statement M
+round_up_spec = tie.close (tie.spec (λ c κs. tt) returns)

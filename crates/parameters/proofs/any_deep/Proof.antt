@@ -9,34 +9,34 @@ use Rattle.parameters.proofs.Testing.{any_starts, any_holds, any_goes, any_end}
 use Rattle.parameters.proofs.any_deep.Statement.{statement}
 use Rattle.parameters.proofs.any_deep.Tie as tie
 
-abbrev invariant-loop : tie.invariant-loop
+abbrev invariant-loop : tie.invariant-loop-m
 invariant-loop levels count p m₀ m = (any_of (too_deep p) (levels_in levels m (count - m)) ≡ any_of (too_deep p) (levels_in levels 0 count)) × (m ≤ count)
 
-abbrev decreases-loop : tie.decreases-loop
+abbrev decreases-loop : tie.decreases-loop-m
 decreases-loop levels count p m₀ m = count - m
 
-loop-holds : tie.Need-loop-init invariant-loop decreases-loop
+loop-holds : tie.Need-loop-m-init invariant-loop decreases-loop
 loop-holds c = (any_starts _ _ _, omega arith)
 
 -- what the test says of level m
-tested : (c : tie.After-too-deep invariant-loop decreases-loop) → too_deep c.before.before.before.before.before.args.p
-    (level_in c.before.before.before.before.before.args.levels.now c.before.before.before.loop.m) ≡ c.too-deep.result
-tested c = ap (too_deep c.before.before.before.before.before.args.p) (sym c.before.level-at.ensures) ∙ sym c.too-deep.ensures
+tested : (c : tie.After-too_deep invariant-loop decreases-loop) → too_deep c.before.before.before.before.before.args.p
+    (level_in c.before.before.before.before.before.args.levels.now c.before.before.before.loop-m.m) ≡ c.too_deep.result
+tested c = ap (too_deep c.before.before.before.before.before.args.p) (sym c.before.level_at.ensures) ∙ sym c.too_deep.ensures
 
-returns : tie.Need-returns invariant-loop decreases-loop
-returns c = any_holds _ _ _ _ c.before.before.before.loop-test.true (tested c.before ∙ c.if1.true)
-    c.before.before.before.before.loop.invariant.0
+returns : tie.Need-returns-then-too_deep invariant-loop decreases-loop
+returns c = any_holds _ _ _ _ c.before.before.before.loop-m-test.true (tested c.before ∙ c.if-too_deep.true)
+    c.before.before.before.before.loop-m.invariant.0
 
-loop-again : tie.Need-loop-preserved invariant-loop decreases-loop
+loop-again : tie.Need-loop-m-preserved invariant-loop decreases-loop
 loop-again c = (
-  any_goes _ _ _ _ c.before.before.before.loop-test.true (tested c.before ∙ c.if1.false)
-      c.before.before.before.before.loop.invariant.0,
+  any_goes _ _ _ _ c.before.before.before.loop-m-test.true (tested c.before ∙ c.if-too_deep.false)
+      c.before.before.before.before.loop-m.invariant.0,
   omega arith,
 )
 
-returns-2 : tie.Need-returns-2 invariant-loop decreases-loop
-returns-2 c = sym (any_end _ _ c.before.loop.m _ (omega arith)) ∙ c.before.loop.invariant.0
+returns-2 : tie.Need-returns invariant-loop decreases-loop
+returns-2 c = sym (any_end _ _ c.before.loop-m.m _ (omega arith)) ∙ c.before.loop-m.invariant.0
 
-pub any-deep-spec : {M : Type 1} → statement M
-any-deep-spec = tie.close
+pub any_deep_spec : {M : Type 1} → statement M
+any_deep_spec = tie.close
     (tie.spec invariant-loop decreases-loop loop-holds (λ c κs. omega arith) (λ c κs. tt) returns (λ c. omega arith) (λ c. omega arith) loop-again returns-2)

@@ -9,34 +9,34 @@ use Rattle.parameters.proofs.are_heights.Reads as are-heights-reads
 use Rattle.parameters.proofs.are_numbers.Reads as are-numbers-reads
 use Rattle.parameters.proofs.are_steps.Reads as are-steps-reads
 
-are-numbers-requires : tie.Need-are-numbers-requires
-are-numbers-requires c κs = search rules
+are_numbers-requires : tie.Need-are_numbers-requires
+are_numbers-requires c κs = search rules
 
-are-steps-requires : tie.Need-are-steps-requires
-are-steps-requires c κs = search rules
+are_steps-requires : tie.Need-are_steps-requires
+are_steps-requires c κs = search rules
 
-are-heights-requires : tie.Need-are-heights-requires
-are-heights-requires c κs = search rules
+are_heights-requires : tie.Need-are_heights-requires
+are_heights-requires c κs = search rules
 
-returns : tie.Need-returns
+returns : tie.Need-returns-then-are_steps
 unfolding are_terms
 returns c = search (flags, and_on, and_off) depth 9
 
-returns-2 : tie.Need-returns-2
+returns-2 : tie.Need-returns-else-are_steps
 unfolding are_terms
 returns-2 c = search (flags, and_on, and_off) depth 9
 
-returns-3 : tie.Need-returns-3
+returns-3 : tie.Need-returns-else-are_numbers
 unfolding are_terms
 returns-3 c = search (flags, and_on, and_off) depth 9
 
-pub are-terms-spec : {M : Type 1} → statement M
-are-terms-spec =
+pub are_terms_spec : {M : Type 1} → statement M
+are_terms_spec =
     tie.close
     (tie.spec
-    are-numbers-requires
-    are-steps-requires
-    are-heights-requires
+    are_numbers-requires
+    are_steps-requires
+    are_heights-requires
     returns
     returns-2
     returns-3)

@@ -5,13 +5,13 @@ use Rattle.parameters.proofs.too_deep.Tie as tie
 use Rattle.parameters.proofs.too_deep.Reads as reads
 use Rattle.parameters.proofs.too_deep.Lts as lts
 
-returns : tie.Need-returns
+returns : tie.Need-returns-then-l-top
 unfolding too_deep
 returns c = search (or_on, or_off)
 
-returns-2 : tie.Need-returns-2
+returns-2 : tie.Need-returns
 unfolding too_deep
 returns-2 c = search (or_on, or_off)
 
-pub too-deep-spec : {M : Type 1} → statement M
-too-deep-spec = tie.close (tie.spec returns returns-2)
+pub too_deep_spec : {M : Type 1} → statement M
+too_deep_spec = tie.close (tie.spec returns returns-2)

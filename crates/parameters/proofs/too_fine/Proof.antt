@@ -11,14 +11,14 @@ use Rattle.rows.proofs.samples.Reads as samples-reads
 use Rattle.rows.proofs.spread_of.Reads as spread-of-reads
 use Rattle.rows.proofs.step.Reads as step-reads
 
-spread-of-requires : tie.Need-spread-of-requires
-spread-of-requires c κs = search rules
+spread_of-requires : tie.Need-spread_of-s-requires
+spread_of-requires c κs = search rules
 
 intervals-requires : tie.Need-intervals-requires
 intervals-requires c κs = search rules
 
-returns : tie.Need-returns
-returns c = fine_rows _ _ _ _ _ _ c.before.before.spread-of.ensures c.before.intervals.ensures c.if1.true
+returns : tie.Need-returns-then-intervals-gt65535
+returns c = fine_rows _ _ _ _ _ _ c.before.before.spread_of-s.ensures c.before.intervals.ensures c.if-intervals-gt65535.true
 
 step-requires : tie.Need-step-requires
 step-requires c κs = search rules
@@ -26,15 +26,15 @@ step-requires c κs = search rules
 samples-requires : tie.Need-samples-requires
 samples-requires c κs = search rules
 
-returns-2 : tie.Need-returns-2
-returns-2 c = fine_samples _ _ _ _ _ _ c.before.before.before.before.spread-of.ensures c.before.before.before.intervals.ensures
-    c.before.before.if1.false _ (c.samples.ensures ∙ ap (samples_of _) c.before.step.ensures)
+returns-2 : tie.Need-returns
+returns-2 c = fine_samples _ _ _ _ _ _ c.before.before.before.before.spread_of-s.ensures c.before.before.before.intervals.ensures
+    c.before.before.if-intervals-gt65535.false _ (c.samples.ensures ∙ ap (samples_of _) c.before.step.ensures)
 
-pub too-fine-spec : {M : Type 1} → statement M
-too-fine-spec =
+pub too_fine_spec : {M : Type 1} → statement M
+too_fine_spec =
     tie.close
     (tie.spec
-    spread-of-requires
+    spread_of-requires
     intervals-requires
     returns
     step-requires

@@ -16,13 +16,13 @@ use Rattle.paths.specs.Reader.{number_of}
 use Rattle.paths.proofs.first_bad.Statement.{statement}
 use Rattle.paths.proofs.first_bad.Tie as tie
 
-abbrev invariant-loop : tie.invariant-loop
+abbrev invariant-loop : tie.invariant-loop-k
 invariant-loop bytes n count k₀ k = (first_bad (number_of bytes) k (count - k) ≡ first_bad (number_of bytes) 0 count) × (k ≤ count) × (count ≡ 3 * n + 3)
 
-abbrev decreases-loop : tie.decreases-loop
+abbrev decreases-loop : tie.decreases-loop-k
 decreases-loop bytes n count k₀ k = count - k
 
-loop-holds : tie.Need-loop-init invariant-loop decreases-loop
+loop-holds : tie.Need-loop-k-init invariant-loop decreases-loop
 loop-holds c = (rw sub-zero, search rules, search rules)
 
 -- what is known of number k after its test
@@ -30,24 +30,24 @@ tested : (bytes : List ℕ) (k x : ℕ) (b t : Bool) → x ≡ value (number k) 
 unfolding number_of
 tested bytes k x b t p q e = rw (← p, ← q) e
 
-returns : tie.Need-returns invariant-loop decreases-loop
+returns : tie.Need-returns-then-not-is_finite invariant-loop decreases-loop
 returns c =
     let d = c.before.before.before in
-    bad_stops _ _ d.before.loop.k _ d.loop-test.true
-    (tested _ _ _ _ _ c.before.before.bits_of.ensures c.before.is_finite.ensures (not-true _ c.if1.true)) d.before.loop.invariant.0
+    bad_stops _ _ d.before.loop-k.k _ d.loop-k-test.true
+    (tested _ _ _ _ _ c.before.before.bits_of.ensures c.before.is_finite.ensures (c.if-not-is_finite.true)) d.before.loop-k.invariant.0
 
-loop-again : tie.Need-loop-preserved invariant-loop decreases-loop
+loop-again : tie.Need-loop-k-preserved invariant-loop decreases-loop
 loop-again c =
     let d = c.before.before.before in (
-      bad_goes _ _ d.before.loop.k _ d.loop-test.true (tested _ _ _ _ _ c.before.before.bits_of.ensures c.before.is_finite.ensures
-          (not-false _ c.if1.false)) d.before.loop.invariant.0,
+      bad_goes _ _ d.before.loop-k.k _ d.loop-k-test.true (tested _ _ _ _ _ c.before.before.bits_of.ensures c.before.is_finite.ensures
+          (c.if-not-is_finite.false)) d.before.loop-k.invariant.0,
       omega arith,
       omega arith,
     )
 
-returns-2 : tie.Need-returns-2 invariant-loop decreases-loop
-returns-2 c = bad_ends _ _ c.before.loop.k _ (omega arith) c.before.loop.invariant.0
+returns-2 : tie.Need-returns invariant-loop decreases-loop
+returns-2 c = bad_ends _ _ c.before.loop-k.k _ (omega arith) c.before.loop-k.invariant.0
 
-pub first-bad-spec : {M : Type 1} → statement M
-first-bad-spec = tie.close (tie.spec invariant-loop decreases-loop (λ c. omega arith) (λ c. omega arith) loop-holds (λ c κs. omega arith) (λ c κs. tt) returns
+pub first_bad_spec : {M : Type 1} → statement M
+first_bad_spec = tie.close (tie.spec invariant-loop decreases-loop (λ c. omega arith) (λ c. omega arith) loop-holds (λ c κs. omega arith) (λ c κs. tt) returns
     (λ c. omega arith) (λ c. omega arith) loop-again returns-2)

@@ -8,17 +8,17 @@ use Rattle.paths.specs.Reader.{kind_of}
 use Rattle.paths.proofs.kind_at.Statement.{statement}
 use Rattle.paths.proofs.kind_at.Tie as tie
 
-returns : tie.Need-returns
+returns : tie.Need-returns-then-bytes-t-eq0
 unfolding kind_of
 returns c =
     let a = c.before.before.args in
-    taken _ _ _ _ (eq-eqb _ 0 (value_byte a.bytes.now _ (omega arith) ∙ c.if1.true)) refl
+    taken _ _ _ _ (eq-eqb _ 0 (value_byte a.bytes.now _ (omega arith) ∙ c.if-bytes-t-eq0.true)) refl
 
-returns-2 : tie.Need-returns-2
+returns-2 : tie.Need-returns
 unfolding kind_of
 returns-2 c =
     let a = c.before.before.args in
-    left _ _ _ _ (ne_eqb _ 0 (λ e. c.if1.false (sym (value_byte a.bytes.now _ (omega arith)) ∙ e))) refl
+    left _ _ _ _ (ne_eqb _ 0 (λ e. c.if-bytes-t-eq0.false (sym (value_byte a.bytes.now _ (omega arith)) ∙ e))) refl
 
-pub kind-at-spec : {M : Type 1} → statement M
-kind-at-spec = tie.close (tie.spec (λ c. search rules) (λ c. search rules) (λ c. search rules) returns returns-2)
+pub kind_at_spec : {M : Type 1} → statement M
+kind_at_spec = tie.close (tie.spec (λ c. search rules) (λ c. search rules) (λ c. search rules) returns returns-2)

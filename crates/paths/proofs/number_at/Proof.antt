@@ -4,13 +4,13 @@ use Rattle.fields.proofs.Finite.{finite_bits}
 use Rattle.paths.proofs.number_at.Statement.{statement}
 use Rattle.paths.proofs.number_at.Tie as tie
 
-float-from-bits-result : tie.Need-float-from-bits-result
+float_from_bits-result : tie.Need-float_from_bits-result
 unfolding number_of
-float-from-bits-result c = finite_bits _ _ (rw c.bits_of.ensures c.before.before.requires.1)
+float_from_bits-result c = finite_bits _ _ (rw c.bits_of.ensures c.before.before.requires.1)
 
 returns : tie.Need-returns
 unfolding number_of
 returns c = rw c.bits_of.ensures
 
-pub number-at-spec : {M : Type 1} → statement M
-number-at-spec = tie.close (tie.spec (λ c κs. search rules) float-from-bits-result returns)
+pub number_at_spec : {M : Type 1} → statement M
+number_at_spec = tie.close (tie.spec (λ c κs. search rules) float_from_bits-result returns)

@@ -3,13 +3,13 @@ use Rattle.rules.proofs.Ladder.{ladder}
 use Rattle.paths.proofs.refusal_of_count.Statement.{statement}
 use Rattle.paths.proofs.refusal_of_count.Tie as tie
 
-returns : tie.Need-returns
+returns : tie.Need-returns-then-n-gt-MOST
 unfolding refusal_of_count
 returns c = search ladder depth 12
 
-returns-2 : tie.Need-returns-2
+returns-2 : tie.Need-returns
 unfolding refusal_of_count
 returns-2 c = search ladder depth 12
 
-pub refusal-of-count-spec : {M : Type 1} → statement M
-refusal-of-count-spec = tie.close (tie.spec returns (λ c κs. tt) returns-2)
+pub refusal_of_count_spec : {M : Type 1} → statement M
+refusal_of_count_spec = tie.close (tie.spec returns (λ c κs. tt) returns-2)

@@ -5,5 +5,5 @@ use Rattle.paths.proofs.shape.Tie as tie
 returns : tie.Need-returns
 returns c = refl
 
-pub shape-spec : {M : Type 1} → statement M
-shape-spec = tie.close (tie.spec returns)
+pub shape_spec : {M : Type 1} → statement M
+shape_spec = tie.close (tie.spec returns)

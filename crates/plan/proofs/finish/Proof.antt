@@ -13,9 +13,9 @@ returns c =
     let d = c.before.before.before.before in
     let w = d.before.before.before.before.before in
     let y = w.before.before.before.before.before.before in (
-      d.settle.ensures ∙ finished_is _ _ _ _ _ _ y.search-levels.ensures.0,
+      d.settle.ensures ∙ finished_is _ _ _ _ _ _ y.search_levels-y.ensures.0,
       w.wipe.ensures
-          ∙ ap (λ (n : ℕ). replicate n 0) y.search-levels.ensures.1,
+          ∙ ap (λ (n : ℕ). replicate n 0) y.search_levels-y.ensures.1,
     )
 
 pub finish_spec : {M : Type 1} → statement M

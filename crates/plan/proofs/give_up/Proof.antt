@@ -8,5 +8,5 @@ returns c =
     let z = c.before.before.before.before.before.zero.ensures in
     settled_same _ _ _ _ _ _ c.refused.ensures z.0 z.1
 
-pub give-up-spec : {M : Type 1} → statement M
-give-up-spec = tie.close (tie.spec (λ c κs. tt) (λ c κs. tt) (λ c. search rules) (λ c. search rules) returns)
+pub give_up_spec : {M : Type 1} → statement M
+give_up_spec = tie.close (tie.spec (λ c κs. tt) (λ c κs. tt) (λ c. search rules) (λ c. search rules) returns)

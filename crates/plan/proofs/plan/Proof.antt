@@ -5,24 +5,24 @@ use Rattle.plan.proofs.Losing.{lost_none}
 use Rattle.plan.proofs.plan.Statement.{statement}
 use Rattle.plan.proofs.plan.Tie as tie
 
-returns : tie.Need-returns
+returns : tie.Need-returns-then-k-ne0
 returns c =
-    let e = input_refused _ _ _ _ _ _ _ c.before.before.refusal.ensures _ c.before.if1.true c.refused.ensures in
+    let e = input_refused _ _ _ _ _ _ _ c.before.before.refusal-k.ensures _ c.before.if-k-ne0.true c.refused.ensures in
     (e, (never_seven _ _ _ _ _ _ _ _ _ _ e, lost_none _ _ _ _ _ _ _ _ _ _ e))
 
 work-requires : tie.Need-work-requires
 work-requires c κs =
     let d = c.before.before.before in
-    passed _ _ _ (sym d.before.refusal.ensures ∙ d.if1.false)
+    passed _ _ _ (sym d.before.refusal-k.ensures ∙ d.if-k-ne0.false)
 
-returns-2 : tie.Need-returns-2
+returns-2 : tie.Need-returns
 returns-2 c =
     let d = c.before.before.before.before.before.before in
     let e = d.before.before.before.before in
-    let o = input_passed _ _ _ _ _ _ _ e.before.refusal.ensures _ e.if1.false d.work.ensures in
+    let o = input_passed _ _ _ _ _ _ _ e.before.refusal-k.ensures _ e.if-k-ne0.false d.work.ensures in
     (o, (never_seven _ _ _ _ _ _ _ _ _ _ o, lost_none _ _ _ _ _ _ _ _ _ _ o))
 
-pub plan-spec : {M : Type 1} → statement M
-plan-spec =
+pub plan_spec : {M : Type 1} → statement M
+plan_spec =
     tie.close
     (tie.spec (λ c κs. tt) (λ c κs. tt) (λ c. search rules) returns work-requires (λ c. search rules) (λ c. search rules) (λ c. search rules) returns-2)

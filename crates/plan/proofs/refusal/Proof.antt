@@ -8,47 +8,47 @@ use Rattle.plan.specs.Plan.{refusal_of_input}
 use Rattle.plan.proofs.refusal.Statement.{statement}
 use Rattle.plan.proofs.refusal.Tie as tie
 
-boxed : (c : tie.Else2) → let a = c.before.before.before.before.before.before.before.before.before.args in
+boxed : (c : tie.Else-not-is_boxed) → let a = c.before.before.before.before.before.before.before.before.before.args in
     is_boxed a.mesh.now a.boxes.now ≡ true
-boxed c = bool_called _ _ _ c.before.is-boxed.ensures (not-false _ c.if2.false)
+boxed c = bool_called _ _ _ c.before.is_boxed.ensures (c.if-not-is_boxed.false)
 
-returns : tie.Need-returns
+returns : tie.Need-returns-then-not-is_marked
 unfolding refusal_of_input
 returns c = search ladder depth 9
 
-returns-2 : tie.Need-returns-2
+returns-2 : tie.Need-returns-then-not-is_boxed
 unfolding refusal_of_input
 returns-2 c = search ladder depth 9
 
-returns-3 : tie.Need-returns-3
+returns-3 : tie.Need-returns-then-not-are_terms
 unfolding refusal_of_input
 returns-3 c =
-    demand_next _ _ _ _ (bool_called _ _ _ c.before.before.before.before.before.is-marked.ensures
-    (not-false _ c.before.before.before.before.if1.false))
+    demand_next _ _ _ _ (bool_called _ _ _ c.before.before.before.before.before.is_marked.ensures
+    (c.before.before.before.before.if-not-is_marked.false))
     (demand_next _ _ _ _ (boxed c.before.before)
-    (demand_here _ _ _ _ (bool_called _ _ _ c.before.are-terms.ensures (not-true _ c.if3.true)) refl))
+    (demand_here _ _ _ _ (bool_called _ _ _ c.before.are_terms.ensures (c.if-not-are_terms.true)) refl))
 
-usable-whole-requires : tie.Need-usable-whole-requires
+usable_whole-requires : tie.Need-usable_whole-requires
 unfolding is_boxed
-usable-whole-requires c κs = eqb-true _ _ (boxed c.before.before)
+usable_whole-requires c κs = eqb-true _ _ (boxed c.before.before)
 
-returns-4 : tie.Need-returns-4
+returns-4 : tie.Need-returns-then-not-usable_whole
 unfolding refusal_of_input
 returns-4 c =
-    demand_next _ _ _ _ (bool_called _ _ _ c.before.before.before.before.before.before.before.is-marked.ensures
-    (not-false _ c.before.before.before.before.before.before.if1.false))
+    demand_next _ _ _ _ (bool_called _ _ _ c.before.before.before.before.before.before.before.is_marked.ensures
+    (c.before.before.before.before.before.before.if-not-is_marked.false))
     (demand_next _ _ _ _ (boxed c.before.before.before.before)
-    (demand_next _ _ _ _ (bool_called _ _ _ c.before.before.before.are-terms.ensures (not-false _ c.before.before.if3.false))
-    (demand_here _ _ _ _ (bool_called _ _ _ c.before.usable-whole.ensures (not-true _ c.if4.true)) refl)))
+    (demand_next _ _ _ _ (bool_called _ _ _ c.before.before.before.are_terms.ensures (c.before.before.if-not-are_terms.false))
+    (demand_here _ _ _ _ (bool_called _ _ _ c.before.usable_whole.ensures (c.if-not-usable_whole.true)) refl)))
 
-returns-5 : tie.Need-returns-5
+returns-5 : tie.Need-returns
 unfolding refusal_of_input
 returns-5 c =
-    demand_next _ _ _ _ (bool_called _ _ _ c.before.before.before.before.before.before.before.is-marked.ensures
-    (not-false _ c.before.before.before.before.before.before.if1.false))
+    demand_next _ _ _ _ (bool_called _ _ _ c.before.before.before.before.before.before.before.is_marked.ensures
+    (c.before.before.before.before.before.before.if-not-is_marked.false))
     (demand_next _ _ _ _ (boxed c.before.before.before.before)
-    (demand_next _ _ _ _ (bool_called _ _ _ c.before.before.before.are-terms.ensures (not-false _ c.before.before.if3.false))
-    (demand_next _ _ _ _ (bool_called _ _ _ c.before.usable-whole.ensures (not-false _ c.if4.false)) refl)))
+    (demand_next _ _ _ _ (bool_called _ _ _ c.before.before.before.are_terms.ensures (c.before.before.if-not-are_terms.false))
+    (demand_next _ _ _ _ (bool_called _ _ _ c.before.usable_whole.ensures (c.if-not-usable_whole.false)) refl)))
 
-pub refusal-spec : {M : Type 1} → statement M
-refusal-spec = tie.close (tie.spec (λ c κs. tt) returns (λ c κs. tt) returns-2 (λ c κs. tt) returns-3 usable-whole-requires returns-4 returns-5)
+pub refusal_spec : {M : Type 1} → statement M
+refusal_spec = tie.close (tie.spec (λ c κs. tt) returns (λ c κs. tt) returns-2 (λ c κs. tt) returns-3 usable_whole-requires returns-4 returns-5)

@@ -6,5 +6,5 @@ returns : tie.Need-returns
 unfolding bounds_of
 returns c = cc
 
-pub bounds-of-spec : {M : Type 1} → statement M
-bounds-of-spec = tie.close (tie.spec (λ c κs. tt) (λ c κs. tt) (λ c κs. tt) (λ c κs. tt) (λ c κs. tt) returns)
+pub bounds_of_spec : {M : Type 1} → statement M
+bounds_of_spec = tie.close (tie.spec (λ c κs. tt) (λ c κs. tt) (λ c κs. tt) (λ c κs. tt) (λ c κs. tt) returns)

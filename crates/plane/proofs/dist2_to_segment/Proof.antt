@@ -4,7 +4,7 @@ use Rattle.plane.proofs.dist2_to_segment.Tie as tie
 
 returns : tie.Need-returns
 unfolding dist2_to_segment
-returns c = rw c.nearest-t.ensures
+returns c = rw c.nearest_t-t.ensures
 
-pub dist2-to-segment-spec : {M : Type 1} → statement M
-dist2-to-segment-spec = tie.close (tie.spec (λ c κs. tt) returns)
+pub dist2_to_segment_spec : {M : Type 1} → statement M
+dist2_to_segment_spec = tie.close (tie.spec (λ c κs. tt) returns)

@@ -7,6 +7,6 @@ returns : tie.Need-returns
 unfolding edge_distance
 returns c = cc
 
-pub edge-distance-spec : {M : Type 1} → statement M
+pub edge_distance_spec : {M : Type 1} → statement M
 unfolding nan_bits
-edge-distance-spec = tie.close (tie.spec (λ c. tt) (λ c κs. tt) (λ c κs. tt) (λ c κs. tt) (λ c κs. tt) (λ c κs. tt) (λ c κs. tt) (λ c κs. tt) returns)
+edge_distance_spec = tie.close (tie.spec (λ c. tt) (λ c κs. tt) (λ c κs. tt) (λ c κs. tt) (λ c κs. tt) (λ c κs. tt) (λ c κs. tt) (λ c κs. tt) returns)

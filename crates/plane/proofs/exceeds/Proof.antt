@@ -3,17 +3,17 @@ use Rattle.plane.specs.Contacts.{exceeds_of}
 use Rattle.plane.proofs.exceeds.Statement.{statement}
 use Rattle.plane.proofs.exceeds.Tie as tie
 
-returns : tie.Need-returns
+returns : tie.Need-returns-then-z
 unfolding exceeds_of
 returns c = search branches
 
-returns-2 : tie.Need-returns-2
+returns-2 : tie.Need-returns-else-z
 unfolding exceeds_of
 returns-2 c = search branches
 
-returns-3 : tie.Need-returns-3
+returns-3 : tie.Need-returns-else-b
 unfolding exceeds_of
 returns-3 c = search branches
 
-pub exceeds-spec : {M : Type 1} → statement M
-exceeds-spec = tie.close (tie.spec returns returns-2 returns-3)
+pub exceeds_spec : {M : Type 1} → statement M
+exceeds_spec = tie.close (tie.spec returns returns-2 returns-3)

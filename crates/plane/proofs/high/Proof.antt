@@ -6,5 +6,5 @@ returns : tie.Need-returns
 unfolding highest
 returns c = cc
 
-pub high-spec : {M : Type 1} → statement M
-high-spec = tie.close (tie.spec (λ c κs. tt) (λ c κs. tt) returns)
+pub high_spec : {M : Type 1} → statement M
+high_spec = tie.close (tie.spec (λ c κs. tt) (λ c κs. tt) returns)

@@ -6,5 +6,5 @@ returns : tie.Need-returns
 unfolding is_point
 returns c = rw c.abs.ensures
 
-pub is-point-spec : {M : Type 1} → statement M
-is-point-spec = tie.close (tie.spec (λ c κs. tt) returns)
+pub is_point_spec : {M : Type 1} → statement M
+is_point_spec = tie.close (tie.spec (λ c κs. tt) returns)

@@ -6,5 +6,5 @@ returns : tie.Need-returns
 unfolding lowest
 returns c = cc
 
-pub low-spec : {M : Type 1} → statement M
-low-spec = tie.close (tie.spec (λ c κs. tt) (λ c κs. tt) returns)
+pub low_spec : {M : Type 1} → statement M
+low_spec = tie.close (tie.spec (λ c κs. tt) (λ c κs. tt) returns)

@@ -3,13 +3,13 @@ use Rattle.plane.specs.Distance.{nearest_t}
 use Rattle.plane.proofs.nearest_t.Statement.{statement}
 use Rattle.plane.proofs.nearest_t.Tie as tie
 
-returns : tie.Need-returns
+returns : tie.Need-returns-then-l2
 unfolding nearest_t
 returns c = search branches
 
-returns-2 : tie.Need-returns-2
+returns-2 : tie.Need-returns-else-l2
 unfolding nearest_t
 returns-2 c = search branches
 
-pub nearest-t-spec : {M : Type 1} → statement M
-nearest-t-spec = tie.close (tie.spec (λ c κs. tt) returns returns-2)
+pub nearest_t_spec : {M : Type 1} → statement M
+nearest_t_spec = tie.close (tie.spec (λ c κs. tt) returns returns-2)

@@ -4,14 +4,14 @@ use Rattle.plane.proofs.Taking.{first_taken, next_taken, next_left_lem}
 use Rattle.plane.proofs.take.Statement.{statement}
 use Rattle.plane.proofs.take.Tie as tie
 
-returns : tie.Need-returns
-returns c = first_taken _ _ _ c.enum_told.given.1
+returns : tie.Need-returns-in-Nothing
+returns c = first_taken _ _ _ c.enum_told-1.given.1
 
-returns-2 : tie.Need-returns-2
-returns-2 c = next_taken _ _ _ _ _ c.before.before.before.c.given.1 (bool_called _ _ _ c.before.exceeds.ensures c.if1.true)
+returns-2 : tie.Need-returns-then-exceeds
+returns-2 c = next_taken _ _ _ _ _ c.before.before.before.c-1.given.1 (bool_called _ _ _ c.before.exceeds.ensures c.if-exceeds.true)
 
-returns-3 : tie.Need-returns-3
-returns-3 c = next_left_lem _ _ _ _ _ c.before.before.before.c.given.1 (bool_called _ _ _ c.before.exceeds.ensures c.if1.false)
+returns-3 : tie.Need-returns-else-exceeds
+returns-3 c = next_left_lem _ _ _ _ _ c.before.before.before.c-1.given.1 (bool_called _ _ _ c.before.exceeds.ensures c.if-exceeds.false)
 
 pub take_spec : {M : Type 1} → statement M
 take_spec = tie.close (tie.spec (λ c. search rules) (λ c. search rules) (λ c κs. tt) returns returns-2 returns-3)

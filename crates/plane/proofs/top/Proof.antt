@@ -6,5 +6,5 @@ returns : tie.Need-returns
 unfolding top_of
 returns c = c.high.ensures
 
-pub top-spec : {M : Type 1} → statement M
-top-spec = tie.close (tie.spec (λ c κs. tt) returns)
+pub top_spec : {M : Type 1} → statement M
+top_spec = tie.close (tie.spec (λ c κs. tt) returns)

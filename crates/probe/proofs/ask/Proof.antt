@@ -8,8 +8,8 @@ use Rattle.probe.proofs.Asking.{passed_decides}
 use Rattle.probe.proofs.ask.Statement.{statement}
 use Rattle.probe.proofs.ask.Tie as tie
 
-swept-until-requires : tie.Need-swept-until-requires
-swept-until-requires c κs =
+swept_until-requires : tie.Need-swept_until-s-requires
+swept_until-requires c κs =
     let s = c.before.before.before.before.before.before.before in
     let q = s.requires.0 in
     let m = s.requires.1 in
@@ -26,8 +26,8 @@ returns : tie.Need-returns
 returns c =
     let s = c.before.before.before.before.before.before.before.before.before.before.before in
     let ix = index_of s.args.mesh.now s.args.h s.args.starts.now s.args.members.now s.args.boxes.now in
-    let e = c.before.before.before.swept-until.ensures in
+    let e = c.before.before.before.swept_until-s.ensures in
     (passed_decides ix s.args.r _ _ e.0, record { size = e.1 ∙ s.requires.1.size; below = e.2 })
 
-pub ask-spec : {M : Type 1} → statement M
-ask-spec = tie.close (tie.spec swept-until-requires (λ c. search rules) returns)
+pub ask_spec : {M : Type 1} → statement M
+ask_spec = tie.close (tie.spec swept_until-requires (λ c. search rules) returns)

@@ -5,17 +5,17 @@ use Rattle.query.proofs.Patches.{held_none, held_some}
 use Rattle.query.proofs.held.Statement.{statement}
 use Rattle.query.proofs.held.Tie as tie
 
-returns : tie.Need-returns
+returns : tie.Need-returns-then-hi
 unfolding held_to
-returns c = taken _ _ _ _ c.if1.true refl
+returns c = taken _ _ _ _ c.if-hi.true refl
 
-returns-2 : tie.Need-returns-2
-returns-2 c = held_none _ _ _ _ c.before.cut.ensures c.before.before.if1.false c.if2.true
+returns-2 : tie.Need-returns-then-count-first
+returns-2 c = held_none _ _ _ _ c.before.cut-first.ensures c.before.before.if-hi.false c.if-count-first.true
 
-returns-3 : tie.Need-returns-3
+returns-3 : tie.Need-returns
 returns-3 c =
     let d = c.before.before in
-    held_some _ _ _ _ d.before.cut.ensures d.before.before.if1.false _ _ c.before.cut2.ensures c.«one-past».ensures d.if2.false
+    held_some _ _ _ _ d.before.cut-first.ensures d.before.before.if-hi.false _ _ c.before.cut.ensures c.«one-past».ensures d.if-count-first.false
 
 pub held_spec : {M : Type 1} → statement M
 held_spec = tie.close (tie.spec returns (λ c κs. tt) returns-2 (λ c κs. tt) (λ c κs. tt) returns-3)

@@ -6,5 +6,5 @@ returns : tie.Need-returns
 unfolding patch_of
 returns c = cc
 
-pub patch-of-spec : {M : Type 1} → statement M
-patch-of-spec = tie.close (tie.spec (λ c κs. tt) (λ c κs. tt) returns)
+pub patch_of_spec : {M : Type 1} → statement M
+patch_of_spec = tie.close (tie.spec (λ c κs. tt) (λ c κs. tt) returns)

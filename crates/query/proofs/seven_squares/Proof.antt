@@ -7,5 +7,5 @@ returns : tie.Need-returns
 unfolding seven_squares
 returns c = refl
 
-pub seven-squares-spec : {M : Type 1} → statement M
-seven-squares-spec = tie.close (tie.spec returns)
+pub seven_squares_spec : {M : Type 1} → statement M
+seven_squares_spec = tie.close (tie.spec returns)

@@ -5,14 +5,14 @@ use Rattle.query.proofs.Nearby.{near_usable}
 use Rattle.query.proofs.triangle_usable.Statement.{statement}
 use Rattle.query.proofs.triangle_usable.Tie as tie
 
-returns : tie.Need-returns
+returns : tie.Need-returns-then-evens-odds
 returns c =
     let b = c.before in
     let a = b.before.before.before.before.before.before.before.before in
-    near_usable _ _ _ _ _ a.seven-squares.ensures b.seven-squares2.ensures c.if1.true
+    near_usable _ _ _ _ _ a.seven_squares-evens.ensures b.seven_squares-odds.ensures c.if-evens-odds.true
 
-pub triangle-usable-spec : {M : Type 1} → statement M
-triangle-usable-spec =
+pub triangle_usable_spec : {M : Type 1} → statement M
+triangle_usable_spec =
     tie.close
     (tie.spec (λ c. omega arith) (λ c. omega arith)
     (λ c. omega arith) (λ c. omega arith) (λ c. omega arith) (λ c. omega arith) (λ c. omega arith) (λ c. omega arith) (λ c. omega arith) (λ c. omega arith)

@@ -11,10 +11,10 @@ use Rattle.query.proofs.Looks.{usable_told}
 use Rattle.query.proofs.usable.Statement.{statement}
 use Rattle.query.proofs.usable.Tie as tie
 
-cells-usable-requires : tie.Need-cells-usable-requires
-cells-usable-requires c κs =
+cells_usable-requires : tie.Need-cells_usable-requires
+cells_usable-requires c κs =
     let s = c.before.before.before.before.before.before.before.before.before.before in
-    let d = headed_is _ _ _ (sym c.before.before.before.head-usable.ensures ∙ c.before.before.if1.true) in (
+    let d = headed_is _ _ _ (sym c.before.before.before.head_usable.ensures ∙ c.before.before.if-head_usable.true) in (
       d.ranged.few,
       d.nine,
       omega (arith, d.nine, s.requires.0),
@@ -25,18 +25,18 @@ cells-usable-requires c κs =
       none_tested _,
     )
 
-returns : tie.Need-returns
+returns : tie.Need-returns-then-head_usable
 returns c =
     let s = c.before.before.before.before.before.before.before.before.before.before.before.before.before.before in
-    let r = c.before.before.before.cells-usable.ensures in
+    let r = c.before.before.before.cells_usable.ensures in
     let e = r.0 in
     usable_told _ _ _ _ _ (unfold usable in search (branches, bool_called, e)) s.requires.0 s.requires.1 s.requires.2
     (λ t few. ((r.1 t).1 _ (gathered_none _ _ s.requires.4)).listed few)
 
-returns-2 : tie.Need-returns-2
+returns-2 : tie.Need-returns-else-head_usable
 returns-2 c =
     let s = c.before.before.before.before.before.before.before.before in
     usable_told _ _ _ _ _ (unfold usable in search (branches, bool_called)) s.requires.0 s.requires.1 s.requires.2 (λ t few. absurd (no t))
 
-pub usable-spec : {M : Type 1} → statement M
-usable-spec = tie.close (tie.spec (λ c κs. tt) (λ c. search rules) cells-usable-requires (λ c. search rules) returns returns-2)
+pub usable_spec : {M : Type 1} → statement M
+usable_spec = tie.close (tie.spec (λ c κs. tt) (λ c. search rules) cells_usable-requires (λ c. search rules) returns returns-2)

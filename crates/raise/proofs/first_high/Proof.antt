@@ -11,31 +11,31 @@ use Rattle.raise.proofs.Lifting.{high_begins, high_finds, high_goes, high_ends}
 use Rattle.raise.proofs.first_high.Statement.{statement}
 use Rattle.raise.proofs.first_high.Tie as tie
 
-abbrev invariant-loop : tie.invariant-loop
+abbrev invariant-loop : tie.invariant-loop-k
 invariant-loop mesh amount k₀ k = (bad_from k (lifted_from amount k (drop k mesh)) ≡ first_bad (lifted amount mesh)) × (k ≤ length mesh)
 
-abbrev decreases-loop : tie.decreases-loop
+abbrev decreases-loop : tie.decreases-loop-k
 decreases-loop mesh amount k₀ k = length mesh - k
 
-returns : tie.Need-returns invariant-loop decreases-loop
+returns : tie.Need-returns-then-not-is_coordinate invariant-loop decreases-loop
 returns c =
-    let l = c.before.before.before.before.before.loop in
-    high_finds _ _ _ l.invariant.0 (omega arith) (sym (c.before.is-coordinate.ensures ∙ ap is_coordinate c.before.before.lifted-at.ensures)
-    ∙ not-true _ c.if1.true)
+    let l = c.before.before.before.before.before.loop-k in
+    high_finds _ _ _ l.invariant.0 (omega arith) (sym (c.before.is_coordinate.ensures ∙ ap is_coordinate c.before.before.lifted_at.ensures)
+    ∙ c.if-not-is_coordinate.true)
 
-loop-again : tie.Need-loop-preserved invariant-loop decreases-loop
+loop-again : tie.Need-loop-k-preserved invariant-loop decreases-loop
 loop-again c =
-    let l = c.before.before.before.before.before.loop in (
-      high_goes _ _ _ l.invariant.0 (omega arith) (sym (c.before.is-coordinate.ensures ∙ ap is_coordinate c.before.before.lifted-at.ensures)
-          ∙ not-false _ c.if1.false),
+    let l = c.before.before.before.before.before.loop-k in (
+      high_goes _ _ _ l.invariant.0 (omega arith) (sym (c.before.is_coordinate.ensures ∙ ap is_coordinate c.before.before.lifted_at.ensures)
+          ∙ c.if-not-is_coordinate.false),
       omega arith,
     )
 
-returns-2 : tie.Need-returns-2 invariant-loop decreases-loop
-returns-2 c = high_ends _ _ c.before.loop.k c.before.loop.invariant.0 (omega arith)
+returns-2 : tie.Need-returns invariant-loop decreases-loop
+returns-2 c = high_ends _ _ c.before.loop-k.k c.before.loop-k.invariant.0 (omega arith)
 
-pub first-high-spec : {M : Type 1} → statement M
-first-high-spec =
+pub first_high_spec : {M : Type 1} → statement M
+first_high_spec =
     tie.close
     (tie.spec invariant-loop decreases-loop (λ c. (high_begins _ _, omega arith)) (λ c. omega arith) (λ c. omega arith) (λ c κs. tt) (λ c κs. tt) returns (λ c. omega arith)
     (λ c. omega arith) loop-again returns-2)

@@ -5,7 +5,7 @@ use Rattle.raise.proofs.header_of.Tie as tie
 
 returns : tie.Need-returns
 unfolding raised_header
-returns c = rw c.eps.ensures
+returns c = rw c.eps-eps.ensures
 
-pub header-of-spec : {M : Type 1} → statement M
-header-of-spec = tie.close (tie.spec (λ c κs. search rules) returns)
+pub header_of_spec : {M : Type 1} → statement M
+header_of_spec = tie.close (tie.spec (λ c κs. search rules) returns)

@@ -3,13 +3,13 @@ use Rattle.raise.specs.Raise.{lifted_at}
 use Rattle.raise.proofs.lifted_at.Statement.{statement}
 use Rattle.raise.proofs.lifted_at.Tie as tie
 
-returns : tie.Need-returns
+returns : tie.Need-returns-then-k-eq2
 unfolding lifted_at
 returns c = search branches
 
-returns-2 : tie.Need-returns-2
+returns-2 : tie.Need-returns
 unfolding lifted_at
 returns-2 c = search branches
 
-pub lifted-at-spec : {M : Type 1} → statement M
-lifted-at-spec = tie.close (tie.spec returns returns-2)
+pub lifted_at_spec : {M : Type 1} → statement M
+lifted_at_spec = tie.close (tie.spec returns returns-2)

@@ -7,5 +7,5 @@ returns : tie.Need-returns
 unfolding above_of
 returns c = refl
 
-pub above-spec : {M : Type 1} → statement M
-above-spec = tie.close (tie.spec returns)
+pub above_spec : {M : Type 1} → statement M
+above_spec = tie.close (tie.spec returns)

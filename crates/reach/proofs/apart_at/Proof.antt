@@ -5,7 +5,7 @@ use Rattle.reach.proofs.apart_at.Statement.{statement}
 use Rattle.reach.proofs.apart_at.Tie as tie
 
 returns : tie.Need-returns
-returns c = c.root.ensures ∙ ap root_of c.before.square-at.ensures ∙ sym (apart_root _ _ _)
+returns c = c.root.ensures ∙ ap root_of c.before.square_at.ensures ∙ sym (apart_root _ _ _)
 
-pub apart-at-spec : {M : Type 1} → statement M
-apart-at-spec = tie.close (tie.spec (λ c κs. tt) (λ c κs. tt) returns)
+pub apart_at_spec : {M : Type 1} → statement M
+apart_at_spec = tie.close (tie.spec (λ c κs. tt) (λ c κs. tt) returns)

@@ -4,5 +4,5 @@ use Rattle.reach.proofs.by_roots.Tie as tie
 returns : tie.Need-returns
 returns c = cc
 
-pub by-roots-spec : {M : Type 1} → statement M
-by-roots-spec = tie.close (tie.spec (λ c κs. tt) (λ c κs. tt) returns)
+pub by_roots_spec : {M : Type 1} → statement M
+by_roots_spec = tie.close (tie.spec (λ c κs. tt) (λ c κs. tt) returns)

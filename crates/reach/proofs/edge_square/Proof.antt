@@ -7,6 +7,6 @@ returns : tie.Need-returns
 unfolding edge_square
 returns c = cc
 
-pub edge-square-spec : {M : Type 1} → statement M
+pub edge_square_spec : {M : Type 1} → statement M
 unfolding nan_bits
-edge-square-spec = tie.close (tie.spec (λ c. tt) (λ c κs. tt) (λ c κs. tt) (λ c κs. tt) (λ c κs. tt) (λ c κs. tt) (λ c κs. tt) returns)
+edge_square_spec = tie.close (tie.spec (λ c. tt) (λ c κs. tt) (λ c κs. tt) (λ c κs. tt) (λ c κs. tt) (λ c κs. tt) (λ c κs. tt) returns)

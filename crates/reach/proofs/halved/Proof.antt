@@ -5,13 +5,13 @@ use Rattle.reach.specs.Reach.{halved_of}
 use Rattle.reach.proofs.halved.Statement.{statement}
 use Rattle.reach.proofs.halved.Tie as tie
 
-returns : tie.Need-returns
+returns : tie.Need-returns-then-reaches
 unfolding halved_of
-returns c = taken _ _ _ _ (sym c.before.reaches.ensures ∙ c.if1.true) refl
+returns c = taken _ _ _ _ (sym c.before.reaches.ensures ∙ c.if-reaches.true) refl
 
-returns-2 : tie.Need-returns-2
+returns-2 : tie.Need-returns
 unfolding halved_of
-returns-2 c = left _ _ _ _ (sym c.before.reaches.ensures ∙ c.if1.false) refl
+returns-2 c = left _ _ _ _ (sym c.before.reaches.ensures ∙ c.if-reaches.false) refl
 
-pub halved-spec : {M : Type 1} → statement M
-halved-spec = tie.close (tie.spec (λ c κs. search rules) returns returns-2)
+pub halved_spec : {M : Type 1} → statement M
+halved_spec = tie.close (tie.spec (λ c κs. search rules) returns returns-2)

@@ -10,7 +10,7 @@ returns : tie.Need-returns
 returns c =
     let a = c.before.before.args in
     c.is_Within.ensures
-    ∙ ap (λ (w : Float). le w a.k.r) (ap root_of c.before.square-at.ensures ∙ sym (apart_root a.t a.m a.s))
+    ∙ ap (λ (w : Float). le w a.k.r) (ap root_of c.before.square_at.ensures ∙ sym (apart_root a.t a.m a.s))
 
-pub reaches-spec : {M : Type 1} → statement M
-reaches-spec = tie.close (tie.spec (λ c κs. tt) (λ c κs. search rules) returns)
+pub reaches_spec : {M : Type 1} → statement M
+reaches_spec = tie.close (tie.spec (λ c κs. tt) (λ c κs. search rules) returns)

@@ -6,14 +6,14 @@ use Rattle.reach.specs.declared.Span.{Span}
 use Rattle.reach.proofs.rim.Statement.{statement}
 use Rattle.reach.proofs.rim.Tie as tie
 
-returns : tie.Need-returns
+returns : tie.Need-returns-then-reaches
 unfolding rim_of
-returns c = taken _ _ _ _ (sym c.before.reaches.ensures ∙ c.if1.true) refl
+returns c = taken _ _ _ _ (sym c.before.reaches.ensures ∙ c.if-reaches.true) refl
 
-returns-2 : tie.Need-returns-2
+returns-2 : tie.Need-returns
 unfolding rim_of
 returns-2 c =
-    left _ _ _ _ (sym c.before.before.reaches.ensures ∙ c.before.if1.false) (ap (λ (s : Span). s.inside) c.bisected.ensures)
+    left _ _ _ _ (sym c.before.before.reaches.ensures ∙ c.before.if-reaches.false) (ap (λ (s : Span). s.inside) c.bisected-s.ensures)
 
-pub rim-spec : {M : Type 1} → statement M
-rim-spec = tie.close (tie.spec (λ c κs. search rules) returns (λ c κs. search rules) returns-2)
+pub rim_spec : {M : Type 1} → statement M
+rim_spec = tie.close (tie.spec (λ c κs. search rules) returns (λ c κs. search rules) returns-2)

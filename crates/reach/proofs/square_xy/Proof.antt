@@ -7,30 +7,30 @@ use Rattle.reach.proofs.square_xy.Statement.{statement}
 use Rattle.reach.proofs.square_xy.Tie as tie
 
 -- what the test of the weights says of the place
-tested : (c : tie.After-at-least) →
+tested : (c : tie.After-at_least) →
     let a = c.before.before.before.before.before.args in
     inside (bary_of a.t a.x a.y) ≡ c.at_least.result
 unfolding inside
 tested c =
-    ap inside (sym c.before.before.before.before.bary.ensures ∙ c.before.before.p.given.1) ∙ sym c.at_least.ensures
+    ap inside (sym c.before.before.before.before.bary.ensures ∙ c.before.before.p-1.given.1) ∙ sym c.at_least.ensures
 
-returns : tie.Need-returns
+returns : tie.Need-returns-in-Nowhere
 unfolding square_xy inside
 returns c =
     left _ _ _ _
-    (ap inside (sym c.before.before.before.bary.ensures ∙ c.before.enum_told.given.1))
-    c.edge-square.ensures
+    (ap inside (sym c.before.before.before.bary.ensures ∙ c.before.enum_told-1.given.1))
+    c.edge_square.ensures
 
-returns-2 : tie.Need-returns-2
+returns-2 : tie.Need-returns-then-at_least
 unfolding square_xy
-returns-2 c = taken _ _ _ _ (tested c.before ∙ c.if1.true) refl
+returns-2 c = taken _ _ _ _ (tested c.before ∙ c.if-at_least.true) refl
 
-returns-3 : tie.Need-returns-3
+returns-3 : tie.Need-returns-else-at_least
 unfolding square_xy
-returns-3 c = left _ _ _ _ (tested c.before.before ∙ c.before.if1.false) c.edge-square2.ensures
+returns-3 c = left _ _ _ _ (tested c.before.before ∙ c.before.if-at_least.false) c.edge_square-else-at_least.ensures
 
-pub square-xy-spec : {M : Type 1} → statement M
-square-xy-spec =
+pub square_xy_spec : {M : Type 1} → statement M
+square_xy_spec =
     tie.close
     (tie.spec
     (λ c κs. tt)

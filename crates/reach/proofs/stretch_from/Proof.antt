@@ -7,17 +7,17 @@ use Rattle.reach.specs.Reach.{rim_of, stretch_from}
 use Rattle.reach.proofs.stretch_from.Statement.{statement}
 use Rattle.reach.proofs.stretch_from.Tie as tie
 
-returns : tie.Need-returns
+returns : tie.Need-returns-then-apart_at-r
 unfolding stretch_from
-returns c = taken _ _ _ _ (called_lt _ _ _ _ c.before.apart-at.ensures c.if1.true) refl
+returns c = taken _ _ _ _ (called_lt _ _ _ _ c.before.apart_at.ensures c.if-apart_at-r.true) refl
 
-returns-2 : tie.Need-returns-2
+returns-2 : tie.Need-returns
 unfolding stretch_from
 returns-2 c =
     let a = c.before.before.before.before.args in
-    left _ _ _ _ (called_lt _ _ _ _ c.before.before.before.apart-at.ensures c.before.before.if1.false)
+    left _ _ _ _ (called_lt _ _ _ _ c.before.before.before.apart_at.ensures c.before.before.if-apart_at-r.false)
     (c.between.ensures
-    ∙ ap (λ (r : Float). Between (rim_of a.t a.m r a.near f0) (rim_of a.t a.m r a.near f1)) c.before.limit-of.ensures.0)
+    ∙ ap (λ (r : Float). Between (rim_of a.t a.m r a.near f0) (rim_of a.t a.m r a.near f1)) c.before.limit_of.ensures.0)
 
-pub stretch-from-spec : {M : Type 1} → statement M
-stretch-from-spec = tie.close (tie.spec (λ c κs. tt) returns (λ c κs. tt) (λ c κs. c.limit-of.ensures.1) returns-2)
+pub stretch_from_spec : {M : Type 1} → statement M
+stretch_from_spec = tie.close (tie.spec (λ c κs. tt) returns (λ c κs. tt) (λ c κs. c.limit_of.ensures.1) returns-2)

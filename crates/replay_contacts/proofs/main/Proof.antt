@@ -8,10 +8,10 @@ invariant-loop table₀ counter₀ table counter = counter ≤ 1000
 abbrev decreases-loop : tie.decreases-loop
 decreases-loop table₀ counter₀ table counter = 1000 - counter
 
-abbrev invariant-loop2 : tie.invariant-loop2
+abbrev invariant-loop2 : tie.invariant-loop-k
 invariant-loop2 table k₀ k = k ≤ 6
 
-abbrev decreases-loop2 : tie.decreases-loop2
+abbrev decreases-loop2 : tie.decreases-loop-k
 decreases-loop2 table k₀ k = 6 - k
 
 pub main_spec : {M : Type 1} → statement M

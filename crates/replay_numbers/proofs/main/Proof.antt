@@ -8,10 +8,10 @@ invariant-loop asked₀ wrong₀ counter₀ asked wrong counter = counter ≤ 20
 abbrev decreases-loop : tie.decreases-loop
 decreases-loop asked₀ wrong₀ counter₀ asked wrong counter = 2000 - counter
 
-abbrev invariant-loop2 : tie.invariant-loop2
+abbrev invariant-loop2 : tie.invariant-loop-k
 invariant-loop2 asked wrong k₀ k = k ≤ 9
 
-abbrev decreases-loop2 : tie.decreases-loop2
+abbrev decreases-loop2 : tie.decreases-loop-k
 decreases-loop2 asked wrong k₀ k = 9 - k
 
 pub main_spec : {M : Type 1} → statement M

@@ -3,14 +3,14 @@ use Rattle.replay_sections.proofs.by_table.Statement.{statement}
 use Rattle.replay_sections.proofs.by_table.Tie as tie
 
 -- four numbers for each of at most 33 sections
-fits : tie.Need-array-share-prefix-numbers
+fits : tie.Need-slice_bounds-numbers-end
 fits c = search rules
 
-fits-2 : tie.Need-array-share-prefix-numbers-2
+fits-2 : tie.Need-slice_bounds-numbers-end-2
 fits-2 c = search rules
 
-pub by-table-spec : {M : Type 1} → statement M
-by-table-spec =
+pub by_table_spec : {M : Type 1} → statement M
+by_table_spec =
     tie.close
     (tie.spec
     (λ c κs. tt)

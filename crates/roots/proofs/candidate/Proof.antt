@@ -6,8 +6,8 @@ use Rattle.roots.proofs.candidate.Statement.{statement}
 use Rattle.roots.proofs.candidate.Tie as tie
 
 -- the bits of z are those of a number of 53 digits
-float-from-bits-z : tie.Need-float-from-bits-z
-float-from-bits-z c =
+float_from_bits-z : tie.Need-float_from_bits-z
+float_from_bits-z c =
     subst (λ (b : ℕ). T (not (nan_bits binary64 (b + c.args.m)))) (sym (exact c.args.odd c.requires.2))
     (plain_no_nan c.args.m (1022 - c.args.odd) c.requires.0 c.requires.1 (small c.args.odd))
   where
@@ -17,13 +17,13 @@ float-from-bits-z c =
     small : (o : ℕ) → 1022 - o < 2 ^ 11 - 2
     small o = omega arith
 
-pub candidate-spec : {M : Type 1} → statement M
-candidate-spec =
+pub candidate_spec : {M : Type 1} → statement M
+candidate_spec =
     tie.close
     (tie.spec
     (λ c. search rules)
     (λ c. search rules)
-    float-from-bits-z
+    float_from_bits-z
     (λ c κs. tt)
     (λ c κs. tt)
     (λ c κs. tt)

@@ -8,14 +8,14 @@ use Rattle.roots.proofs.halved.Tie as tie
 small : (c : tie.Start) → lifted c.args.e / 2 < 2 ^ 63
 small c = omega (arith, lifted_lt c.args.e c.requires)
 
-add-result : tie.Need-overflow-add-result
+add-result : tie.Need-overflow_add-result
 add-result c = pos_fits _ _ (halved_is c.args.e c.ranges.e c.requires) (small c)
 
-cast-result : tie.Need-overflow-cast-result
+cast-result : tie.Need-overflow_cast-result
 cast-result c = cast_fits _ _ (kept _ _ (halved_is c.args.e c.ranges.e c.requires) (small c)) (small c)
 
 returns : tie.Need-returns
 returns c = ap nat_abs (kept _ _ (halved_is c.args.e c.ranges.e c.requires) (small c))
 
-pub halved-spec : {M : Type 1} → statement M
-halved-spec = tie.close (tie.spec add-result cast-result returns)
+pub halved_spec : {M : Type 1} → statement M
+halved_spec = tie.close (tie.spec add-result cast-result returns)

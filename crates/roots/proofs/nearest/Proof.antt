@@ -13,37 +13,37 @@ small : (c : tie.Start) → (c.args.s / 2 ^ 26 * (c.args.s / 2 ^ 26) < 2 ^ 54) �
     × (bit_and c.args.s (2 ^ 26 - 1) * bit_and c.args.s (2 ^ 26 - 1) < c.args.s)
 small c = products c.args.s (bit_and c.args.s (2 ^ 26 - 1)) (and_mask c.args.s 26) c.requires.2 c.requires.3
 
-mul-wrapping-sub-u64 : tie.Need-overflow-mul-wrapping-sub-u64
-mul-wrapping-sub-u64 c = omega (arith, (small c).0)
+mul-wrapping_sub_u64 : tie.Need-overflow_mul-a
+mul-wrapping_sub_u64 c = omega (arith, (small c).0)
 
-mul-wrapping-sub-u64-2 : tie.Need-overflow-mul-wrapping-sub-u64-2
-mul-wrapping-sub-u64-2 c = omega (arith, (small c.before.before).1)
+mul-wrapping_sub_u64-2 : tie.Need-overflow_mul-a-2
+mul-wrapping_sub_u64-2 c = omega (arith, (small c.before.before).1)
 
-mul-t : tie.Need-overflow-mul-t
+mul-t : tie.Need-overflow_mul-t
 mul-t c = omega (arith, (small c.before.before.before.before).2)
 
-sub-t : tie.Need-overflow-sub-t
+sub-t : tie.Need-overflow_sub-t
 sub-t c = omega (arith, (small c.before.before.before.before).2)
 
-returns-3 : tie.Need-returns-3
+returns-3 : tie.Need-returns
 returns-3 c e =
     let a = c.before.before.before.before.before in
-    checked a.args.m a.args.s (bit_and a.args.s (2 ^ 26 - 1)) c.before.before.before.before.wrapping-sub-u64.result
-    c.before.before.wrapping-sub-u642.result c.wrapping-sub-u643.result
+    checked a.args.m a.args.s (bit_and a.args.s (2 ^ 26 - 1)) c.before.before.before.before.wrapping_sub_u64-high.result
+    c.before.before.wrapping_sub_u64-d.result c.wrapping_sub_u64.result
     (and_mask a.args.s 26) a.requires.2 a.requires.3
-    c.before.before.before.before.wrapping-sub-u64.ensures c.before.before.before.if1.false
-    c.before.before.wrapping-sub-u642.ensures c.before.if2.false
-    c.wrapping-sub-u643.ensures (ltb-true _ _ e)
+    c.before.before.before.before.wrapping_sub_u64-high.ensures c.before.before.before.if-high-ge1073741824.false
+    c.before.before.wrapping_sub_u64-d.ensures c.before.if-d-ge1073741824.false
+    c.wrapping_sub_u64.ensures (ltb-true _ _ e)
 
-pub nearest-spec : {M : Type 1} → statement M
-nearest-spec =
+pub nearest_spec : {M : Type 1} → statement M
+nearest_spec =
     tie.close
     (tie.spec
-    mul-wrapping-sub-u64
+    mul-wrapping_sub_u64
     (λ c κs. tt)
     (λ c e. absurd (false≢true e))
     (λ c. search rules)
-    mul-wrapping-sub-u64-2
+    mul-wrapping_sub_u64-2
     (λ c κs. tt)
     (λ c e. absurd (false≢true e))
     (λ c. search rules)

@@ -8,11 +8,11 @@ use Rattle.roots.proofs.odd.Tie as tie
 small : (n : ℕ) → n % 2 < 2 ^ 63
 small n = omega arith
 
-cast-result : tie.Need-overflow-cast-result
+cast-result : tie.Need-overflow_cast-result
 cast-result c = cast_fits _ _ (odd_is c.args.e c.requires) (small (lifted c.args.e))
 
 returns : tie.Need-returns
 returns c = ap nat_abs (odd_is c.args.e c.requires)
 
-pub odd-spec : {M : Type 1} → statement M
-odd-spec = tie.close (tie.spec cast-result returns)
+pub odd_spec : {M : Type 1} → statement M
+odd_spec = tie.close (tie.spec cast-result returns)

@@ -13,22 +13,22 @@ use Rattle.roots.proofs.root.Tie as tie
 
 -- what owning an f64 tells: the format holds it
 held : (c : tie.Start) → T (fits binary64 c.args.x)
-held c = subst T (sym c.well-formed.0.1) tt
+held c = subst T (sym c.well_formed.0.1) tt
 
 abbrev bits : tie.Start → ℕ
 bits c = to_bits binary64 c.args.x
 
-normal : (c : tie.Then1) → NormalBits (bits c.before)
-normal c = normal_bits c.before.args.x (held c.before) c.if1.true
+normal : (c : tie.Then-x) → NormalBits (bits c.before)
+normal c = normal_bits c.before.args.x (held c.before) c.if-x.true
 
 -- x by its fields
-fields : (c : tie.Then1) → c.before.args.x ≡ of_fields binary64 false (exponent_of (bits c.before)) (fraction_of (bits c.before))
+fields : (c : tie.Then-x) → c.before.args.x ≡ of_fields binary64 false (exponent_of (bits c.before)) (fraction_of (bits c.before))
 fields c = apart c.before.args.x false (held c.before) (normal c).plus
 
-returns : tie.Need-returns
+returns : tie.Need-returns-then-exponent-eq2047
 returns c =
     let a = c.before in
-    let e = fields a ∙ ap (λ (n : ℕ). of_fields binary64 false n (fraction_of (bits a.before))) (sym (normal a).whole ∙ c.if2.true) in
+    let e = fields a ∙ ap (λ (n : ℕ). of_fields binary64 false n (fraction_of (bits a.before))) (sym (normal a).whole ∙ c.if-exponent-eq2047.true) in
     e ∙ root_infinite (fraction_of (bits a.before)) ∙ ap root_of (sym e)
 
 exponent : (c : tie.After-difference) → to_z w64 (of_z w64 c.difference.result) ≡ minus (exponent_of (bits c.before.before.before)) 1075
@@ -41,38 +41,38 @@ exponent c =
     wide : (n : ℕ) {e : ℕ} → e < 2 ^ 11 → n ≡ e → n < 2 ^ 32
     wide n h p = omega arith
 
-root-of-requires : tie.Need-root-of-requires
-root-of-requires c κs =
+root_of-requires : tie.Need-root_of-requires
+root_of-requires c κs =
     let a = c.before.before in
     let b = bits a.before in
     let l = leading (fraction_of b) (fraction_lt b) in
-    (l.0, l.1, subst Exponent (sym (exponent c)) (in-range (exponent_of b) (exponent_lt b) (λ e. c.before.if2.false ((normal a).whole ∙ e))))
+    (l.0, l.1, subst Exponent (sym (exponent c)) (in-range (exponent_of b) (exponent_lt b) (λ e. c.before.if-exponent-eq2047.false ((normal a).whole ∙ e))))
   where
     in-range : (e : ℕ) → e < 2 ^ 11 → (e ≡ 2047 → ⊥) → Exponent (minus e 1075)
     in-range e h n = exponent_minus e 1075 (omega arith) (omega arith)
 
-returns-2 : tie.Need-returns-2
+returns-2 : tie.Need-returns-then-x
 returns-2 c =
     let d = c.before in
     let a = d.before.before in
     let b = bits a.before in
     let e = exponent_of b in
     let f = fraction_of b in
-    c.root-of.ensures
+    c.root_of.ensures
     ∙ ap (λ (m : ℕ). root_of (fin false m (to_z w64 (of_z w64 d.difference.result)))) (leading f (fraction_lt b)).2
     ∙ ap (λ (z : ℤ). root_of (fin false (2 ^ 52 + f) z)) (exponent d)
-    ∙ root_normal e f (normal a).some (λ q. d.before.if2.false ((normal a).whole ∙ q)) (exponent_lt b)
+    ∙ root_normal e f (normal a).some (λ q. d.before.if-exponent-eq2047.false ((normal a).whole ∙ q)) (exponent_lt b)
     ∙ ap root_of (sym (fields a))
 
-pub root-spec : {M : Type 1} → statement M
-root-spec =
+pub root_spec : {M : Type 1} → statement M
+root_spec =
     tie.close
     (tie.spec
-    (λ c. ordered least_normal c.before.args.x c.if1.true)
+    (λ c. ordered least_normal c.before.args.x c.if-x.true)
     returns
     (λ c. omega (arith, exponent_lt (bits c.before.before), (normal c.before).whole))
     (λ c κs. tt)
-    root-of-requires
+    root_of-requires
     returns-2
-    (λ c κs. c.if1.false)
-    (λ c. c.root-below-normal.ensures))
+    (λ c κs. c.if-x.false)
+    (λ c. c.root_below_normal.ensures))

@@ -18,8 +18,8 @@ exponent c = returned c.difference.result 0 _ c.difference.ensures (lit< tt) (sm
     small : (z : ℕ) → z ≤ 63 → 1074 + (z - 11) < 2 ^ 32
     small z h = omega arith
 
-root-of-requires : tie.Need-root-of-requires
-root-of-requires c κs =
+root_of-requires : tie.Need-root_of-requires
+root_of-requires c κs =
     let s = up c.before in
     (s.low, s.high, subst Exponent (sym (exponent c)) (in-range (count_leading_zeros 64 c.before.args.f) s.few))
   where
@@ -30,13 +30,13 @@ returns : tie.Need-returns
 returns c =
     let f = c.before.before.args.f in
     let z = count_leading_zeros 64 f - 11 in
-    c.root-of.ensures
+    c.root_of.ensures
     ∙ ap (λ (m : ℕ). root_of (fin false m (to_z w64 (of_z w64 c.before.difference.result)))) (up c.before.before).whole
     ∙ ap (λ (e : ℤ). root_of (fin false (f * 2 ^ z) e)) (exponent c.before)
     ∙ root_shifted f z c.before.before.requires.0
 
-pub root-of-subnormal-spec : {M : Type 1} → statement M
-root-of-subnormal-spec =
+pub root_of_subnormal_spec : {M : Type 1} → statement M
+root_of_subnormal_spec =
     tie.close
     (tie.spec
     (λ c. (up c).enough)
@@ -44,5 +44,5 @@ root-of-subnormal-spec =
     (λ c. omega (arith, (up c).few))
     (λ c. omega (arith, (up c).few))
     (λ c κs. tt)
-    root-of-requires
+    root_of-requires
     returns)

@@ -5,29 +5,29 @@ use Rattle.row_runs.proofs.Walking.{advanced_on, advanced_off}
 use Rattle.row_runs.proofs.advance.Statement.{statement}
 use Rattle.row_runs.proofs.advance.Tie as tie
 
-returns : tie.Need-returns
+returns : tie.Need-returns-then-o
 returns c = (
-  advanced_on _ _ _ _ _ _ _ _ _ _ _ c.before.before.before.before.number.ensures c.before.before.before.sample.ensures.0
-      c.if1.true refl refl refl,
-  c.before.before.before.sample.ensures.1,
+  advanced_on _ _ _ _ _ _ _ _ _ _ _ c.before.before.before.before.number.ensures c.before.before.before.sample-o.ensures.0
+      c.if-o.true refl refl refl,
+  c.before.before.before.sample-o.ensures.1,
 )
 
-end-stretch-requires : tie.Need-end-stretch-requires
-end-stretch-requires c κs = let s =
+end_stretch-requires : tie.Need-end_stretch-requires
+end_stretch-requires c κs = let s =
     c.before.before.before.before.before.before.before.before.before.before.before.before.before.before.before.before.before in
-    (s.pre.0, c.before.before.before.before.before.sample.ensures.1, s.pre.2, omega (arith, s.pre.3), s.pre.5)
+    (s.pre.0, c.before.before.before.before.before.sample-o.ensures.1, s.pre.2, omega (arith, s.pre.3), s.pre.5)
 
-returns-2 : tie.Need-returns-2
+returns-2 : tie.Need-returns
 returns-2 c =
-    let e = c.before.before.before.before.end-stretch.ensures in (
+    let e = c.before.before.before.before.end_stretch.ensures in (
       advanced_off _ _ _ _ _ _ _ _ _ _ _ c.before.before.before.before.before.before.before.before.before.before.before.number.ensures
-          c.before.before.before.before.before.before.before.before.before.before.sample.ensures.0 _
-          c.before.before.before.before.before.before.before.if1.false e.0,
+          c.before.before.before.before.before.before.before.before.before.before.sample-o.ensures.0 _
+          c.before.before.before.before.before.before.before.if-o.false e.0,
       e.1,
     )
 
-pub advance-spec : {M : Type 1} → statement M
-advance-spec =
+pub advance_spec : {M : Type 1} → statement M
+advance_spec =
     tie.close
     (tie.spec (λ c κs. c.before.before.before.before.before.before.before.before.before.before.requires.3)
     (λ c κs. (
@@ -36,4 +36,4 @@ advance-spec =
       c.before.before.before.before.before.before.before.before.before.before.before.requires.5,
     ))
     (λ c. let s = c.before.before.before.before.before.before.before.before.before.before.before.before.before.before.before in
-    omega (arith, s.requires.2, s.requires.3, s.requires.4)) (λ c. search rules) returns end-stretch-requires (λ c. search rules) (λ c. search rules) returns-2)
+    omega (arith, s.requires.2, s.requires.3, s.requires.4)) (λ c. search rules) returns end_stretch-requires (λ c. search rules) (λ c. search rules) returns-2)

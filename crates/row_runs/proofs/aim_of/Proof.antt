@@ -6,5 +6,5 @@ returns : tie.Need-returns
 unfolding aim_of
 returns c = rw c.step.ensures
 
-pub aim-of-spec : {M : Type 1} → statement M
-aim-of-spec = tie.close (tie.spec (λ c κs. tt) returns)
+pub aim_of_spec : {M : Type 1} → statement M
+aim_of_spec = tie.close (tie.spec (λ c κs. tt) returns)

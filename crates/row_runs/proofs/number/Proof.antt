@@ -4,13 +4,13 @@ use Rattle.row_runs.specs.Inside.{number_of}
 use Rattle.row_runs.proofs.number.Statement.{statement}
 use Rattle.row_runs.proofs.number.Tie as tie
 
-returns : tie.Need-returns
+returns : tie.Need-returns-then-forward
 unfolding number_of
 returns c = search branches
 
-returns-2 : tie.Need-returns-2
+returns-2 : tie.Need-returns-else-forward
 unfolding number_of
 returns-2 c = search branches
 
-pub number-spec : {M : Type 1} → statement M
-number-spec = tie.close (tie.spec (λ c. omega arith) returns returns-2)
+pub number_spec : {M : Type 1} → statement M
+number_spec = tie.close (tie.spec (λ c. omega arith) returns returns-2)

@@ -13,5 +13,5 @@ returns : tie.Need-returns
 unfolding intervals_of
 returns c = c.parts.ensures
 
-pub intervals-spec : {M : Type 1} → statement M
-intervals-spec = tie.close (tie.spec parts-requires returns)
+pub intervals_spec : {M : Type 1} → statement M
+intervals_spec = tie.close (tie.spec parts-requires returns)

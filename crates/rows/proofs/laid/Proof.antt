@@ -5,19 +5,19 @@ use Rattle.rows.proofs.laid.Tie as tie
 use Rattle.rows.proofs.laid.Reads as reads
 use Rattle.rows.proofs.laid.Lts as lts
 
-enum_told : tie.Need-enum-told
+enum_told : tie.Need-enum_told-1
 enum_told c = search rules
 
-enum-told-2 : tie.Need-enum-told-2
-enum-told-2 c = search rules
+enum_told-2 : tie.Need-enum_told-in-Y
+enum_told-2 c = search rules
 
-returns : tie.Need-returns
+returns : tie.Need-returns-in-X
 unfolding laid_of
-returns c = rw c.enum_told.given.1
+returns c = rw c.enum_told-1.given.1
 
-returns-2 : tie.Need-returns-2
+returns-2 : tie.Need-returns-in-Y
 unfolding laid_of
-returns-2 c = rw c.enum-told2.given.1
+returns-2 c = rw c.enum_told-in-Y-1.given.1
 
-pub laid-spec : {M : Type 1} → statement M
-laid-spec = tie.close (tie.spec enum_told enum-told-2 returns returns-2)
+pub laid_spec : {M : Type 1} → statement M
+laid_spec = tie.close (tie.spec enum_told enum_told-2 returns returns-2)

@@ -8,8 +8,8 @@ use Rattle.numbers.proofs.max.Reads as max-reads
 use Rattle.numbers.proofs.round_up.Reads as round-up-reads
 use Rattle.numbers.proofs.cut.Reads as cut-reads
 
-round-up-requires : tie.Need-round-up-requires
-round-up-requires c κs = search rules
+round_up-requires : tie.Need-round_up-requires
+round_up-requires c κs = search rules
 
 max-requires : tie.Need-max-requires
 max-requires c κs = search rules
@@ -21,5 +21,5 @@ returns : tie.Need-returns
 unfolding parts_of
 returns c = c.cut.ensures ∙ (rw (c.before.max.ensures, c.before.before.round_up.ensures))
 
-pub parts-spec : {M : Type 1} → statement M
-parts-spec = tie.close (tie.spec round-up-requires max-requires cut-requires returns)
+pub parts_spec : {M : Type 1} → statement M
+parts_spec = tie.close (tie.spec round_up-requires max-requires cut-requires returns)

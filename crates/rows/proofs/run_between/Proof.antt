@@ -5,7 +5,7 @@ use Rattle.rows.proofs.run_between.Tie as tie
 
 returns : tie.Need-returns
 unfolding between
-returns c = c.laid.ensures ∙ (rw (c.before.along2.ensures, c.before.before.along.ensures))
+returns c = c.laid.ensures ∙ (rw (c.before.along-b.ensures, c.before.before.along-a.ensures))
 
-pub run-between-spec : {M : Type 1} → statement M
-run-between-spec = tie.close (tie.spec (λ c κs. tt) (λ c κs. tt) (λ c κs. tt) returns)
+pub run_between_spec : {M : Type 1} → statement M
+run_between_spec = tie.close (tie.spec (λ c κs. tt) (λ c κs. tt) (λ c κs. tt) returns)

@@ -13,5 +13,5 @@ returns : tie.Need-returns
 unfolding samples_of
 returns c = c.parts.ensures
 
-pub samples-spec : {M : Type 1} → statement M
-samples-spec = tie.close (tie.spec parts-requires returns)
+pub samples_spec : {M : Type 1} → statement M
+samples_spec = tie.close (tie.spec parts-requires returns)

@@ -9,11 +9,11 @@ use Rattle.runs.proofs.touches.Reads as touches-reads
 touches-requires : tie.Need-touches-requires
 touches-requires c κs = search rules
 
-returns : tie.Need-returns
+returns : tie.Need-returns-then-y
 returns c = search (and_on, and_off)
 
-returns-2 : tie.Need-returns-2
+returns-2 : tie.Need-returns-else-y
 returns-2 c = search (and_on, and_off)
 
-pub joins-spec : {M : Type 1} → statement M
-joins-spec = tie.close (tie.spec touches-requires returns returns-2)
+pub joins_spec : {M : Type 1} → statement M
+joins_spec = tie.close (tie.spec touches-requires returns returns-2)

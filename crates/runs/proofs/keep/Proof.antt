@@ -17,21 +17,21 @@ joins-requires c κs = search rules
 lengthen-requires : tie.Need-lengthen-requires
 lengthen-requires c κs = search rules
 
-returns : tie.Need-returns
+returns : tie.Need-returns-then-joins
 unfolding kept_by
-returns c = taken _ _ _ _ (bool_called _ _ _ c.before.before.joins.ensures c.before.if1.true)
+returns c = taken _ _ _ _ (bool_called _ _ _ c.before.before.joins.ensures c.before.if-joins.true)
     (ap (work c.before.before.before.before.args.runs.now) c.lengthen.ensures)
 
-close-requires : tie.Need-close-requires
+close-requires : tie.Need-close-c-requires
 close-requires c κs = search rules
 
-same_length : tie.Need-same-length
+same_length : tie.Need-shape_of-runs
 same_length c = search rules
 
-returns-2 : tie.Need-returns-2
+returns-2 : tie.Need-returns
 unfolding kept_by
 returns-2 c =
-    left _ _ _ _ (bool_called _ _ _ c.before.before.before.before.before.joins.ensures c.before.before.before.before.if1.false)
+    left _ _ _ _ (bool_called _ _ _ c.before.before.before.before.before.joins.ensures c.before.before.before.before.if-joins.false)
     (ap (λ (w : Work). work w.table (record {
       some = true;
       last = c.before.before.before.before.before.before.before.args.r;
@@ -39,7 +39,7 @@ returns-2 c =
           w.tally.count;
       cut = w.tally.cut;
       dropped = w.tally.dropped;
-    })) c.before.before.close.ensures)
+    })) c.before.before.close-c.ensures)
 
 pub keep_spec : {M : Type 1} → statement M
 keep_spec =

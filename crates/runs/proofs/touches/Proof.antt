@@ -5,17 +5,17 @@ use Rattle.runs.proofs.touches.Tie as tie
 use Rattle.runs.proofs.touches.Reads as reads
 use Rattle.runs.proofs.touches.Lts as lts
 
-returns : tie.Need-returns
+returns : tie.Need-returns-then-last-r-2
 unfolding touches_of
 returns c = search branches
 
-returns-2 : tie.Need-returns-2
+returns-2 : tie.Need-returns-else-last-r-2
 unfolding touches_of
 returns-2 c = search branches
 
-returns-3 : tie.Need-returns-3
+returns-3 : tie.Need-returns-else-last-r
 unfolding touches_of
 returns-3 c = search branches
 
-pub touches-spec : {M : Type 1} → statement M
-touches-spec = tie.close (tie.spec returns returns-2 returns-3)
+pub touches_spec : {M : Type 1} → statement M
+touches_spec = tie.close (tie.spec returns returns-2 returns-3)

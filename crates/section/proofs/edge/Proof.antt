@@ -8,19 +8,19 @@ use Rattle.section.proofs.Capping.{edge_stays}
 use Rattle.section.proofs.edge.Statement.{statement}
 use Rattle.section.proofs.edge.Tie as tie
 
-returns : tie.Need-returns
+returns : tie.Need-returns-then-skips
 returns c =
     let a = c.before.before.before in
     edge_stays _ _ a.requires _ _ _ _
-    (bool_called _ _ _ (c.before.skips.ensures ∙ ap (low_edge a.args.s a.args.low a.args.e) c.before.before.limit.ensures) c.if1.true)
+    (bool_called _ _ _ (c.before.skips.ensures ∙ ap (low_edge a.args.s a.args.low a.args.e) c.before.before.limit-limit.ensures) c.if-skips.true)
 
-returns-2 : tie.Need-returns-2
+returns-2 : tie.Need-returns
 unfolding section_edge
 returns-2 c =
     let a = c.before.before.before.before.before.before.args in
     c.offer.ensures
-    ∙ c.before.stretch-of.ensures a.c (sym c.before.before.before.before.before.limit.ensures)
-    ∙ ap (λ (k : Stretch). offer_of a.c (section_stretch a.s a.x a.y a.e k)) c.before.before.reached.ensures
+    ∙ c.before.stretch_of.ensures a.c (sym c.before.before.before.before.before.limit-limit.ensures)
+    ∙ ap (λ (k : Stretch). offer_of a.c (section_stretch a.s a.x a.y a.e k)) c.before.before.reached-part.ensures
 
-pub edge-spec : {M : Type 1} → statement M
-edge-spec = tie.close (tie.spec (λ c κs. tt) (λ c κs. tt) returns (λ c κs. tt) (λ c κs. c.before.before.before.before.requires) (λ c κs. tt) returns-2)
+pub edge_spec : {M : Type 1} → statement M
+edge_spec = tie.close (tie.spec (λ c κs. tt) (λ c κs. tt) returns (λ c κs. tt) (λ c κs. c.before.before.before.before.requires) (λ c κs. tt) returns-2)

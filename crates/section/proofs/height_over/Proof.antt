@@ -4,13 +4,13 @@ use Rattle.section.specs.Section.{height_over}
 use Rattle.section.proofs.height_over.Statement.{statement}
 use Rattle.section.proofs.height_over.Tie as tie
 
-returns : tie.Need-returns
+returns : tie.Need-returns-in-Beyond
 unfolding height_over
-returns c = ap height_over (sym c.enum_told.given.1)
+returns c = ap height_over (sym c.enum_told-1.given.1)
 
-returns-2 : tie.Need-returns-2
+returns-2 : tie.Need-returns-in-Over
 unfolding height_over
-returns-2 c = ap height_over (sym c.before.h.given.1)
+returns-2 c = ap height_over (sym c.before.h-1.given.1)
 
-pub height-over-spec : {M : Type 1} → statement M
-height-over-spec = tie.close (tie.spec (λ c. search rules) (λ c. search rules) returns returns-2)
+pub height_over_spec : {M : Type 1} → statement M
+height_over_spec = tie.close (tie.spec (λ c. search rules) (λ c. search rules) returns returns-2)

@@ -4,7 +4,7 @@ use Rattle.section.proofs.lipschitz.Tie as tie
 
 returns : tie.Need-returns
 unfolding lipschitz_of
-returns c = rw (c.root.ensures, c.before.abs.ensures)
+returns c = rw (c.root.ensures, c.before.abs-steep.ensures)
 
-pub lipschitz-spec : {M : Type 1} → statement M
-lipschitz-spec = tie.close (tie.spec (λ c κs. tt) (λ c κs. tt) returns)
+pub lipschitz_spec : {M : Type 1} → statement M
+lipschitz_spec = tie.close (tie.spec (λ c κs. tt) (λ c κs. tt) returns)

@@ -6,5 +6,5 @@ returns : tie.Need-returns
 unfolding section_sloped
 returns c = cc
 
-pub sloped-spec : {M : Type 1} → statement M
-sloped-spec = tie.close (tie.spec (λ c κs. tt) (λ c κs. tt) (λ c κs. tt) returns)
+pub sloped_spec : {M : Type 1} → statement M
+sloped_spec = tie.close (tie.spec (λ c κs. tt) (λ c κs. tt) (λ c κs. tt) returns)

@@ -6,5 +6,5 @@ returns : tie.Need-returns
 unfolding box_far
 returns c = rw (c.hypot.ensures, c.before.«side-gap2».ensures, c.before.before.«side-gap».ensures)
 
-pub box-far-spec : {M : Type 1} → statement M
-box-far-spec = tie.close (tie.spec (λ c κs. tt) (λ c κs. tt) (λ c κs. tt) returns)
+pub box_far_spec : {M : Type 1} → statement M
+box_far_spec = tie.close (tie.spec (λ c κs. tt) (λ c κs. tt) (λ c κs. tt) returns)

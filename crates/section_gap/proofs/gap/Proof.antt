@@ -8,5 +8,5 @@ returns : tie.Need-returns
 unfolding section_gap
 returns c = c.gap_of.ensures ∙ ap (gap_of _ _) c.before.contact.ensures
 
-pub gap-spec : {M : Type 1} → statement M
-gap-spec = tie.close (tie.spec (λ c κs. tt) (λ c κs. tt) returns)
+pub gap_spec : {M : Type 1} → statement M
+gap_spec = tie.close (tie.spec (λ c κs. tt) (λ c κs. tt) returns)

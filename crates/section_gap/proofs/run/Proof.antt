@@ -8,22 +8,22 @@ use Rattle.section_gap.specs.Blocks.{section_gap}
 use Rattle.section_gap.proofs.run.Statement.{statement}
 use Rattle.section_gap.proofs.run.Tie as tie
 
-abbrev invariant-loop : tie.invariant-loop
+abbrev invariant-loop : tie.invariant-loop-n
 invariant-loop t m k s₀ n₀ s n = (bracket_run (section_gap t m k) (60 - n) s ≡ bracket_run (section_gap t m k) 60 s₀) × (n ≤ 60)
 
-abbrev decreases-loop : tie.decreases-loop
+abbrev decreases-loop : tie.decreases-loop-n
 decreases-loop t m k s₀ n₀ s n = 60 - n
 
-loop-holds : tie.Need-loop-init invariant-loop decreases-loop
+loop-holds : tie.Need-loop-n-init invariant-loop decreases-loop
 loop-holds c = (refl, search rules)
 
-returns : tie.Need-returns invariant-loop decreases-loop
+returns : tie.Need-returns-else-g invariant-loop decreases-loop
 returns c = search run_laws
 
-loop-again : tie.Need-loop-preserved invariant-loop decreases-loop
+loop-again : tie.Need-loop-n-preserved invariant-loop decreases-loop
 loop-again c = (search run_laws, search rules)
 
-returns-2 : tie.Need-returns-2 invariant-loop decreases-loop
+returns-2 : tie.Need-returns invariant-loop decreases-loop
 returns-2 c = search run_laws
 
 pub run_spec : {M : Type 1} → statement M

@@ -6,15 +6,15 @@ use Rattle.flatten.specs.Flat.{held_in}
 use Rattle.sections.proofs.chord_over.Statement.{statement}
 use Rattle.sections.proofs.chord_over.Tie as tie
 
-array-share-prefix-numbers : tie.Need-array-share-prefix-numbers
-array-share-prefix-numbers c = c.before.before.before.before.before.before.before.requires
+array_share_prefix-numbers : tie.Need-slice_bounds-numbers-end
+array_share_prefix-numbers c = c.before.before.before.before.before.before.before.requires
 
-slice-aggregate-sections-chord-clear : tie.Need-slice-aggregate-sections-chord-clear
-slice-aggregate-sections-chord-clear c = simp length-take (omega (arith, c.before.before.before.before.before.before.before.before.requires))
+slice_aggregate-sections_chord_clear : tie.Need-slice_bounds-sections_chord_clear-end
+slice_aggregate-sections_chord_clear c = simp length-take (omega (arith, c.before.before.before.before.before.before.before.before.requires))
 
 returns : tie.Need-returns
 unfolding held_in
-returns c = c.before.before.sections-chord-clear.ensures.0
+returns c = c.before.before.sections_chord_clear.ensures.0
 
-pub chord-over-spec : {M : Type 1} → statement M
-chord-over-spec = tie.close (tie.spec array-share-prefix-numbers slice-aggregate-sections-chord-clear (λ c κs. tt) (λ c. search rules) returns)
+pub chord_over_spec : {M : Type 1} → statement M
+chord_over_spec = tie.close (tie.spec array_share_prefix-numbers slice_aggregate-sections_chord_clear (λ c κs. tt) (λ c. search rules) returns)

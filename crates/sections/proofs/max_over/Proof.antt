@@ -6,15 +6,15 @@ use Rattle.flatten.specs.Flat.{held_in}
 use Rattle.sections.proofs.max_over.Statement.{statement}
 use Rattle.sections.proofs.max_over.Tie as tie
 
-array-share-prefix-numbers : tie.Need-array-share-prefix-numbers
-array-share-prefix-numbers c = c.before.before.before.before.before.before.before.requires
+array_share_prefix-numbers : tie.Need-slice_bounds-numbers-end
+array_share_prefix-numbers c = c.before.before.before.before.before.before.before.requires
 
-slice-aggregate-max-sections : tie.Need-slice-aggregate-max-sections
-slice-aggregate-max-sections c = simp length-take (omega (arith, c.before.before.before.before.before.before.before.before.requires))
+slice_aggregate-max_sections : tie.Need-slice_bounds-max_sections-end
+slice_aggregate-max_sections c = simp length-take (omega (arith, c.before.before.before.before.before.before.before.before.requires))
 
 returns : tie.Need-returns
 unfolding held_in
-returns c = c.before.before.max-sections.ensures.0
+returns c = c.before.before.max_sections.ensures.0
 
-pub max-over-spec : {M : Type 1} → statement M
-max-over-spec = tie.close (tie.spec array-share-prefix-numbers slice-aggregate-max-sections (λ c κs. tt) (λ c. search rules) returns)
+pub max_over_spec : {M : Type 1} → statement M
+max_over_spec = tie.close (tie.spec array_share_prefix-numbers slice_aggregate-max_sections (λ c κs. tt) (λ c. search rules) returns)

@@ -331,11 +331,11 @@ module _ {M : Type 1} {𝓤 : Ura M} (𝓛 : Logic 𝓤) (mem : Memory → SProp
   )
       (f.clauses 𝓛 mem run) (WpFn 𝓤 H 𝓣.C 𝓣.Λ code.function) (WpFn-mono 𝓤 H 𝓛.laws 𝓣 code.function) walks
 
-pub max-sections-spec : {M : Type 1} → stated.statement M
+pub max_sections_spec : {M : Type 1} → stated.statement M
 unfolding code.routine tables_of
-max-sections-spec 𝓤 𝓛 𝓜 𝓡 =
+max_sections_spec 𝓤 𝓛 𝓜 𝓡 =
     entered 𝓤 𝓛.H (triple_of 𝓛 f.signature (f.spec 𝓛 𝓜.mem 𝓡.run))
     (tables 𝓤 𝓛.H 𝓜 𝓡 code.env).C (tables 𝓤 𝓛.H 𝓜 𝓡 code.env).Λ #sections·max-sections code.function (code.unfolded 𝓤 𝓛.H 𝓜 𝓡)
     (meets 𝓛 𝓜.mem 𝓡.run (tables_of 𝓤 𝓛.H 𝓜 (tables 𝓤 𝓛.H 𝓜 𝓡 code.env))
     (cited 𝓤 𝓛.H (Flat 𝓛 𝓜.mem 𝓡.run) 𝓜 𝓡 code.env flat-def.name flat-def.routine code.calls-flatten::flat (flat-thm.met 𝓤 𝓛 𝓜 𝓡))
-    (cited 𝓤 𝓛.H (Over 𝓛 𝓜.mem 𝓡.run) 𝓜 𝓡 code.env over-def.name over-def.routine code.calls-sections::max-over (over-thm.met 𝓤 𝓛 𝓜 𝓡)))
+    (cited 𝓤 𝓛.H (Over 𝓛 𝓜.mem 𝓡.run) 𝓜 𝓡 code.env over-def.name over-def.routine code.calls-sections::max_over (over-thm.met 𝓤 𝓛 𝓜 𝓡)))

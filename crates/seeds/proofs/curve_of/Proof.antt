@@ -23,17 +23,17 @@ past : (i : ℕ) (a b c : Float) → Nots i 16 → is_curve i a b c ≡ true
 unfolding is_curve
 past i a b c h = let k = none 16 i h in rw (le-ltb i 8 (omega arith), le-ltb i 16 k)
 
-last : tie.Need-returns-17
+last : tie.Need-returns-in_default
 unfolding Nots
-last c = past _ _ _ _ c.match.rest
+last c = past _ _ _ _ c.in_default.in_default-own.rest
 
-pub curve-of-spec : {M : Type 1} → statement M
+pub curve_of_spec : {M : Type 1} → statement M
 unfolding is_curve is_near_by is_near of_bits
-curve-of-spec =
+curve_of_spec =
     tie.close
     (tie.spec
-    (λ c. rw c.match.keys1) (λ c. rw c.match.keys2) (λ c. rw c.match.keys3) (λ c. rw c.match.keys4)
-    (λ c. rw c.match.keys5) (λ c. rw c.match.keys6) (λ c. rw c.match.keys7) (λ c. rw c.match.keys8)
-    (λ c. rw c.match.keys9) (λ c. rw c.match.keys10) (λ c. rw c.match.keys11) (λ c. rw c.match.keys12)
-    (λ c. rw c.match.keys13) (λ c. rw c.match.keys14) (λ c. rw c.match.keys15) (λ c. rw c.match.keys16)
+    (λ c. rw c.in-0.is) (λ c. rw c.in-1.is) (λ c. rw c.in-2.is) (λ c. rw c.in-3.is)
+    (λ c. rw c.in-4.is) (λ c. rw c.in-5.is) (λ c. rw c.in-6.is) (λ c. rw c.in-7.is)
+    (λ c. rw c.in-8.is) (λ c. rw c.in-9.is) (λ c. rw c.in-10.is) (λ c. rw c.in-11.is)
+    (λ c. rw c.in-12.is) (λ c. rw c.in-13.is) (λ c. rw c.in-14.is) (λ c. rw c.in-15.is)
     last)

@@ -6,18 +6,18 @@ use Rattle.setup.proofs.meets.Tie as tie
 touches-requires : tie.Need-touches-requires
 touches-requires c κs = let p = c.requires in (p.1, p.0.right, p.0.by)
 
-touches-requires-2 : tie.Need-touches-requires-2
+touches-requires-2 : tie.Need-touches-requires-then-touches
 touches-requires-2 c κs = let p = c.before.before.requires in (p.2, p.0.top, p.0.by)
 
-returns : tie.Need-returns
+returns : tie.Need-returns-then-touches
 unfolding meets
 returns c = search (branches, bool_called)
 
-returns-2 : tie.Need-returns-2
+returns-2 : tie.Need-returns-else-touches
 unfolding meets
 returns-2 c = search (branches, bool_called)
 
-pub meets-spec : {M : Type 1} → statement M
-meets-spec =
+pub meets_spec : {M : Type 1} → statement M
+meets_spec =
     tie.close
     (tie.spec touches-requires touches-requires-2 returns returns-2)

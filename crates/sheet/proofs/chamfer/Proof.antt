@@ -7,5 +7,5 @@ returns : tie.Need-returns
 unfolding chamfer_of
 returns c = refl
 
-pub chamfer-spec : {M : Type 1} → statement M
-chamfer-spec = tie.close (tie.spec returns)
+pub chamfer_spec : {M : Type 1} → statement M
+chamfer_spec = tie.close (tie.spec returns)

@@ -7,5 +7,5 @@ returns : tie.Need-returns
 unfolding drill_of
 returns c = refl
 
-pub drill-spec : {M : Type 1} → statement M
-drill-spec = tie.close (tie.spec returns)
+pub drill_spec : {M : Type 1} → statement M
+drill_spec = tie.close (tie.spec returns)

@@ -7,6 +7,6 @@ returns : tie.Need-returns
 unfolding holder_at
 returns c = c.holder.ensures
 
-pub holder-at-spec : {M : Type 1} → statement M
-holder-at-spec = tie.close (tie.spec (λ c. search rules) (λ c. search rules) (λ c. search rules) (λ c. search rules) (λ c. search rules) (λ c. search rules)
+pub holder_at_spec : {M : Type 1} → statement M
+holder_at_spec = tie.close (tie.spec (λ c. search rules) (λ c. search rules) (λ c. search rules) (λ c. search rules) (λ c. search rules) (λ c. search rules)
     (λ c. search rules) (λ c. search rules) (λ c. search rules) (λ c. search rules) (λ c. search rules) (λ c. search rules) (λ c κs. tt) returns)

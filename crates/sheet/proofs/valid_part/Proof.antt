@@ -5,12 +5,12 @@ use Rattle.sheet.proofs.Lists.{valid_one}
 use Rattle.sheet.proofs.valid_part.Statement.{statement}
 use Rattle.sheet.proofs.valid_part.Tie as tie
 
-returns : tie.Need-returns
+returns : tie.Need-returns-in-Absent
 unfolding listed all_valid
-returns c = ap (λ q. all_valid (listed q)) (sym c.enum_told.given.1)
+returns c = ap (λ q. all_valid (listed q)) (sym c.enum_told-1.given.1)
 
-returns-2 : tie.Need-returns-2
-returns-2 c = c.valid.ensures ∙ valid_one _ _ c.before.before.part.given.1
+returns-2 : tie.Need-returns-in-There
+returns-2 c = c.valid.ensures ∙ valid_one _ _ c.before.before.part-1.given.1
 
-pub valid-part-spec : {M : Type 1} → statement M
-valid-part-spec = tie.close (tie.spec (λ c. search rules) (λ c. search rules) (λ c κs. tt) returns returns-2)
+pub valid_part_spec : {M : Type 1} → statement M
+valid_part_spec = tie.close (tie.spec (λ c. search rules) (λ c. search rules) (λ c κs. tt) returns returns-2)

@@ -7,86 +7,86 @@ use Rattle.sort.proofs.stands_before.Reads as reads
 use Rattle.sort.proofs.stands_before.Lts as lts
 use Rattle.numbers.proofs.total_less.Reads as total-less-reads
 
-mul-i : tie.Need-overflow-mul-i
+mul-i : tie.Need-offset_bounds-list-a
 mul-i c = search rules
 
-shared-slice-read-i : tie.Need-shared-slice-read-i
-shared-slice-read-i c = search rules
+shared_slice_read-i : tie.Need-bounds-list-a
+shared_slice_read-i c = search rules
 
-cast-i : tie.Need-overflow-cast-i
+cast-i : tie.Need-overflow_cast-i
 cast-i c = search rules
 
-mul-j : tie.Need-overflow-mul-j
+mul-j : tie.Need-offset_bounds-list-b
 mul-j c = search rules
 
-shared-slice-read-j : tie.Need-shared-slice-read-j
-shared-slice-read-j c = search rules
+shared_slice_read-j : tie.Need-bounds-list-b
+shared_slice_read-j c = search rules
 
-cast-j : tie.Need-overflow-cast-j
+cast-j : tie.Need-overflow_cast-j
 cast-j c = search rules
 
-mul-zi : tie.Need-overflow-mul-zi
+mul-zi : tie.Need-overflow_mul-zi
 mul-zi c = search rules
 
-add-zi : tie.Need-overflow-add-zi
+add-zi : tie.Need-overflow_add-zi
 add-zi c = search rules
 
-mul-zi-2 : tie.Need-overflow-mul-zi-2
+mul-zi-2 : tie.Need-offset_bounds-mesh-i
 mul-zi-2 c = search rules
 
-shared-slice-read-zi : tie.Need-shared-slice-read-zi
-shared-slice-read-zi c = search rules
+shared_slice_read-zi : tie.Need-bounds-mesh-i
+shared_slice_read-zi c = search rules
 
-mul-zj : tie.Need-overflow-mul-zj
+mul-zj : tie.Need-overflow_mul-zj
 mul-zj c = search rules
 
-add-zj : tie.Need-overflow-add-zj
+add-zj : tie.Need-overflow_add-zj
 add-zj c = search rules
 
-mul-zj-2 : tie.Need-overflow-mul-zj-2
+mul-zj-2 : tie.Need-offset_bounds-mesh-j
 mul-zj-2 c = search rules
 
-shared-slice-read-zj : tie.Need-shared-slice-read-zj
-shared-slice-read-zj c = search rules
+shared_slice_read-zj : tie.Need-bounds-mesh-j
+shared_slice_read-zj c = search rules
 
-total-less-requires : tie.Need-total-less-requires
-total-less-requires c κs = search rules
+total_less-requires : tie.Need-total_less-requires
+total_less-requires c κs = search rules
 
-returns : tie.Need-returns
+returns : tie.Need-returns-then-total_less
 unfolding before
 returns c = search flags
 
-total-less-requires-2 : tie.Need-total-less-requires-2
-total-less-requires-2 c κs = search rules
+total_less-requires-2 : tie.Need-total_less-requires-2
+total_less-requires-2 c κs = search rules
 
-returns-2 : tie.Need-returns-2
+returns-2 : tie.Need-returns-then-total_less-2
 unfolding before
 returns-2 c = search flags
 
-returns-3 : tie.Need-returns-3
+returns-3 : tie.Need-returns
 unfolding before
 returns-3 c = search flags
 
-pub stands-before-spec : {M : Type 1} → statement M
-stands-before-spec =
+pub stands_before_spec : {M : Type 1} → statement M
+stands_before_spec =
     tie.close
     (tie.spec
     mul-i
-    shared-slice-read-i
+    shared_slice_read-i
     cast-i
     mul-j
-    shared-slice-read-j
+    shared_slice_read-j
     cast-j
     mul-zi
     add-zi
     mul-zi-2
-    shared-slice-read-zi
+    shared_slice_read-zi
     mul-zj
     add-zj
     mul-zj-2
-    shared-slice-read-zj
-    total-less-requires
+    shared_slice_read-zj
+    total_less-requires
     returns
-    total-less-requires-2
+    total_less-requires-2
     returns-2
     returns-3)

@@ -15,7 +15,7 @@ higher-requires-2 c κs =
 returns : tie.Need-returns
 returns c =
     let s = c.before.before in
-    c.higher2.ensures ∙ ap (λ (v : Float). max_of v (neg s.args.x)) c.before.higher.ensures ∙ beyond_is _ _ s.requires.0 s.requires.1
+    c.higher-2.ensures ∙ ap (λ (v : Float). max_of v (neg s.args.x)) c.before.higher.ensures ∙ beyond_is _ _ s.requires.0 s.requires.1
 
-pub beyond-spec : {M : Type 1} → statement M
-beyond-spec = tie.close (tie.spec (λ c κs. (larger_not_nan _ _ c.requires.0 c.requires.1).0) higher-requires-2 returns)
+pub beyond_spec : {M : Type 1} → statement M
+beyond_spec = tie.close (tie.spec (λ c κs. (larger_not_nan _ _ c.requires.0 c.requires.1).0) higher-requires-2 returns)

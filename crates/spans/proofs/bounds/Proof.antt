@@ -8,12 +8,12 @@ returns : tie.Need-returns
 unfolding top_of bounds_of
 returns c =
     rw (
-      c.high3.ensures,
-      c.before.high2.ensures,
+      c.high-3.ensures,
+      c.before.high-2.ensures,
       c.before.before.high.ensures,
-      c.before.before.before.low2.ensures,
+      c.before.before.before.low-2.ensures,
       c.before.before.before.before.low.ensures,
     )
 
-pub bounds-spec : {M : Type 1} → statement M
-bounds-spec = tie.close (tie.spec (λ c κs. search rules) (λ c κs. search rules) (λ c κs. search rules) (λ c κs. search rules) (λ c κs. search rules) returns)
+pub bounds_spec : {M : Type 1} → statement M
+bounds_spec = tie.close (tie.spec (λ c κs. search rules) (λ c κs. search rules) (λ c κs. search rules) (λ c κs. search rules) (λ c κs. search rules) returns)

@@ -12,11 +12,11 @@ use Rattle.spans.proofs.box_of.Tie as tie
 bounds-requires : tie.Need-bounds-requires
 bounds-requires c κs =
     let s = c.before.before in
-    subst⁻¹ (λ (t : Triangle). Corners t) c.triangle-at.ensures (corners _ s.requires.1 _ s.requires.0)
+    subst⁻¹ (λ (t : Triangle). Corners t) c.triangle_at.ensures (corners _ s.requires.1 _ s.requires.0)
 
 returns : tie.Need-returns
 unfolding box_of
-returns c = c.bounds.ensures ∙ ap bounds_of c.before.triangle-at.ensures
+returns c = c.bounds.ensures ∙ ap bounds_of c.before.triangle_at.ensures
 
-pub box-of-spec : {M : Type 1} → statement M
-box-of-spec = tie.close (tie.spec (λ c κs. search rules) bounds-requires returns)
+pub box_of_spec : {M : Type 1} → statement M
+box_of_spec = tie.close (tie.spec (λ c κs. search rules) bounds-requires returns)

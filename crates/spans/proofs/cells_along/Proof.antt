@@ -10,5 +10,5 @@ returns : tie.Need-returns
 unfolding cells_along
 returns c = ap (λ (k : ℕ). k + 1) (c.cut.ensures ∙ ap (λ (v : Float). truncated v) c.before.round_down.ensures)
 
-pub cells-along-spec : {M : Type 1} → statement M
-cells-along-spec = tie.close (tie.spec (λ c κs. tt) (λ c κs. tt) (λ c. omega (arith, returns c)) returns)
+pub cells_along_spec : {M : Type 1} → statement M
+cells_along_spec = tie.close (tie.spec (λ c κs. tt) (λ c κs. tt) (λ c. omega (arith, returns c)) returns)

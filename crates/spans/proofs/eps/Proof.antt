@@ -8,5 +8,5 @@ returns : tie.Need-returns
 unfolding eps_of
 returns c = rw (c.max.ensures, c.before.scale.ensures)
 
-pub eps-spec : {M : Type 1} → statement M
-eps-spec = tie.close (tie.spec (λ c κs. search rules) (λ c κs. tt) returns)
+pub eps_spec : {M : Type 1} → statement M
+eps_spec = tie.close (tie.spec (λ c κs. search rules) (λ c κs. tt) returns)

@@ -16,14 +16,14 @@ beyond-requires-2 c κs =
 beyond-requires-3 : tie.Need-beyond-requires-3
 beyond-requires-3 c κs =
     let s = c.before.before in (
-      subst⁻¹ (λ (v : Float). not_negative v ≡ true) c.beyond2.ensures
-          (not_negative_more _ _ (beyond-requires-2 c.before c.beyond2.lifetimes).0 s.requires.2),
+      subst⁻¹ (λ (v : Float). not_negative v ≡ true) c.beyond-2.ensures
+          (not_negative_more _ _ (beyond-requires-2 c.before c.beyond-2.lifetimes).0 s.requires.2),
       s.requires.3,
     )
 
 returns : tie.Need-returns
 unfolding farther
-returns c = rw (c.beyond3.ensures, c.before.beyond2.ensures, c.before.before.beyond.ensures)
+returns c = rw (c.beyond-3.ensures, c.before.beyond-2.ensures, c.before.before.beyond.ensures)
 
-pub far-spec : {M : Type 1} → statement M
-far-spec = tie.close (tie.spec (λ c κs. (c.requires.0, c.requires.1)) beyond-requires-2 beyond-requires-3 returns)
+pub far_spec : {M : Type 1} → statement M
+far_spec = tie.close (tie.spec (λ c κs. (c.requires.0, c.requires.1)) beyond-requires-2 beyond-requires-3 returns)

@@ -15,7 +15,7 @@ higher-requires-2 c κs =
 
 returns : tie.Need-returns
 unfolding highest
-returns c = rw (c.higher2.ensures, c.before.higher.ensures)
+returns c = rw (c.higher-2.ensures, c.before.higher.ensures)
 
-pub high-spec : {M : Type 1} → statement M
-high-spec = tie.close (tie.spec (λ c κs. good_not_nan _ c.requires.0) higher-requires-2 returns)
+pub high_spec : {M : Type 1} → statement M
+high_spec = tie.close (tie.spec (λ c κs. good_not_nan _ c.requires.0) higher-requires-2 returns)

@@ -5,13 +5,13 @@ use Rattle.rules.proofs.Branches.{taken, left}
 use Rattle.spans.proofs.higher.Statement.{statement}
 use Rattle.spans.proofs.higher.Tie as tie
 
-returns : tie.Need-returns
+returns : tie.Need-returns-then-x-y
 unfolding max_of
-returns c = left _ _ _ _ c.before.requires (taken _ _ _ _ c.if1.true refl)
+returns c = left _ _ _ _ c.before.requires (taken _ _ _ _ c.if-x-y.true refl)
 
-returns-2 : tie.Need-returns-2
+returns-2 : tie.Need-returns-else-x-y
 unfolding max_of
-returns-2 c = left _ _ _ _ c.before.requires (left _ _ _ _ c.if1.false refl)
+returns-2 c = left _ _ _ _ c.before.requires (left _ _ _ _ c.if-x-y.false refl)
 
-pub higher-spec : {M : Type 1} → statement M
-higher-spec = tie.close (tie.spec returns returns-2)
+pub higher_spec : {M : Type 1} → statement M
+higher_spec = tie.close (tie.spec returns returns-2)

@@ -15,7 +15,7 @@ lower-requires-2 c κs =
 
 returns : tie.Need-returns
 unfolding lowest
-returns c = rw (c.lower2.ensures, c.before.lower.ensures)
+returns c = rw (c.lower-2.ensures, c.before.lower.ensures)
 
-pub low-spec : {M : Type 1} → statement M
-low-spec = tie.close (tie.spec (λ c κs. good_not_nan _ c.requires.0) lower-requires-2 returns)
+pub low_spec : {M : Type 1} → statement M
+low_spec = tie.close (tie.spec (λ c κs. good_not_nan _ c.requires.0) lower-requires-2 returns)

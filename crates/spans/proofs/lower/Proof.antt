@@ -5,13 +5,13 @@ use Rattle.rules.proofs.Branches.{taken, left}
 use Rattle.spans.proofs.lower.Statement.{statement}
 use Rattle.spans.proofs.lower.Tie as tie
 
-returns : tie.Need-returns
+returns : tie.Need-returns-then-y-x
 unfolding min_of
-returns c = left _ _ _ _ c.before.requires (taken _ _ _ _ c.if1.true refl)
+returns c = left _ _ _ _ c.before.requires (taken _ _ _ _ c.if-y-x.true refl)
 
-returns-2 : tie.Need-returns-2
+returns-2 : tie.Need-returns-else-y-x
 unfolding min_of
-returns-2 c = left _ _ _ _ c.before.requires (left _ _ _ _ c.if1.false refl)
+returns-2 c = left _ _ _ _ c.before.requires (left _ _ _ _ c.if-y-x.false refl)
 
 pub lower_spec : {M : Type 1} → statement M
 lower_spec = tie.close (tie.spec returns returns-2)

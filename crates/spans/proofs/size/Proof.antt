@@ -6,12 +6,12 @@ use Rattle.spans.proofs.size.Tie as tie
 returns : tie.Need-returns
 unfolding size_of
 returns c = rw (
-  c.max3.ensures,
-  c.before.max2.ensures,
+  c.max-3.ensures,
+  c.before.max-2.ensures,
   c.before.before.max.ensures,
-  c.before.before.before.root.ensures,
-  c.before.before.before.before.nearest-u64-to-f64.ensures,
+  c.before.before.before.root-root.ensures,
+  c.before.before.before.before.nearest_u64_to_f64.ensures,
 )
 
-pub size-spec : {M : Type 1} → statement M
-size-spec = tie.close (tie.spec (λ c κs. tt) (λ c κs. tt) (λ c κs. tt) (λ c κs. tt) (λ c κs. tt) returns)
+pub size_spec : {M : Type 1} → statement M
+size_spec = tie.close (tie.spec (λ c κs. tt) (λ c κs. tt) (λ c κs. tt) (λ c κs. tt) (λ c κs. tt) returns)

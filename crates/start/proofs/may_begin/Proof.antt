@@ -3,8 +3,8 @@ use Rattle.rules.proofs.Branches.{no}
 use Rattle.start.proofs.may_begin.Statement.{statement}
 use Rattle.start.proofs.may_begin.Tie as tie
 
-returns : tie.Need-returns
-returns c e = (c.before.before.begins.ensures c.before.if1.true, c.are-apart.ensures e)
+returns : tie.Need-returns-then-begins
+returns c e = (c.before.before.begins.ensures c.before.if-begins.true, c.are_apart.ensures e)
 
-pub may-begin-spec : {M : Type 1} → statement M
-may-begin-spec = tie.close (tie.spec (λ c κs. tt) (λ c κs. search rules) returns (λ c e. absurd (no e)))
+pub may_begin_spec : {M : Type 1} → statement M
+may_begin_spec = tie.close (tie.spec (λ c κs. tt) (λ c κs. search rules) returns (λ c e. absurd (no e)))

@@ -7,28 +7,28 @@ use Rattle.stl.proofs.Numbers.{Finite, good, clean, bad_part, both}
 use Rattle.stl.proofs.bad_among.Statement.{statement}
 use Rattle.stl.proofs.bad_among.Tie as tie
 
-abbrev invariant-loop : tie.invariant-loop
+abbrev invariant-loop : tie.invariant-loop-t
 invariant-loop bytes n t₀ t = Finite bytes 0 (9 * t) × (t ≤ n)
 
-abbrev decreases-loop : tie.decreases-loop
+abbrev decreases-loop : tie.decreases-loop-t
 decreases-loop bytes n t₀ t = n - t
 
-loop-holds : tie.Need-loop-init invariant-loop decreases-loop
+loop-holds : tie.Need-loop-t-init invariant-loop decreases-loop
 loop-holds c = (λ i h. absurd (omega arith), omega arith)
 
-bad-in-requires : tie.Need-bad-in-requires invariant-loop decreases-loop
-bad-in-requires c κs = omega arith
+bad_in-requires : tie.Need-bad_in-requires invariant-loop decreases-loop
+bad_in-requires c κs = omega arith
 
-returns : tie.Need-returns invariant-loop decreases-loop
-returns c = bad_part _ _ 9 _ (omega arith) (sym c.before.bad-in.ensures ∙ c.if1.true)
+returns : tie.Need-returns-then-bad_in invariant-loop decreases-loop
+returns c = bad_part _ _ 9 _ (omega arith) (sym c.before.bad_in.ensures ∙ c.if-bad_in.true)
 
-loop-again : tie.Need-loop-preserved invariant-loop decreases-loop
+loop-again : tie.Need-loop-t-preserved invariant-loop decreases-loop
 loop-again c =
-    let l = c.before.before.before.loop in
-    (both _ 0 (9 * l.t) 9 _ l.invariant.0 (rw zero-add (clean _ _ 9 (sym c.before.bad-in.ensures ∙ c.if1.false))) (omega arith), omega arith)
+    let l = c.before.before.before.loop-t in
+    (both _ 0 (9 * l.t) 9 _ l.invariant.0 (rw zero-add (clean _ _ 9 (sym c.before.bad_in.ensures ∙ c.if-bad_in.false))) (omega arith), omega arith)
 
-returns-2 : tie.Need-returns-2 invariant-loop decreases-loop
-returns-2 c = good _ 0 _ (λ i h. c.before.loop.invariant.0 i (omega arith))
+returns-2 : tie.Need-returns invariant-loop decreases-loop
+returns-2 c = good _ 0 _ (λ i h. c.before.loop-t.invariant.0 i (omega arith))
 
-pub bad-among-spec : {M : Type 1} → statement M
-bad-among-spec = tie.close (tie.spec invariant-loop decreases-loop loop-holds bad-in-requires returns (λ c. omega arith) (λ c. omega arith) loop-again returns-2)
+pub bad_among_spec : {M : Type 1} → statement M
+bad_among_spec = tie.close (tie.spec invariant-loop decreases-loop loop-holds bad_in-requires returns (λ c. omega arith) (λ c. omega arith) loop-again returns-2)

@@ -11,5 +11,5 @@ unfolding accepted_of
 returns c = ap (λ (ms : List Float). ended (record { refusal = 0; n = c.before.before.before.before.before.before.args.n }) ms)
     c.before.before.fill.ensures
 
-pub decoded-spec : {M : Type 1} → statement M
-decoded-spec = tie.close (tie.spec (λ c κs. search rules) (λ c. search rules) returns)
+pub decoded_spec : {M : Type 1} → statement M
+decoded_spec = tie.close (tie.spec (λ c κs. search rules) (λ c. search rules) returns)

@@ -5,13 +5,13 @@ use Rattle.stl.specs.Reader.{refusal_of}
 use Rattle.stl.proofs.refusal.Statement.{statement}
 use Rattle.stl.proofs.refusal.Tie as tie
 
-returns : tie.Need-returns
+returns : tie.Need-returns-then-bytes-lt-HEAD
 unfolding refusal_of
 returns c = search ladder
 
-returns-2 : tie.Need-returns-2
+returns-2 : tie.Need-returns
 unfolding refusal_of
-returns-2 c = refuse_next _ 14 _ _ (le-ltb _ _ c.before.before.if1.false) (rw (← c.before.u32-at.ensures) c.refusal-of-count.ensures)
+returns-2 c = refuse_next _ 14 _ _ (le-ltb _ _ c.before.before.if-bytes-lt-HEAD.false) (rw (← c.before.u32_at.ensures) c.refusal_of_count.ensures)
 
-pub refusal-spec : {M : Type 1} → statement M
-refusal-spec = tie.close (tie.spec returns (λ c κs. search rules) (λ c κs. tt) returns-2)
+pub refusal_spec : {M : Type 1} → statement M
+refusal_spec = tie.close (tie.spec returns (λ c κs. search rules) (λ c κs. tt) returns-2)

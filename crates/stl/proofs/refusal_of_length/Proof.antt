@@ -6,30 +6,30 @@ use Rattle.stl.proofs.Ladder.{ruled, rung, exact_bytes}
 use Rattle.stl.proofs.refusal_of_length.Statement.{statement}
 use Rattle.stl.proofs.refusal_of_length.Tie as tie
 
-refusal-of-numbers-requires : tie.Need-refusal-of-numbers-requires
-refusal-of-numbers-requires c κs =
+refusal_of_numbers-requires : tie.Need-refusal_of_numbers-requires
+refusal_of_numbers-requires c κs =
     let d = c.before.before in
     let a = d.before.before.before.args in
-    omega (arith, exact_bytes a.bytes.now a.n (sym c.enum-told3.given.1 ∙ ruled _ _ _ _ d.before.shape.ensures d.length-rule.ensures))
+    omega (arith, exact_bytes a.bytes.now a.n (sym c.enum_told-in-Exact-1.given.1 ∙ ruled _ _ _ _ d.before.shape.ensures d.length_rule.ensures))
 
-returns : tie.Need-returns
+returns : tie.Need-returns-in-Short
 unfolding refuse_length
 returns c =
     let d = c.before.before in
-    rung _ _ _ _ (sym c.enum_told.given.1 ∙ ruled _ _ _ _ d.before.shape.ensures d.length-rule.ensures) refl
+    rung _ _ _ _ (sym c.enum_told-1.given.1 ∙ ruled _ _ _ _ d.before.shape.ensures d.length_rule.ensures) refl
 
-returns-2 : tie.Need-returns-2
+returns-2 : tie.Need-returns-in-Surplus
 unfolding refuse_length
 returns-2 c =
     let d = c.before.before in
-    rung _ _ _ _ (sym c.enum-told2.given.1 ∙ ruled _ _ _ _ d.before.shape.ensures d.length-rule.ensures) refl
+    rung _ _ _ _ (sym c.enum_told-in-Surplus-1.given.1 ∙ ruled _ _ _ _ d.before.shape.ensures d.length_rule.ensures) refl
 
-returns-3 : tie.Need-returns-3
+returns-3 : tie.Need-returns-in-Exact
 unfolding refuse_length
 returns-3 c =
     let d = c.before.before.before in
-    rung _ _ _ _ (sym c.before.enum-told3.given.1 ∙ ruled _ _ _ _ d.before.shape.ensures d.length-rule.ensures) c.refusal-of-numbers.ensures
+    rung _ _ _ _ (sym c.before.enum_told-in-Exact-1.given.1 ∙ ruled _ _ _ _ d.before.shape.ensures d.length_rule.ensures) c.refusal_of_numbers.ensures
 
-pub refusal-of-length-spec : {M : Type 1} → statement M
-refusal-of-length-spec = tie.close
-    (tie.spec (λ c κs. tt) (λ c κs. tt) (λ c. search rules) (λ c. search rules) (λ c. search rules) refusal-of-numbers-requires returns returns-2 returns-3)
+pub refusal_of_length_spec : {M : Type 1} → statement M
+refusal_of_length_spec = tie.close
+    (tie.spec (λ c κs. tt) (λ c κs. tt) (λ c. search rules) (λ c. search rules) (λ c. search rules) refusal_of_numbers-requires returns returns-2 returns-3)

@@ -6,5 +6,5 @@ use Rattle.tips.proofs.begun.Tie as tie
 returns : tie.Need-returns
 returns c = ap (λ (b : Best). record { count = 0; best = b }) c.at.ensures
 
-pub begun-spec : {M : Type 1} → statement M
-begun-spec = tie.close (tie.spec (λ c κs. tt) returns)
+pub begun_spec : {M : Type 1} → statement M
+begun_spec = tie.close (tie.spec (λ c κs. tt) returns)

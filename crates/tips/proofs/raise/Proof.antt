@@ -14,24 +14,24 @@ of_kind : (mesh boxes table : List Float) (s k : Shape) (best r : Best) (i : ℕ
     → r ≡ shape_step mesh boxes s table best i
 of_kind mesh boxes table s k best r i e p = p ∙ ap (λ (x : Shape). shape_step mesh boxes x table best i) (sym e)
 
-returns : tie.Need-returns
+returns : tie.Need-returns-in-Nose
 unfolding shape_step
-returns c = of_kind _ _ _ _ _ _ _ _ c.before.before.shape.given.1 c.raise-bull.ensures
+returns c = of_kind _ _ _ _ _ _ _ _ c.before.before.shape-1.given.1 c.raise_bull.ensures
 
-returns-2 : tie.Need-returns-2
+returns-2 : tie.Need-returns-in-Sections
 unfolding shape_step
-returns-2 c = of_kind _ _ _ _ _ _ _ _ c.before.before.shape2.given.1 c.raise-tool.ensures
+returns-2 c = of_kind _ _ _ _ _ _ _ _ c.before.before.shape-in-Sections-1.given.1 c.raise_tool.ensures
 
-returns-3 : tie.Need-returns-3
+returns-3 : tie.Need-returns-in-Guess
 unfolding shape_step
-returns-3 c = of_kind _ _ _ _ _ _ _ _ c.before.before.shape3.given.1 c.raise-guess.ensures
+returns-3 c = of_kind _ _ _ _ _ _ _ _ c.before.before.shape-in-Guess-1.given.1 c.raise_guess.ensures
 
-returns-4 : tie.Need-returns-4
+returns-4 : tie.Need-returns-in-From
 unfolding shape_step
-returns-4 c = of_kind _ _ _ _ _ _ _ _ c.before.before.shape4.given.1 c.raise-from.ensures
+returns-4 c = of_kind _ _ _ _ _ _ _ _ c.before.before.shape-in-From-1.given.1 c.raise_from.ensures
 
-pub raise-spec : {M : Type 1} → statement M
-raise-spec =
+pub raise_spec : {M : Type 1} → statement M
+raise_spec =
     tie.close
     (tie.spec (λ c. search rules) (λ c κs. search rules) (λ c. search rules) (λ c κs. search rules) (λ c. search rules) (λ c κs. search rules)
     (λ c. search rules) (λ c κs. search rules) returns returns-2 returns-3 returns-4)

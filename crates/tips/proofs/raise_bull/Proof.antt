@@ -11,9 +11,9 @@ returns : tie.Need-returns
 unfolding bull_step
 returns c =
     let a = c.before.before.before.before.before.args in
-    c.raise-bull-on.ensures
-    ∙ ap (λ (t : Triangle). bull_raised t c.before.before.box-at.result.top a.i a.k a.best) c.before.triangle-at.ensures
-    ∙ ap (λ (b : Bounds). bull_raised (triangle_of a.mesh.now a.i) b.top a.i a.k a.best) c.before.before.box-at.ensures
+    c.raise_bull_on.ensures
+    ∙ ap (λ (t : Triangle). bull_raised t c.before.before.box_at-b.result.top a.i a.k a.best) c.before.triangle_at.ensures
+    ∙ ap (λ (b : Bounds). bull_raised (triangle_of a.mesh.now a.i) b.top a.i a.k a.best) c.before.before.box_at-b.ensures
 
-pub raise-bull-spec : {M : Type 1} → statement M
-raise-bull-spec = tie.close (tie.spec (λ c κs. search rules) (λ c κs. search rules) (λ c κs. tt) returns)
+pub raise_bull_spec : {M : Type 1} → statement M
+raise_bull_spec = tie.close (tie.spec (λ c κs. search rules) (λ c κs. search rules) (λ c κs. tt) returns)

@@ -6,15 +6,15 @@ use Rattle.tips.specs.Contact.{bull_raised}
 use Rattle.tips.proofs.raise_bull_on.Statement.{statement}
 use Rattle.tips.proofs.raise_bull_on.Tie as tie
 
-returns : tie.Need-returns
+returns : tie.Need-returns-then-top-best
 unfolding bull_raised
-returns c = taken _ _ _ _ c.if1.true refl
+returns c = taken _ _ _ _ c.if-top-best.true refl
 
-returns-2 : tie.Need-returns-2
+returns-2 : tie.Need-returns
 unfolding bull_raised
-returns-2 c = left _ _ _ _ c.before.before.if1.false
+returns-2 c = left _ _ _ _ c.before.before.if-top-best.false
     (let a = c.before.before.before.before.args in
-    c.raise-by.ensures ∙ ap (λ k. raised_by k a.i a.best) c.before.bull-contact-on.ensures ∙ raised_beside _ a.i a.best)
+    c.raise_by.ensures ∙ ap (λ k. raised_by k a.i a.best) c.before.bull_contact_on.ensures ∙ raised_beside _ a.i a.best)
 
-pub raise-bull-on-spec : {M : Type 1} → statement M
-raise-bull-on-spec = tie.close (tie.spec returns (λ c κs. tt) (λ c κs. tt) returns-2)
+pub raise_bull_on_spec : {M : Type 1} → statement M
+raise_bull_on_spec = tie.close (tie.spec returns (λ c κs. tt) (λ c κs. tt) returns-2)

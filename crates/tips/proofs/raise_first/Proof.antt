@@ -3,13 +3,13 @@ use Rattle.tips.specs.Inside.{first_raised}
 use Rattle.tips.proofs.raise_first.Statement.{statement}
 use Rattle.tips.proofs.raise_first.Tie as tie
 
-returns : tie.Need-returns
+returns : tie.Need-returns-then-is_parted
 unfolding first_raised
-returns c = taken _ _ _ _ (bool_called _ _ _ c.before.before.is-parted.ensures c.before.if1.true) c.raise-bull-on.ensures
+returns c = taken _ _ _ _ (bool_called _ _ _ c.before.before.is_parted.ensures c.before.if-is_parted.true) c.raise_bull_on.ensures
 
-returns-2 : tie.Need-returns-2
+returns-2 : tie.Need-returns
 unfolding first_raised
-returns-2 c = left _ _ _ _ (bool_called _ _ _ c.before.before.is-parted.ensures c.before.if1.false) c.at.ensures
+returns-2 c = left _ _ _ _ (bool_called _ _ _ c.before.before.is_parted.ensures c.before.if-is_parted.false) c.at.ensures
 
-pub raise-first-spec : {M : Type 1} → statement M
-raise-first-spec = tie.close (tie.spec (λ c κs. tt) (λ c κs. tt) returns (λ c κs. tt) returns-2)
+pub raise_first_spec : {M : Type 1} → statement M
+raise_first_spec = tie.close (tie.spec (λ c κs. tt) (λ c κs. tt) returns (λ c κs. tt) returns-2)

@@ -11,9 +11,9 @@ returns : tie.Need-returns
 unfolding from_step
 returns c =
     let a = c.before.before.before.before.before.args in
-    c.raise-from-on.ensures
-    ∙ ap (λ (t : Triangle). from_raised t c.before.before.box-at.result.top a.i a.g a.best) c.before.triangle-at.ensures
-    ∙ ap (λ (b : Bounds). from_raised (triangle_of a.mesh.now a.i) b.top a.i a.g a.best) c.before.before.box-at.ensures
+    c.raise_from_on.ensures
+    ∙ ap (λ (t : Triangle). from_raised t c.before.before.box_at-b.result.top a.i a.g a.best) c.before.triangle_at.ensures
+    ∙ ap (λ (b : Bounds). from_raised (triangle_of a.mesh.now a.i) b.top a.i a.g a.best) c.before.before.box_at-b.ensures
 
-pub raise-from-spec : {M : Type 1} → statement M
-raise-from-spec = tie.close (tie.spec (λ c κs. search rules) (λ c κs. search rules) (λ c κs. tt) returns)
+pub raise_from_spec : {M : Type 1} → statement M
+raise_from_spec = tie.close (tie.spec (λ c κs. search rules) (λ c κs. search rules) (λ c κs. tt) returns)

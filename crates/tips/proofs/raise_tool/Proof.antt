@@ -11,9 +11,9 @@ returns : tie.Need-returns
 unfolding tool_step
 returns c =
     let a = c.before.before.before.before.before.before.args in
-    c.raise-tool-on.ensures
-    ∙ ap (λ (t : Triangle). tool_raised t c.before.before.box-at.result.top a.i a.a a.table.now a.best) c.before.triangle-at.ensures
-    ∙ ap (λ (b : Bounds). tool_raised (triangle_of a.mesh.now a.i) b.top a.i a.a a.table.now a.best) c.before.before.box-at.ensures
+    c.raise_tool_on.ensures
+    ∙ ap (λ (t : Triangle). tool_raised t c.before.before.box_at-b.result.top a.i a.a a.table.now a.best) c.before.triangle_at.ensures
+    ∙ ap (λ (b : Bounds). tool_raised (triangle_of a.mesh.now a.i) b.top a.i a.a a.table.now a.best) c.before.before.box_at-b.ensures
 
-pub raise-tool-spec : {M : Type 1} → statement M
-raise-tool-spec = tie.close (tie.spec (λ c κs. search rules) (λ c κs. search rules) (λ c κs. tt) returns)
+pub raise_tool_spec : {M : Type 1} → statement M
+raise_tool_spec = tie.close (tie.spec (λ c κs. search rules) (λ c κs. search rules) (λ c κs. tt) returns)

@@ -4,13 +4,13 @@ use Rattle.tips.specs.Contact.{tool_raised}
 use Rattle.tips.proofs.raise_tool_on.Statement.{statement}
 use Rattle.tips.proofs.raise_tool_on.Tie as tie
 
-returns : tie.Need-returns
+returns : tie.Need-returns-then-top-low
 unfolding tool_raised
-returns c = taken _ _ _ _ c.if1.true refl
+returns c = taken _ _ _ _ c.if-top-low.true refl
 
-returns-2 : tie.Need-returns-2
+returns-2 : tie.Need-returns
 unfolding tool_raised
-returns-2 c = left _ _ _ _ c.before.if1.false c.raise-over.ensures
+returns-2 c = left _ _ _ _ c.before.if-top-low.false c.raise_over.ensures
 
-pub raise-tool-on-spec : {M : Type 1} → statement M
-raise-tool-on-spec = tie.close (tie.spec returns (λ c κs. tt) returns-2)
+pub raise_tool_on_spec : {M : Type 1} → statement M
+raise_tool_on_spec = tie.close (tie.spec returns (λ c κs. tt) returns-2)

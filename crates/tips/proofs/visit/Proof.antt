@@ -11,82 +11,82 @@ use Rattle.ask.proofs.Answers.{cell_keeps}
 use Rattle.tips.proofs.visit.Statement.{statement}
 use Rattle.tips.proofs.visit.Tie as tie
 
-abbrev invariant-loop2 : tie.invariant-loop2
+abbrev invariant-loop2 : tie.invariant-loop-x
 invariant-loop2 mesh starts members boxes marks₀ stamp columns shape table x0 x1 y0 y1 found₀ y x₀ marks found x =
     Going stamp (look stamp (shape_step mesh boxes shape table)) (seen marks₀ found₀) (row starts members columns x0 x1 y) (seen marks found)
     (over (λ k. cell starts members (y * columns + k)) x (x1 - x)) × (x0 ≤ x)
 
-abbrev decreases-loop2 : tie.decreases-loop2
+abbrev decreases-loop2 : tie.decreases-loop-x
 decreases-loop2 mesh starts members boxes marks₀ stamp columns shape table x0 x1 y0 y1 found₀ y x₀ marks found x = x1 - x
 
-abbrev invariant-loop : tie.invariant-loop
+abbrev invariant-loop : tie.invariant-loop-y
 invariant-loop mesh starts members boxes marks₀ stamp columns shape table x0 x1 y0 y1 found₀ y₀ marks found y =
     Going stamp (look stamp (shape_step mesh boxes shape table)) (seen marks₀ found₀) (block starts members columns x0 x1 y0 y1) (seen marks found)
     (block starts members columns x0 x1 y y1) × (y0 ≤ y)
 
-abbrev decreases-loop : tie.decreases-loop
+abbrev decreases-loop : tie.decreases-loop-y
 decreases-loop mesh starts members boxes marks₀ stamp columns shape table x0 x1 y0 y1 found₀ y₀ marks found y = y1 - y
 
-loop-holds : tie.Need-loop-init invariant-loop2 decreases-loop2 invariant-loop decreases-loop
+loop-holds : tie.Need-loop-y-init invariant-loop2 decreases-loop2 invariant-loop decreases-loop
 loop-holds c = (going_starts, omega arith)
 
-loop2-holds : tie.Need-loop2-init invariant-loop2 decreases-loop2 invariant-loop decreases-loop
+loop2-holds : tie.Need-loop-x-init invariant-loop2 decreases-loop2 invariant-loop decreases-loop
 loop2-holds c = (going_starts, omega arith)
 
-stretch-requires : tie.Need-stretch-requires invariant-loop2 decreases-loop2 invariant-loop decreases-loop
+stretch-requires : tie.Need-stretch-part-requires invariant-loop2 decreases-loop2 invariant-loop decreases-loop
 stretch-requires c κs =
     let s = c.before.before.before.before.before.before.before.before.before.before in
-    let l = c.before.before.before.loop in
-    s.requires.1.stretch c.before.loop2.x l.y c.before.loop2.invariant.1 c.loop2-test.true l.invariant.1 c.before.before.loop-test.true
+    let l = c.before.before.before.loop-y in
+    s.requires.1.stretch c.before.loop-x.x l.y c.before.loop-x.invariant.1 c.loop-x-test.true l.invariant.1 c.before.before.loop-y-test.true
 
-cell_fits : (c : tie.In-loop2 invariant-loop2 decreases-loop2 invariant-loop decreases-loop) → let s = c.before.before.before.before.before.before.before.before.before.before in
-    c.before.before.before.loop.y * s.args.columns + c.before.loop2.x + 1 ≤ length s.args.starts.now
+cell_fits : (c : tie.In-loop-x invariant-loop2 decreases-loop2 invariant-loop decreases-loop) → let s = c.before.before.before.before.before.before.before.before.before.before in
+    c.before.before.before.loop-y.y * s.args.columns + c.before.loop-x.x + 1 ≤ length s.args.starts.now
 cell_fits c =
     let s = c.before.before.before.before.before.before.before.before.before.before in
-    let l = c.before.before.before.loop in
-    let i = (s.requires.1.stretch c.before.loop2.x l.y c.before.loop2.invariant.1 c.loop2-test.true l.invariant.1
-    c.before.before.loop-test.true).inside in
+    let l = c.before.before.before.loop-y in
+    let i = (s.requires.1.stretch c.before.loop-x.x l.y c.before.loop-x.invariant.1 c.loop-x-test.true l.invariant.1
+    c.before.before.loop-y-test.true).inside in
     omega arith
 
-cell-requires : tie.Need-cell-requires invariant-loop2 decreases-loop2 invariant-loop decreases-loop
+cell-requires : tie.Need-cell-found-requires invariant-loop2 decreases-loop2 invariant-loop decreases-loop
 cell-requires c κs =
     let d = c.before.before in
     let s = d.before.before.before.before.before.before.before.before.before.before in
-    let l = d.before.before.before.loop in
-    let k = kept_trans l.invariant.0.kept d.before.loop2.invariant.0.kept in (
+    let l = d.before.before.before.loop-y in
+    let k = kept_trans l.invariant.0.kept d.before.loop-x.invariant.0.kept in (
       omega (arith, s.requires.0, k.size),
-      rw (c.before.stretch.ensures, k.size)
-          (s.requires.1.below d.before.loop2.x l.y d.before.loop2.invariant.1 d.loop2-test.true l.invariant.1 d.before.before.loop-test.true),
+      rw (c.before.stretch-part.ensures, k.size)
+          (s.requires.1.below d.before.loop-x.x l.y d.before.loop-x.invariant.1 d.loop-x-test.true l.invariant.1 d.before.before.loop-y-test.true),
       kept_room k s.requires.2,
       omega (arith, s.requires.3, k.size),
     )
 
-loop2-again : tie.Need-loop2-preserved invariant-loop2 decreases-loop2 invariant-loop decreases-loop
+loop2-again : tie.Need-loop-x-preserved invariant-loop2 decreases-loop2 invariant-loop decreases-loop
 loop2-again c =
-    let v = c.before.before.cell in
+    let v = c.before.before.cell-found in
     let a = cell-requires c.before.before.before v.lifetimes in
     let d = c.before.before.before.before.before in (
-      ring_turns _ d.before.loop2.x _ d.loop2-test.true (cell_keeps _ _ _ v.ensures a.1) d.before.loop2.invariant.0 (v.ensures
-          ∙ ap (fold _ _) c.before.before.before.before.stretch.ensures),
+      ring_turns _ d.before.loop-x.x _ d.loop-x-test.true (cell_keeps _ _ _ v.ensures a.1) d.before.loop-x.invariant.0 (v.ensures
+          ∙ ap (fold _ _) c.before.before.before.before.stretch-part.ensures),
       omega arith,
     )
 
-loop-again : tie.Need-loop-preserved invariant-loop2 decreases-loop2 invariant-loop decreases-loop
+loop-again : tie.Need-loop-y-preserved invariant-loop2 decreases-loop2 invariant-loop decreases-loop
 loop-again c =
-    let l = c.before.loop2.invariant.0 in (
-      ring_turns _ c.before.before.before.loop.y _ c.before.before.loop-test.true l.kept c.before.before.before.loop.invariant.0
-          (ring_ends _ c.before.loop2.x _ (omega arith) l),
+    let l = c.before.loop-x.invariant.0 in (
+      ring_turns _ c.before.before.before.loop-y.y _ c.before.before.loop-y-test.true l.kept c.before.before.before.loop-y.invariant.0
+          (ring_ends _ c.before.loop-x.x _ (omega arith) l),
       omega arith,
     )
 
-same_length : tie.Need-same-length invariant-loop2 decreases-loop2 invariant-loop decreases-loop
-same_length c = c.before.loop.invariant.0.kept.size
+same_length : tie.Need-shape_of-marks invariant-loop2 decreases-loop2 invariant-loop decreases-loop
+same_length c = c.before.loop-y.invariant.0.kept.size
 
 returns : tie.Need-returns invariant-loop2 decreases-loop2 invariant-loop decreases-loop
-returns c = ring_ends _ c.before.loop.y _ (omega arith) c.before.loop.invariant.0
+returns c = ring_ends _ c.before.loop-y.y _ (omega arith) c.before.loop-y.invariant.0
 
-pub visit-spec : {M : Type 1} → statement M
-visit-spec =
+pub visit_spec : {M : Type 1} → statement M
+visit_spec =
     tie.close
     (tie.spec invariant-loop2 decreases-loop2 invariant-loop decreases-loop loop-holds loop2-holds
     (λ c. record { fits = omega (arith, cell_fits c, c.before.before.before.before.before.before.before.before.before.before) })
@@ -99,5 +99,5 @@ visit-spec =
         c.before.before.before.before.before.before.before.before.before.before.before.before.before.before.before,
       );
     })
-    (λ c. omega (arith, c.before.before.before.before.before.loop2-test.true)) loop2-again
+    (λ c. omega (arith, c.before.before.before.before.before.loop-x-test.true)) loop2-again
     (λ c. omega (arith, c.before.before.before.before.before.before.before.before.before.before)) (λ c. omega arith) loop-again same_length returns)

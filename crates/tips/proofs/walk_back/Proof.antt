@@ -13,14 +13,14 @@ visit-requires-2 : tie.Need-visit-requires-2
 visit-requires-2 c κs =
     visits _ _ _ _ _ _ _ (tables_again _ _ _ _ _ _ _
     c.before.before.before.before.before.before.before.before.before.before.before.before.before.before.requires _
-    (left_besides _ _ _ _ _ _ _ c.before.before.before.before.visit.ensures).size) _ _ _ c.begun2.ensures
+    (left_besides _ _ _ _ _ _ _ c.before.before.before.before.visit.ensures).size) _ _ _ c.begun-2.ensures
 
 returns : tie.Need-returns
 unfolding shape_step
 returns c m fresh besides =
-    walks_again _ _ c.before.before.before.before.before.before.before.before.before.before.other-than.ensures _ m fresh _ _ _ besides _ _
-    c.before.before.before.before.before.before.before.visit.ensures _ _ _ c.before.before.before.begun2.ensures _ _
-    c.before.before.visit2.ensures
+    walks_again _ _ c.before.before.before.before.before.before.before.before.before.before.other_than-aside.ensures _ m fresh _ _ _ besides _ _
+    c.before.before.before.before.before.before.before.visit.ensures _ _ _ c.before.before.before.begun-2.ensures _ _
+    c.before.before.visit-2.ensures
 
-pub walk-back-spec : {M : Type 1} → statement M
-walk-back-spec = tie.close (tie.spec (λ c κs. tt) (λ c κs. tt) visit-requires (λ c κs. tt) visit-requires-2 (λ c. search rules) returns)
+pub walk_back_spec : {M : Type 1} → statement M
+walk_back_spec = tie.close (tie.spec (λ c κs. tt) (λ c κs. tt) visit-requires (λ c κs. tt) visit-requires-2 (λ c. search rules) returns)

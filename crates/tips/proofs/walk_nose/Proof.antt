@@ -7,43 +7,43 @@ use Rattle.tips.proofs.Walking.{visits, tables_again, walks_again}
 use Rattle.tips.proofs.walk_nose.Statement.{statement}
 use Rattle.tips.proofs.walk_nose.Tie as tie
 
-visit-requires : tie.Need-visit-requires
+visit-requires : tie.Need-visit-s-requires
 visit-requires c κs = visits _ _ _ _ _ _ _
     c.before.before.before.before.before.before.before.before.before.before.requires.tables _ _ _ c.begun.ensures
 
-walk-from-requires : tie.Need-walk-from-requires
-walk-from-requires c κs =
+walk_from-requires : tie.Need-walk_from-requires
+walk_from-requires c κs =
     let s = c.before.before.before.before.before.before.before.before.before.before.before.before.before.before.before.before.before in
-    let v = c.before.before.before.before.before.before.visit in (
+    let v = c.before.before.before.before.before.before.visit-s in (
       record {
         tables = tables_again _ _ _ _ _ _ _ s.requires.tables _ (left_besides _ _ _ _ _ _ _ v.ensures).size;
-        fresh = left_fresh _ _ c.before.before.before.before.before.before.before.before.before.before.other-than.ensures _ _ s.requires.fresh _ _
+        fresh = left_fresh _ _ c.before.before.before.before.before.before.before.before.before.before.other_than-other.ensures _ _ s.requires.fresh _ _
             (besides_own _ _) _ _ v.ensures;
       },
-      bool_called _ _ _ c.before.before.may-begin.ensures c.before.if1.true,
+      bool_called _ _ _ c.before.before.may_begin.ensures c.before.if-may_begin.true,
     )
 
-returns : tie.Need-returns
+returns : tie.Need-returns-then-may_begin
 returns c =
-    walked_again _ _ c.before.before.before.before.before.before.before.before.before.before.before.before.before.other-than.ensures _ _
+    walked_again _ _ c.before.before.before.before.before.before.before.before.before.before.before.before.before.other_than-other.ensures _ _
     c.before.before.before.before.before.before.before.before.before.before.before.before.before.before.before.before.before.before.before.before.requires.fresh _ _ (besides_own _ _) _ _
-    c.before.before.before.before.before.before.before.before.before.visit.ensures _ _ _ c.before.before.walk_from.ensures
+    c.before.before.before.before.before.before.before.before.before.visit-s.ensures _ _ _ c.before.before.walk_from.ensures
 
-visit-requires-2 : tie.Need-visit-requires-2
+visit-requires-2 : tie.Need-visit-requires
 visit-requires-2 c κs =
     visits _ _ _ _ _ _ _ (tables_again _ _ _ _ _ _ _ c.before.before.before.before.before.before.before.before.before.before.before.before.before.before.before.before.before.before.requires.tables _
-    (left_besides _ _ _ _ _ _ _ c.before.before.before.before.before.before.before.visit.ensures).size) _ _ _ c.begun2.ensures
+    (left_besides _ _ _ _ _ _ _ c.before.before.before.before.before.before.before.visit-s.ensures).size) _ _ _ c.begun-2.ensures
 
-returns-2 : tie.Need-returns-2
+returns-2 : tie.Need-returns
 unfolding shape_step
 returns-2 c =
-    walks_again _ _ c.before.before.before.before.before.before.before.before.before.before.before.before.before.before.other-than.ensures _ _
+    walks_again _ _ c.before.before.before.before.before.before.before.before.before.before.before.before.before.before.other_than-other.ensures _ _
     c.before.before.before.before.before.before.before.before.before.before.before.before.before.before.before.before.before.before.before.before.before.requires.fresh _ _ _ (besides_own _ _) _ _
-    c.before.before.before.before.before.before.before.before.before.before.visit.ensures _ _ _
-    c.before.before.before.begun2.ensures _ _ c.before.before.visit2.ensures
+    c.before.before.before.before.before.before.before.before.before.before.visit-s.ensures _ _ _
+    c.before.before.before.begun-2.ensures _ _ c.before.before.visit.ensures
 
-pub walk-nose-spec : {M : Type 1} → statement M
-walk-nose-spec =
+pub walk_nose_spec : {M : Type 1} → statement M
+walk_nose_spec =
     tie.close
-    (tie.spec (λ c κs. tt) (λ c κs. tt) (λ c κs. tt) visit-requires (λ c κs. tt) walk-from-requires (λ c. search rules) returns (λ c κs. tt) visit-requires-2
+    (tie.spec (λ c κs. tt) (λ c κs. tt) (λ c κs. tt) visit-requires (λ c κs. tt) walk_from-requires (λ c. search rules) returns (λ c κs. tt) visit-requires-2
     (λ c. search rules) returns-2)

@@ -4,19 +4,19 @@ use Rattle.tool.specs.Tool.{is_tool}
 use Rattle.tool.proofs.is_tool.Statement.{statement}
 use Rattle.tool.proofs.is_tool.Tie as tie
 
-returns : tie.Need-returns
+returns : tie.Need-returns-then-few
 unfolding is_tool
-returns c = and_on _ _ _ (eq-eqb _ _ c.before.before.before.if1.true)
-    (and_on _ _ _ (bool_called _ _ _ c.before.before.few.ensures c.before.if2.true) c.all_valid.ensures)
+returns c = and_on _ _ _ (eq-eqb _ _ c.before.before.before.if-table-eq0.true)
+    (and_on _ _ _ (bool_called _ _ _ c.before.before.few.ensures c.before.if-few.true) c.all_valid.ensures)
 
-returns-2 : tie.Need-returns-2
+returns-2 : tie.Need-returns-else-few
 unfolding is_tool
-returns-2 c = and_on _ _ _ (eq-eqb _ _ c.before.before.if1.true)
-    (and_off _ _ _ (bool_called _ _ _ c.before.few.ensures c.if2.false) c.if2.false)
+returns-2 c = and_on _ _ _ (eq-eqb _ _ c.before.before.if-table-eq0.true)
+    (and_off _ _ _ (bool_called _ _ _ c.before.few.ensures c.if-few.false) c.if-few.false)
 
-returns-3 : tie.Need-returns-3
+returns-3 : tie.Need-returns-else-table-eq0
 unfolding is_tool
-returns-3 c = and_off _ _ _ (ne_eqb _ _ c.if1.false) (ne_eqb _ _ c.if1.false)
+returns-3 c = and_off _ _ _ (ne_eqb _ _ c.if-table-eq0.false) (ne_eqb _ _ c.if-table-eq0.false)
 
-pub is-tool-spec : {M : Type 1} → statement M
-is-tool-spec = tie.close (tie.spec (λ c κs. tt) (λ c κs. tt) returns returns-2 returns-3)
+pub is_tool_spec : {M : Type 1} → statement M
+is_tool_spec = tie.close (tie.spec (λ c κs. tt) (λ c κs. tt) returns returns-2 returns-3)

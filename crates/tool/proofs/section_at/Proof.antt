@@ -8,6 +8,6 @@ returns : tie.Need-returns
 unfolding section_of
 returns c = refl
 
-pub section-at-spec : {M : Type 1} → statement M
-section-at-spec = tie.close (tie.spec (λ c. search rules) (λ c. search rules) (λ c. search rules) (λ c. search rules) (λ c. search rules) (λ c. search rules)
+pub section_at_spec : {M : Type 1} → statement M
+section_at_spec = tie.close (tie.spec (λ c. search rules) (λ c. search rules) (λ c. search rules) (λ c. search rules) (λ c. search rules) (λ c. search rules)
     (λ c. search rules) (λ c. search rules) (λ c. search rules) (λ c. search rules) (λ c. search rules) (λ c. search rules) returns)

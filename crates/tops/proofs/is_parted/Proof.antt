@@ -3,13 +3,13 @@ use Rattle.tops.specs.Inside.{is_parted}
 use Rattle.tops.proofs.is_parted.Statement.{statement}
 use Rattle.tops.proofs.is_parted.Tie as tie
 
-returns : tie.Need-returns
+returns : tie.Need-returns-then-top-from
 unfolding is_parted
 returns c = search branches
 
-returns-2 : tie.Need-returns-2
+returns-2 : tie.Need-returns-else-top-from
 unfolding is_parted
 returns-2 c = search branches
 
-pub is-parted-spec : {M : Type 1} → statement M
-is-parted-spec = tie.close (tie.spec (λ c κs. tt) (λ c κs. tt) returns returns-2)
+pub is_parted_spec : {M : Type 1} → statement M
+is_parted_spec = tie.close (tie.spec (λ c κs. tt) (λ c κs. tt) returns returns-2)

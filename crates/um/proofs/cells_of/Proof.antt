@@ -6,22 +6,22 @@ use Rattle.um.proofs.Gridding.{cells_are}
 use Rattle.um.proofs.cells_of.Statement.{statement}
 use Rattle.um.proofs.cells_of.Tie as tie
 
-stretch-of-requires : tie.Need-stretch-of-requires
-stretch-of-requires c κs =
+stretch_of-requires : tie.Need-stretch_of-x-requires
+stretch_of-requires c κs =
     let s = c.before in
-    let b = subst⁻¹ (λ (v : Box). Above s.args.g v) c.box_of.ensures.0 s.requires.4 in
+    let b = subst⁻¹ (λ (v : Box). Above s.args.g v) c.box_of-b.ensures.0 s.requires.4 in
     (b.left, b.right, s.requires.3, s.requires.1)
 
-stretch-of-requires-2 : tie.Need-stretch-of-requires-2
-stretch-of-requires-2 c κs =
+stretch_of-requires-2 : tie.Need-stretch_of-y-requires
+stretch_of-requires-2 c κs =
     let s = c.before.before in
-    let b = subst⁻¹ (λ (v : Box). Above s.args.g v) c.before.box_of.ensures.0 s.requires.4 in
+    let b = subst⁻¹ (λ (v : Box). Above s.args.g v) c.before.box_of-b.ensures.0 s.requires.4 in
     (b.bottom, b.top, s.requires.3, s.requires.2)
 
 returns : tie.Need-returns
-returns c = cells_are _ _ _ _ _ _ c.before.before.box_of.ensures.0 c.before.stretch-of.ensures c.stretch-of2.ensures
+returns c = cells_are _ _ _ _ _ _ c.before.before.box_of-b.ensures.0 c.before.stretch_of-x.ensures c.stretch_of-y.ensures
 
-pub cells-of-spec : {M : Type 1} → statement M
-cells-of-spec =
+pub cells_of_spec : {M : Type 1} → statement M
+cells_of_spec =
     tie.close
-    (tie.spec (λ c κs. search rules) stretch-of-requires stretch-of-requires-2 returns)
+    (tie.spec (λ c κs. search rules) stretch_of-requires stretch_of-requires-2 returns)

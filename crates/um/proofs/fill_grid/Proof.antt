@@ -8,12 +8,12 @@ use Rattle.um.proofs.Accepting.{filled_refused, filled_accepted}
 use Rattle.um.proofs.fill_grid.Statement.{statement}
 use Rattle.um.proofs.fill_grid.Tie as tie
 
-returns : tie.Need-returns
+returns : tie.Need-returns-then-k-ne0
 returns c =
     let q = c.before.before in
     let t = q.before in
     let s = t.before.before.before in
-    filled_refused _ _ _ _ _ _ _ s.requires.0 _ _ t.total.ensures q.refusal-of-members.ensures _ c.refused.ensures c.before.if1.true
+    filled_refused _ _ _ _ _ _ _ s.requires.0 _ _ t.total.ensures q.refusal_of_members-k.ensures _ c.refused.ensures c.before.if-k-ne0.true
 
 tables-requires : tie.Need-tables-requires
 tables-requires c κs =
@@ -21,20 +21,20 @@ tables-requires c κs =
     let q = e.before in
     let t = q.before in
     let s = t.before.before.before in
-    let m = members_fit _ _ (sym q.refusal-of-members.ensures ∙ e.if1.false) in
+    let m = members_fit _ _ (sym q.refusal_of_members-k.ensures ∙ e.if-k-ne0.false) in
     (s.requires.0, fits _ _ _ s.requires.0 _ _ s.requires.1 (omega (arith, m, t.total.ensures)) (omega (arith, m, t.total.ensures)))
 
-returns-2 : tie.Need-returns-2
+returns-2 : tie.Need-returns
 returns-2 c =
     let d = c.before.before.before.before in
     let e = d.before.before.before in
     let q = e.before in
     let t = q.before in
     let s = t.before.before.before in
-    filled_accepted _ _ _ _ _ _ _ s.requires.0 _ _ t.total.ensures q.refusal-of-members.ensures _ _ e.if1.false
+    filled_accepted _ _ _ _ _ _ _ s.requires.0 _ _ t.total.ensures q.refusal_of_members-k.ensures _ _ e.if-k-ne0.false
     d.tables.ensures.0 d.tables.ensures.1
 
-pub fill-grid-spec : {M : Type 1} → statement M
-fill-grid-spec =
+pub fill_grid_spec : {M : Type 1} → statement M
+fill_grid_spec =
     tie.close
     (tie.spec (λ c κs. search rules) (λ c κs. tt) (λ c κs. tt) returns tables-requires (λ c. search rules) (λ c. search rules) returns-2)

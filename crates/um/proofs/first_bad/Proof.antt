@@ -12,38 +12,38 @@ use Rattle.um.proofs.Places.{found_stops, found_goes, found_ends}
 use Rattle.um.proofs.first_bad.Statement.{statement}
 use Rattle.um.proofs.first_bad.Tie as tie
 
-abbrev invariant-loop : tie.invariant-loop
+abbrev invariant-loop : tie.invariant-loop-k
 invariant-loop mesh k₀ k-end k =
     (first_where (λ j. not (is_coordinate (number_at mesh j))) k (k-end - k) ≡ first_bad mesh) × (k-end ≡ length mesh) × (k ≤ k-end)
 
-abbrev decreases-loop : tie.decreases-loop
+abbrev decreases-loop : tie.decreases-loop-k
 decreases-loop mesh k₀ k-end k = k-end - k
 
-loop-holds : tie.Need-loop-init invariant-loop decreases-loop
+loop-holds : tie.Need-loop-k-init invariant-loop decreases-loop
 unfolding first_bad
 loop-holds c = (rw sub-zero, search rules, search rules)
 
-returns : tie.Need-returns invariant-loop decreases-loop
+returns : tie.Need-returns-then-not-is_coordinate invariant-loop decreases-loop
 returns c =
     let d = c.before.before.before in
-    found_stops _ _ d.before.loop.k _ (omega arith)
-    (ap not (ap is_coordinate (sym c.before.before.number_at.ensures.0) ∙ sym c.before.is-coordinate.ensures) ∙ c.if1.true)
-    d.before.loop.invariant.0
+    found_stops _ _ d.before.loop-k.k _ (omega arith)
+    (ap not (ap is_coordinate (sym c.before.before.number_at.ensures.0) ∙ sym c.before.is_coordinate.ensures) ∙ c.if-not-is_coordinate.true)
+    d.before.loop-k.invariant.0
 
-loop-again : tie.Need-loop-preserved invariant-loop decreases-loop
+loop-again : tie.Need-loop-k-preserved invariant-loop decreases-loop
 loop-again c =
     let d = c.before.before.before in (
-      found_goes _ _ d.before.loop.k _ (omega arith)
-          (ap not (ap is_coordinate (sym c.before.before.number_at.ensures.0) ∙ sym c.before.is-coordinate.ensures) ∙ c.if1.false)
-          d.before.loop.invariant.0,
+      found_goes _ _ d.before.loop-k.k _ (omega arith)
+          (ap not (ap is_coordinate (sym c.before.before.number_at.ensures.0) ∙ sym c.before.is_coordinate.ensures) ∙ c.if-not-is_coordinate.false)
+          d.before.loop-k.invariant.0,
       omega arith,
       omega arith,
     )
 
-returns-2 : tie.Need-returns-2 invariant-loop decreases-loop
-returns-2 c = found_ends _ _ c.before.loop.k _ (omega arith) c.before.loop.invariant.0
+returns-2 : tie.Need-returns invariant-loop decreases-loop
+returns-2 c = found_ends _ _ c.before.loop-k.k _ (omega arith) c.before.loop-k.invariant.0
 
-pub first-bad-spec : {M : Type 1} → statement M
-first-bad-spec =
+pub first_bad_spec : {M : Type 1} → statement M
+first_bad_spec =
     tie.close
     (tie.spec invariant-loop decreases-loop loop-holds (λ c κs. omega arith) (λ c κs. tt) returns (λ c. omega arith) (λ c. omega arith) loop-again returns-2)

@@ -9,10 +9,10 @@ use Rattle.um.proofs.fits.Tie as tie
 
 returns : tie.Need-returns
 unfolding fits
-returns c = ap (λ (k : ℕ). eqb k 0) (c.refusal-of-grid.ensures ∙ ap₂ (λ (x y : ℕ). refusal_of_grid x y c.before.before.before.args.lent)
-    c.before.before.cells-along.ensures c.before.cells-along2.ensures)
+returns c = ap (λ (k : ℕ). eqb k 0) (c.refusal_of_grid.ensures ∙ ap₂ (λ (x y : ℕ). refusal_of_grid x y c.before.before.before.args.lent)
+    c.before.before.cells_along-columns.ensures c.before.cells_along-rows.ensures)
 
-pub fits-spec : {M : Type 1} → statement M
-fits-spec =
+pub fits_spec : {M : Type 1} → statement M
+fits_spec =
     tie.close
     (tie.spec (λ c κs. search rules) (λ c κs. search rules) (λ c κs. search rules) returns)

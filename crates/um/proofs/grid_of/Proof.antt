@@ -6,9 +6,9 @@ use Rattle.um.proofs.grid_of.Tie as tie
 
 returns : tie.Need-returns
 unfolding grid_of
-returns c = rw (c.before.cells-along.ensures, c.cells-along2.ensures) refl
+returns c = rw (c.before.cells_along-columns.ensures, c.cells_along-rows.ensures) refl
 
-pub grid-of-spec : {M : Type 1} → statement M
-grid-of-spec =
+pub grid_of_spec : {M : Type 1} → statement M
+grid_of_spec =
     tie.close
     (tie.spec (λ c κs. search rules) (λ c κs. search rules) returns)

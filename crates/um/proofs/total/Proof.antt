@@ -9,36 +9,36 @@ use Rattle.um.proofs.Gridding.{asked, fitting, total_more, total_none}
 use Rattle.um.proofs.total.Statement.{statement}
 use Rattle.um.proofs.total.Tie as tie
 
-abbrev invariant-loop : tie.invariant-loop
+abbrev invariant-loop : tie.invariant-loop-i
 invariant-loop mesh n g t₀ i₀ t i = (t ≡ total_of mesh g i) × (t ≤ i * 4294967296) × (i ≤ n)
 
-abbrev decreases-loop : tie.decreases-loop
+abbrev decreases-loop : tie.decreases-loop-i
 decreases-loop mesh n g t₀ i₀ t i = n - i
 
-cells-of-requires : tie.Need-cells-of-requires invariant-loop decreases-loop
-cells-of-requires c κs = asked _ _ _ c.before.before.requires _ (omega arith)
+cells_of-requires : tie.Need-cells_of-requires invariant-loop decreases-loop
+cells_of-requires c κs = asked _ _ _ c.before.before.requires _ (omega arith)
 
-area-requires : tie.Need-area-requires invariant-loop decreases-loop
+area-requires : tie.Need-area-t-requires invariant-loop decreases-loop
 area-requires c κs =
     let s = c.before.before.before in
-    let f = fitting _ s.args.g _ s.requires c.before.before.loop.i in
+    let f = fitting _ s.args.g _ s.requires c.before.before.loop-i.i in
     subst⁻¹ (λ (b : Cells). (b.right < 65536) × (b.top < 65536)) c.Cells-of.ensures (omega (arith, f))
 
-add-t : tie.Need-overflow-add-t invariant-loop decreases-loop
+add-t : tie.Need-overflow_add-t invariant-loop decreases-loop
 add-t c = omega (arith, c.before.before.before.before.requires.few)
 
-loop-again : tie.Need-loop-preserved invariant-loop decreases-loop
+loop-again : tie.Need-loop-i-preserved invariant-loop decreases-loop
 loop-again c =
-    let l = c.before.before.before.loop in
-    let a : c.area.result ≡ area_of (cells_of c.before.before.before.before.args.mesh.now c.before.before.before.before.args.g l.i) =
-    c.area.ensures.0 ∙ ap area_of c.before.Cells-of.ensures in
+    let l = c.before.before.before.loop-i in
+    let a : c.area-t.result ≡ area_of (cells_of c.before.before.before.before.args.mesh.now c.before.before.before.before.args.g l.i) =
+    c.area-t.ensures.0 ∙ ap area_of c.before.Cells-of.ensures in
     omega (arith, a, total_more c.before.before.before.before.args.mesh.now c.before.before.before.before.args.g l.i)
 
 returns : tie.Need-returns invariant-loop decreases-loop
-returns c = let l = c.before.loop in l.invariant.0 ∙ ap (total_of c.before.before.args.mesh.now c.before.before.args.g) (omega arith)
+returns c = let l = c.before.loop-i in l.invariant.0 ∙ ap (total_of c.before.before.args.mesh.now c.before.before.args.g) (omega arith)
 
-pub total-spec : {M : Type 1} → statement M
-total-spec =
+pub total_spec : {M : Type 1} → statement M
+total_spec =
     tie.close
-    (tie.spec invariant-loop decreases-loop (λ c. (total_none _ _, omega arith, omega arith)) cells-of-requires area-requires add-t (λ c. omega arith)
+    (tie.spec invariant-loop decreases-loop (λ c. (total_none _ _, omega arith, omega arith)) cells_of-requires area-requires add-t (λ c. omega arith)
     (λ c. omega arith) loop-again returns)

@@ -9,5 +9,5 @@ returns : tie.Need-returns
 unfolding asked_of
 returns c = c.float.ensures ∙ ap (of_bits binary64) c.before.number.ensures
 
-pub asked-spec : {M : Type 1} → statement M
-asked-spec = tie.close (tie.spec (λ c. search rules) (λ c. search rules) (λ c κs. search rules) (λ c κs. search rules) returns)
+pub asked_spec : {M : Type 1} → statement M
+asked_spec = tie.close (tie.spec (λ c. search rules) (λ c. search rules) (λ c κs. search rules) (λ c κs. search rules) returns)

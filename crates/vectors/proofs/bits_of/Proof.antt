@@ -10,8 +10,8 @@ of_nan : 9221120237041090560 ≡ to_bits binary64 nan
 unfolding to_bits
 of_nan = refl
 
-returns : tie.Need-returns
-returns c = of_nan ∙ ap (to_bits binary64) (sym (differs_from_itself c.before.args.x (rw c.if1.true tt)))
+returns : tie.Need-returns-then-x
+returns c = of_nan ∙ ap (to_bits binary64) (sym (differs_from_itself c.before.args.x (rw c.if-x.true tt)))
 
-pub bits-of-spec : {M : Type 1} → statement M
-bits-of-spec = tie.close (tie.spec returns (λ c. no_nan c.before.args.x c.if1.false) (λ c. refl))
+pub bits_of_spec : {M : Type 1} → statement M
+bits_of_spec = tie.close (tie.spec returns (λ c. no_nan c.before.args.x c.if-x.false) (λ c. refl))

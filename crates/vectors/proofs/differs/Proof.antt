@@ -5,28 +5,28 @@ use Rattle.vectors.specs.Lines.{differs_from}
 use Rattle.vectors.proofs.differs.Statement.{statement}
 use Rattle.vectors.proofs.differs.Tie as tie
 
-returns : tie.Need-returns
+returns : tie.Need-returns-in-Nothing
 unfolding differs_from
-returns c = rw (c.unlike.ensures, c.before.digit.ensures, c.before.before.before.enum_told.given.1)
+returns c = rw (c.unlike.ensures, c.before.digit.ensures, c.before.before.before.enum_told-1.given.1)
 
-returns-2 : tie.Need-returns-2
+returns-2 : tie.Need-returns-then-digit-eq1
 unfolding differs_from
 returns-2 c =
     let d = c.before.before.before.before in
-    let k = d.before.before.before.c.given.1 in
-    let t = eq-eqb _ _ c.before.before.before.if1.true in
-    rw (k, c.unlike2.ensures, c.before.number.ensures, c.before.before.bits_of.ensures, sym d.digit2.ensures, t)
+    let k = d.before.before.before.c-1.given.1 in
+    let t = eq-eqb _ _ c.before.before.before.if-digit-eq1.true in
+    rw (k, c.unlike-then-digit-eq1.ensures, c.before.number.ensures, c.before.before.bits_of.ensures, sym d.digit-in-Height.ensures, t)
 
-returns-3 : tie.Need-returns-3
+returns-3 : tie.Need-returns-else-digit-eq1
 unfolding differs_from
 returns-3 c =
     let d = c.before in
-    let k = d.before.before.before.c.given.1 in
-    let t = ne_eqb _ _ c.if1.false in
-    rw (k, sym d.digit2.ensures, t)
+    let k = d.before.before.before.c-1.given.1 in
+    let t = ne_eqb _ _ c.if-digit-eq1.false in
+    rw (k, sym d.digit-in-Height.ensures, t)
 
-pub differs-spec : {M : Type 1} → statement M
-differs-spec =
+pub differs_spec : {M : Type 1} → statement M
+differs_spec =
     tie.close
     (tie.spec (λ c. search rules) (λ c. search rules) (λ c κs. search rules) (λ c κs. search rules) (λ c. search rules)
     (λ c. search rules) (λ c κs. search rules) (λ c κs. search rules) (λ c κs. search rules) (λ c κs. search rules) returns returns-2 returns-3)

@@ -30,6 +30,6 @@ quotient : div binary64 (of_bits binary64 0) (of_bits binary64 0) ≡ nan
 unfolding div of_bits
 quotient = refl
 
-pub float-spec : {M : Type 1} → statement M
-float-spec = tie.close (tie.spec (λ c. quotient ∙ one_nan c.before.args.bits c.if1.true)
-    (λ c. no_nan c.before.args.bits c.if1.false) (λ c. refl))
+pub float_spec : {M : Type 1} → statement M
+float_spec = tie.close (tie.spec (λ c. quotient ∙ one_nan c.before.args.bits c.if-bits-gt9218868437227405312.true)
+    (λ c. no_nan c.before.args.bits c.if-bits-gt9218868437227405312.false) (λ c. refl))

@@ -3,11 +3,11 @@ use Rattle.vectors.specs.Lines.{heights_in}
 use Rattle.vectors.proofs.height.Statement.{statement}
 use Rattle.vectors.proofs.height.Tie as tie
 
-returns : tie.Need-returns
+returns : tie.Need-returns-in-Nothing
 unfolding heights_in
 returns c = search rules
 
-returns-2 : tie.Need-returns-2
+returns-2 : tie.Need-returns-in-Height
 unfolding heights_in
 returns-2 c = search rules
 

@@ -7,19 +7,19 @@ returns : tie.Need-returns
 unfolding triangle_of
 returns c =
     rw (
-      c.asked9.ensures,
-      c.before.asked8.ensures,
-      c.before.before.asked7.ensures,
-      c.before.before.before.asked6.ensures,
-      c.before.before.before.before.asked5.ensures,
-      c.before.before.before.before.before.asked4.ensures,
-      c.before.before.before.before.before.before.asked3.ensures,
-      c.before.before.before.before.before.before.before.asked2.ensures,
+      c.asked-9.ensures,
+      c.before.asked-8.ensures,
+      c.before.before.asked-7.ensures,
+      c.before.before.before.asked-6.ensures,
+      c.before.before.before.before.asked-5.ensures,
+      c.before.before.before.before.before.asked-4.ensures,
+      c.before.before.before.before.before.before.asked-3.ensures,
+      c.before.before.before.before.before.before.before.asked-2.ensures,
       c.before.before.before.before.before.before.before.before.asked.ensures,
     )
 
-pub triangle-spec : {M : Type 1} → statement M
-triangle-spec =
+pub triangle_spec : {M : Type 1} → statement M
+triangle_spec =
     tie.close
     (tie.spec (λ c κs. search rules) (λ c κs. search rules) (λ c κs. search rules) (λ c κs. search rules) (λ c κs. search rules)
     (λ c κs. search rules) (λ c κs. search rules) (λ c κs. search rules) (λ c κs. search rules) returns)

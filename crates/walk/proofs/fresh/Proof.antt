@@ -6,13 +6,13 @@ use Rattle.walk.proofs.Rings.{set_same}
 use Rattle.walk.proofs.fresh.Statement.{statement}
 use Rattle.walk.proofs.fresh.Tie as tie
 
-returns : tie.Need-returns
-returns c = (rw (eq-eqb _ _ c.if1.true), set_same _ _ _ c.if1.true)
+returns : tie.Need-returns-then-marks-i
+returns c = (rw (eq-eqb _ _ c.if-marks-i.true), set_same _ _ _ c.if-marks-i.true)
 
-returns-2 : tie.Need-returns-2
-returns-2 c = (rw (ne_eqb _ _ c.if1.false), refl)
+returns-2 : tie.Need-returns
+returns-2 c = (rw (ne_eqb _ _ c.if-marks-i.false), refl)
 
-pub fresh-spec : {M : Type 1} → statement M
-fresh-spec =
+pub fresh_spec : {M : Type 1} → statement M
+fresh_spec =
     tie.close
     (tie.spec (λ c. search rules) (λ c. search rules) returns (λ c. search rules) (λ c. search rules) (λ c. search rules) returns-2)

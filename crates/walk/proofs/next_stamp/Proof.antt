@@ -7,19 +7,19 @@ use Rattle.walk.proofs.next_stamp.Tie as tie
 wipe-requires : tie.Need-wipe-requires
 wipe-requires c κs = search rules
 
-same_length : tie.Need-same-length
+same_length : tie.Need-shape_of-marks-then-stamp-eq4294967295
 same_length c = search rules
 
-returns : tie.Need-returns
+returns : tie.Need-returns-then-stamp-eq4294967295
 unfolding next_stamp ready_marks
 returns c = (search flags, search flags)
 
-add-result : tie.Need-overflow-add-result
+add-result : tie.Need-overflow_add-result
 add-result c = search rules
 
-returns-2 : tie.Need-returns-2
+returns-2 : tie.Need-returns
 unfolding next_stamp ready_marks
 returns-2 c = (search flags, search flags)
 
-pub next-stamp-spec : {M : Type 1} → statement M
-next-stamp-spec = tie.close (tie.spec wipe-requires same_length returns add-result returns-2)
+pub next_stamp_spec : {M : Type 1} → statement M
+next_stamp_spec = tie.close (tie.spec wipe-requires same_length returns add-result returns-2)

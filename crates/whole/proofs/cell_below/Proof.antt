@@ -7,26 +7,26 @@ use Rattle.query.specs.Usable.{cell_usable}
 use Rattle.whole.proofs.cell_below.Statement.{statement}
 use Rattle.whole.proofs.cell_below.Tie as tie
 
-cast-a : tie.Need-overflow-cast-a
-cast-a c = omega (arith, c.shared-slice-known3.given c.before.before.before.args.c)
+cast-a : tie.Need-overflow_cast-a
+cast-a c = omega (arith, c.shared_slice_known-3-1.given c.before.before.before.args.c)
 
-cast-e : tie.Need-overflow-cast-e
-cast-e c = omega (arith, c.shared-slice-known4.given (c.before.before.before.before.args.c + 1))
+cast-e : tie.Need-overflow_cast-e
+cast-e c = omega (arith, c.shared_slice_known-4-1.given (c.before.before.before.before.args.c + 1))
 
-returns : tie.Need-returns
+returns : tie.Need-returns-then-e-members
 unfolding cell_usable
 returns c = search branches
 
-returns-2 : tie.Need-returns-2
+returns-2 : tie.Need-returns-else-e-members
 unfolding cell_usable
 returns-2 c = search branches
 
-returns-3 : tie.Need-returns-3
+returns-3 : tie.Need-returns-else-a-e
 unfolding cell_usable
 returns-3 c = search branches
 
-pub cell-below-spec : {M : Type 1} → statement M
-cell-below-spec =
+pub cell_below_spec : {M : Type 1} → statement M
+cell_below_spec =
     tie.close
     (tie.spec (λ c. search rules) (λ c. search rules) cast-a (λ c. search rules) (λ c. search rules) (λ c. search rules) cast-e
     (λ c. search rules) (λ c. search rules) (λ c. search rules) (λ c κs. tt) returns returns-2 returns-3)

@@ -8,8 +8,8 @@ unfolding head_of digits
 returns c =
     let d = c.before.before in
     let e = d.before.before.before.before in
-    rw (d.put-u322.ensures, e.put-u32.ensures, e.before.before.before.before.put-mark.ensures)
+    rw (d.put_u32-2.ensures, e.put_u32.ensures, e.before.before.before.before.put_mark.ensures)
 
-pub put-head-spec : {M : Type 1} → statement M
-put-head-spec =
+pub put_head_spec : {M : Type 1} → statement M
+put_head_spec =
     tie.close (tie.spec (λ c κs. search rules) (λ c κs. search rules) (λ c κs. search rules) (λ c. search rules) returns)

@@ -10,8 +10,8 @@ returns : tie.Need-returns
 unfolding digits
 returns c = rw (add-one)
 
-pub put-u16-spec : {M : Type 1} → statement M
-put-u16-spec =
+pub put_u16_spec : {M : Type 1} → statement M
+put_u16_spec =
     tie.close
     (tie.spec
     (λ c. search rules)

@@ -6,10 +6,10 @@ use Rattle.writer.proofs.put_u32.Tie as tie
 returns : tie.Need-returns
 returns c =
     let d = c.before.before in
-    rw (d.put-u162.ensures, d.before.before.before.before.put-u16.ensures) (halves _ _ 2 2 _)
+    rw (d.put_u16-2.ensures, d.before.before.before.before.put_u16.ensures) (halves _ _ 2 2 _)
 
-pub put-u32-spec : {M : Type 1} → statement M
-put-u32-spec =
+pub put_u32_spec : {M : Type 1} → statement M
+put_u32_spec =
     tie.close
     (tie.spec
     (λ c. search rules)

@@ -6,10 +6,10 @@ use Rattle.writer.proofs.put_u64.Tie as tie
 returns : tie.Need-returns
 returns c =
     let d = c.before.before in
-    rw (d.put-u322.ensures, d.before.before.before.before.put-u32.ensures) (halves _ _ 4 4 _)
+    rw (d.put_u32-2.ensures, d.before.before.before.before.put_u32.ensures) (halves _ _ 4 4 _)
 
-pub put-u64-spec : {M : Type 1} → statement M
-put-u64-spec =
+pub put_u64_spec : {M : Type 1} → statement M
+put_u64_spec =
     tie.close
     (tie.spec
     (λ c. search rules)

@@ -4,17 +4,17 @@ use Rattle.rules.proofs.Ladder.{ladder}
 use Rattle.writer.proofs.refusal_of_counts.Statement.{statement}
 use Rattle.writer.proofs.refusal_of_counts.Tie as tie
 
-returns : tie.Need-returns
+returns : tie.Need-returns-then-mesh-eq0
 unfolding refusal_of_counts
 returns c = search ladder depth 12
 
-returns-2 : tie.Need-returns-2
+returns-2 : tie.Need-returns-then-questions-gt-MOST
 unfolding refusal_of_counts
 returns-2 c = search ladder depth 12
 
-returns-3 : tie.Need-returns-3
+returns-3 : tie.Need-returns
 unfolding refusal_of_counts
 returns-3 c = search ladder depth 12
 
-pub refusal-of-counts-spec : {M : Type 1} → statement M
-refusal-of-counts-spec = tie.close (tie.spec returns returns-2 (λ c κs. search rules) returns-3)
+pub refusal_of_counts_spec : {M : Type 1} → statement M
+refusal_of_counts_spec = tie.close (tie.spec returns returns-2 (λ c κs. search rules) returns-3)

@@ -6,5 +6,5 @@ use Rattle.writer.proofs.size.Tie as tie
 returns : tie.Need-returns
 returns c = omega arith
 
-pub size-spec : {M : Type 1} → statement M
-size-spec = tie.close (tie.spec (λ c. search rules) (λ c. search rules) (λ c. search rules) (λ c. search rules) (λ c. search rules) (λ c. search rules) returns)
+pub size_spec : {M : Type 1} → statement M
+size_spec = tie.close (tie.spec (λ c. search rules) (λ c. search rules) (λ c. search rules) (λ c. search rules) (λ c. search rules) (λ c. search rules) returns)

@@ -4,13 +4,13 @@ use Rattle.bull.specs.Inside.{over_of}
 use Rattle.bull.proofs.cap.over.Statement.{statement}
 use Rattle.bull.proofs.cap.over.Tie as tie
 
-returns : tie.Need-returns
+returns : tie.Need-returns-then-d-r
 unfolding over_of
-returns c = taken _ _ _ _ c.if1.true refl
+returns c = taken _ _ _ _ c.if-d-r.true refl
 
-returns-2 : tie.Need-returns-2
+returns-2 : tie.Need-returns
 unfolding over_of
-returns-2 c = left _ _ _ _ c.before.if1.false (rw c.bull-profile.ensures)
+returns-2 c = left _ _ _ _ c.before.if-d-r.false (rw c.bull_profile.ensures)
 
-pub over-spec : {M : Type 1} → statement M
-over-spec = tie.close (tie.spec returns (λ c κs. tt) returns-2)
+pub over_spec : {M : Type 1} → statement M
+over_spec = tie.close (tie.spec returns (λ c κs. tt) returns-2)

@@ -3,5 +3,5 @@ use Rattle.numbers.proofs.Computed.{worked}
 use Rattle.numbers.proofs.laws.worked_examples.Statement.{statement}
 use Rattle.numbers.proofs.laws.worked_examples.Tie as tie
 
-pub worked-examples-spec : {M : Type 1} → statement M
-worked-examples-spec = tie.close (tie.spec (λ c. (refl, worked)))
+pub worked_examples_spec : {M : Type 1} → statement M
+worked_examples_spec = tie.close (tie.spec (λ c. (refl, worked)))

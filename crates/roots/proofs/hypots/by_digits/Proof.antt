@@ -36,32 +36,32 @@ beside a b e h =
     weak : (q : ℕ) → q < 2 ^ 53 → q ≤ 2 ^ 53
     weak q h = omega arith
 
-float-from-bits-result : tie.Need-float-from-bits-result
-float-from-bits-result c = let s = c.before.before in (beside s.args.a s.args.b c.if2.true c.before.if1.false).1
+float_from_bits-result : tie.Need-float_from_bits-result
+float_from_bits-result c = let s = c.before.before in (beside s.args.a s.args.b c.if-b-eq0.true c.before.if-a-ge-INFINITE.false).1
 
-returns-2 : tie.Need-returns-2
-returns-2 c = let s = c.before.before in (beside s.args.a s.args.b c.if2.true c.before.if1.false).0
+returns-2 : tie.Need-returns-then-b-eq0
+returns-2 c = let s = c.before.before in (beside s.args.a s.args.b c.if-b-eq0.true c.before.if-a-ge-INFINITE.false).0
 
-float-from-bits-result-2 : tie.Need-float-from-bits-result-2
-float-from-bits-result-2 c =
+float_from_bits-result-2 : tie.Need-float_from_bits-result-then-p-q-ge27
+float_from_bits-result-2 c =
     let s = c.before.before.before.before.before in
-    (alone s.args.a s.args.b s.requires.0 c.before.before.before.before.if1.false
-    (far s.args.a s.args.b _ _ c.before.before.place.ensures c.before.place2.ensures c.if3.true)).1
+    (alone s.args.a s.args.b s.requires.0 c.before.before.before.before.if-a-ge-INFINITE.false
+    (far s.args.a s.args.b _ _ c.before.before.place-p.ensures c.before.place-q.ensures c.if-p-q-ge27.true)).1
 
-returns-3 : tie.Need-returns-3
+returns-3 : tie.Need-returns-then-p-q-ge27
 returns-3 c =
     let s = c.before.before.before.before.before in
-    (alone s.args.a s.args.b s.requires.0 c.before.before.before.before.if1.false
-    (far s.args.a s.args.b _ _ c.before.before.place.ensures c.before.place2.ensures c.if3.true)).0
+    (alone s.args.a s.args.b s.requires.0 c.before.before.before.before.if-a-ge-INFINITE.false
+    (far s.args.a s.args.b _ _ c.before.before.place-p.ensures c.before.place-q.ensures c.if-p-q-ge27.true)).0
 
-digits-requires : tie.Need-by-digits-requires
+digits-requires : tie.Need-by_digits-requires
 digits-requires c κs =
     let s = c.before.before.before.before.before in
     let a = s.args.a in
     let b = s.args.b in
-    let p = c.before.before.place.ensures in
-    let q = c.before.place2.ensures in
-    let h = c.before.before.before.before.if1.false in
+    let p = c.before.before.place-p.ensures in
+    let q = c.before.place-q.ensures in
+    let h = c.before.before.before.before.if-a-ge-INFINITE.false in
     let k = below a b s.requires.0 h in
     let A = sized a h in
     let B = sized b k in (
@@ -69,9 +69,9 @@ digits-requires c κs =
       subst (λ (z : ℕ). z < 2 ^ 53) (sym (digits a _ h p)) A.few,
       subst (λ (z : ℕ). z < 2 ^ 53) (sym (digits b _ k q)) B.few,
       subst (λ (z : ℕ). z ≤ 2045) (sym p) A.place,
-      less _ c.if3.false,
+      less _ c.if-p-q-ge27.false,
       under _ _,
-      subst (λ (z : ℕ). (c.before.before.place.result ≡ 0) ⊎ (2 ^ 52 ≤ z)) (sym (digits a _ h p))
+      subst (λ (z : ℕ). (c.before.before.place-p.result ≡ 0) ⊎ (2 ^ 52 ≤ z)) (sym (digits a _ h p))
           (subst (λ (z : ℕ). (z ≡ 0) ⊎ (2 ^ 52 ≤ digits_of a)) (sym p) A.enough),
     )
   where
@@ -81,14 +81,14 @@ digits-requires c κs =
     under : (p q : ℕ) → p - q ≤ p
     under p q = omega arith
 
-returns-4 : tie.Need-returns-4
+returns-4 : tie.Need-returns
 returns-4 c =
     let s = c.before.before.before.before.before.before in
     let a = s.args.a in
     let b = s.args.b in
-    let p = c.before.before.before.place.ensures in
-    let q = c.before.before.place2.ensures in
-    let h = c.before.before.before.before.before.if1.false in
+    let p = c.before.before.before.place-p.ensures in
+    let q = c.before.before.place-q.ensures in
+    let h = c.before.before.before.before.before.if-a-ge-INFINITE.false in
     let k = below a b s.requires.0 h in
     c.by_digits.ensures.0 refl
     ∙ same _ _ _ _ _ _ _ _ (digits a _ h p) (digits b _ k q) p (place a b _ _ s.requires.0 p q)
@@ -101,17 +101,17 @@ returns-4 c =
         → hypot_of_count (m * 2 ^ p * (m * 2 ^ p) + n * 2 ^ q * (n * 2 ^ q)) ≡ hypot_of_count (m' * 2 ^ p' * (m' * 2 ^ p') + n' * 2 ^ q' * (n' * 2 ^ q'))
     same m m' n n' p p' q q' a b c d = rw (a, b, c, d)
 
-pub by-digits-spec : {M : Type 1} → statement M
-by-digits-spec =
+pub by_digits_spec : {M : Type 1} → statement M
+by_digits_spec =
     tie.close
     (tie.spec
-    (λ c. infinity_is ∙ sizes_infinite c.before.args.a c.before.args.b c.if1.true)
-    float-from-bits-result
+    (λ c. infinity_is ∙ sizes_infinite c.before.args.a c.before.args.b c.if-a-ge-INFINITE.true)
+    float_from_bits-result
     returns-2
     (λ c κs. tt)
     (λ c κs. tt)
     (λ c. search rules)
-    float-from-bits-result-2
+    float_from_bits-result-2
     returns-3
     (λ c. search rules)
     (λ c. search rules)

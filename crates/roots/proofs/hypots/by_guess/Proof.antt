@@ -54,19 +54,19 @@ module _ (a b k i s t : ℕ) (A : 28 ≤ a / 2 ^ 52) (A' : a / 2 ^ 52 < 2046) (D
         r.1,
       )
 
-passed : (c : tie.Then1) → (of_bits binary64 ((place_of c.before.before.before.before.args.a + c.before.before.before.guessed.result.over) * 2
-    ^ 52 % 2 ^ 64 + c.before.before.checked.result) ≡ of_sizes c.before.before.before.before.args.a c.before.before.before.before.args.b)
-    × T (not (nan_bits binary64 ((place_of c.before.before.before.before.args.a + c.before.before.before.guessed.result.over) * 2 ^ 52 % 2 ^ 64
-    + c.before.before.checked.result)))
+passed : (c : tie.Then-wrapping_sub_u64) → (of_bits binary64 ((place_of c.before.before.before.before.args.a + c.before.before.before.guessed-g.result.over) * 2
+    ^ 52 % 2 ^ 64 + c.before.before.checked-s.result) ≡ of_sizes c.before.before.before.before.args.a c.before.before.before.before.args.b)
+    × T (not (nan_bits binary64 ((place_of c.before.before.before.before.args.a + c.before.before.before.guessed-g.result.over) * 2 ^ 52 % 2 ^ 64
+    + c.before.before.checked-s.result)))
 passed c =
     let s = c.before.before.before.before in
-    let g = c.before.before.before.guessed in
-    good s.args.a s.args.b s.args.k g.result.over c.before.before.checked.result c.before.wrapping-sub-u64.result s.requires.1
+    let g = c.before.before.before.guessed-g in
+    good s.args.a s.args.b s.args.k g.result.over c.before.before.checked-s.result c.before.wrapping_sub_u64.result s.requires.1
     s.requires.2 s.requires.3 s.requires.4 g.ensures.0
-    c.before.before.checked.ensures c.before.wrapping-sub-u64.ensures c.if1.true
+    c.before.before.checked-s.ensures c.before.wrapping_sub_u64.ensures c.if-wrapping_sub_u64.true
 
-pub by-guess-spec : {M : Type 1} → statement M
-by-guess-spec =
+pub by_guess_spec : {M : Type 1} → statement M
+by_guess_spec =
     tie.close
     (tie.spec
     (λ c κs. c.requires.5)
@@ -76,9 +76,9 @@ by-guess-spec =
       omega (arith, wide c.before.args.a),
       omega (arith, wide c.before.args.b),
       c.before.requires.4,
-      c.guessed.ensures.0,
-      c.guessed.ensures.1,
-      c.guessed.ensures.2,
+      c.guessed-g.ensures.0,
+      c.guessed-g.ensures.1,
+      c.guessed-g.ensures.2,
     ))
     (λ c. search rules)
     (λ c κs. tt)

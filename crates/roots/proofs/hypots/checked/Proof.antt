@@ -25,8 +25,8 @@ returns c =
     let a = c.before in
     checked_settle a.args.m a.args.n a.args.k a.args.i c.columns.result a.requires.1 a.requires.2 a.requires.3 c.columns.ensures
 
-pub checked-spec : {M : Type 1} → statement M
-checked-spec =
+pub checked_spec : {M : Type 1} → statement M
+checked_spec =
     tie.close
     (tie.spec
     (λ c. search rules)

@@ -24,13 +24,13 @@ no_nan w h = subst (λ (b : ℕ). T (not (nan_bits binary64 b))) (same w) (made_
     rest w = omega arith
 
 wide : (c : tie.Start) → to_bits binary64 c.args.z < 2 ^ 64
-wide c = to_bits-lt binary64 c.args.z (subst T (sym c.well-formed.0.1) tt)
+wide c = to_bits-lt binary64 c.args.z (subst T (sym c.well_formed.0.1) tt)
 
 most : (w : ℕ) → bit_and w 1 ≤ 1
 most w = let h = mask_lt w 1 in omega arith
 
-pub guessed-spec : {M : Type 1} → statement M
-guessed-spec =
+pub guessed_spec : {M : Type 1} → statement M
+guessed_spec =
     tie.close
     (tie.spec
     (λ c. c.requires)
@@ -41,4 +41,4 @@ guessed-spec =
     (λ c. omega (arith, wide c.before.before))
     (λ c κs. tt)
     (λ c κs. tt)
-    (λ c. (most c.before.wrapping-sub-u64.result, c.digits_of.ensures.0, c.digits_of.ensures.1)))
+    (λ c. (most c.before.wrapping_sub_u64.result, c.digits_of.ensures.0, c.digits_of.ensures.1)))

@@ -14,8 +14,8 @@ second k n h = omega arith
 low : (k : ℕ) → 1022 - k < 2 ^ 11 - 1
 low k = omega arith
 
-pub near-sum-spec : {M : Type 1} → statement M
-near-sum-spec =
+pub near_sum_spec : {M : Type 1} → statement M
+near_sum_spec =
     tie.close
     (tie.spec
     (λ c. search rules)
@@ -25,4 +25,4 @@ near-sum-spec =
     (λ c. subst (λ (b : ℕ). T (not (nan_bits binary64 b))) (second c.args.k c.args.n c.requires.2)
     (made_no_nan false (1022 - c.args.k) c.args.n (low c.args.k) c.requires.1))
     (λ c. unfold of_bits is_nan in tt)
-    (λ c. no_nan _ c.if1.false))
+    (λ c. no_nan _ c.if-z.false))

@@ -10,8 +10,8 @@ use Rattle.roots.proofs.hypots.of_sizes.Tie as tie
 ranged : (p t : ℕ) → p < 2 ^ 12 → (t + 28) % 2 ^ 64 ≡ p → t < 2018 → (28 ≤ p) × (p < 2046)
 ranged p t h e l = (omega arith, omega arith)
 
-field : (c : tie.Else1) → (28 ≤ c.before.before.args.a / 2 ^ 52) × (c.before.before.args.a / 2 ^ 52 < 2046)
-field c = ranged _ c.before.wrapping-sub-u64.result (small _ c.before.before.requires.1) c.before.wrapping-sub-u64.ensures c.if1.false
+field : (c : tie.Else-wrapping_sub_u64-ge2018) → (28 ≤ c.before.before.args.a / 2 ^ 52) × (c.before.before.args.a / 2 ^ 52 < 2046)
+field c = ranged _ c.before.wrapping_sub_u64.result (small _ c.before.before.requires.1) c.before.wrapping_sub_u64.ensures c.if-wrapping_sub_u64-ge2018.false
   where
     small : (a : ℕ) → a ≤ infinite_bits → a / 2 ^ 52 < 2 ^ 12
     small a h = omega arith
@@ -22,53 +22,53 @@ apart a b h k = omega arith
 below : (a : ℕ) → a / 2 ^ 52 < 2046 → a < infinite_bits
 below a h = omega arith
 
-float-from-bits-result : tie.Need-float-from-bits-result
-float-from-bits-result c =
+float_from_bits-result : tie.Need-float_from_bits-result
+float_from_bits-result c =
     let s = c.before.before.before in
     let f = field c.before in
-    (alone s.args.a s.args.b s.requires.0 (below s.args.a f.1) (apart s.args.a s.args.b f.0 c.if2.true)).1
+    (alone s.args.a s.args.b s.requires.0 (below s.args.a f.1) (apart s.args.a s.args.b f.0 c.if-k-ge27.true)).1
 
-returns-2 : tie.Need-returns-2
+returns-2 : tie.Need-returns-then-k-ge27
 returns-2 c =
     let s = c.before.before.before in
     let f = field c.before in
-    (alone s.args.a s.args.b s.requires.0 (below s.args.a f.1) (apart s.args.a s.args.b f.0 c.if2.true)).0
+    (alone s.args.a s.args.b s.requires.0 (below s.args.a f.1) (apart s.args.a s.args.b f.0 c.if-k-ge27.true)).0
 
 -- the exponents lie k apart
 apart_by : (a b : ℕ) → b ≤ a → b / 2 ^ 52 + (a / 2 ^ 52 - b / 2 ^ 52) ≡ a / 2 ^ 52
 apart_by a b h = omega arith
 
-near-sum-requires : tie.Need-near-sum-requires
-near-sum-requires c κs = let s = c.before.before.before.before.before in
-    (mask_lt s.args.a 52, mask_lt s.args.b 52, omega (arith, c.before.before.if2.false))
+near_sum-requires : tie.Need-near_sum-requires
+near_sum-requires c κs = let s = c.before.before.before.before.before in
+    (mask_lt s.args.a 52, mask_lt s.args.b 52, omega (arith, c.before.before.if-k-ge27.false))
 
-by-guess-requires : tie.Need-by-guess-requires
-by-guess-requires c κs =
+by_guess-requires : tie.Need-by_guess-requires
+by_guess-requires c κs =
     let k = c.before.before.before in
     let s = k.before.before.before in
     let f = field k.before in
-    (s.requires.0, f.0, f.1, apart_by s.args.a s.args.b s.requires.0, omega (arith, k.if2.false), c.near-sum.ensures)
+    (s.requires.0, f.0, f.1, apart_by s.args.a s.args.b s.requires.0, omega (arith, k.if-k-ge27.false), c.near_sum.ensures)
 
-by-guess2-requires : tie.Need-by-guess-requires-2
-by-guess2-requires c κs =
+by_guess2-requires : tie.Need-by_guess-requires-2
+by_guess2-requires c κs =
     let k = c.before.before in
     let s = k.before.before.before in
     let f = field k.before in
-    (s.requires.0, f.0, f.1, apart_by s.args.a s.args.b s.requires.0, omega (arith, k.if2.false), s.requires.2)
+    (s.requires.0, f.0, f.1, apart_by s.args.a s.args.b s.requires.0, omega (arith, k.if-k-ge27.false), s.requires.2)
 
-pub of-sizes-spec : {M : Type 1} → statement M
-of-sizes-spec =
+pub of_sizes_spec : {M : Type 1} → statement M
+of_sizes_spec =
     tie.close
     (tie.spec
     (λ c κs. tt)
     (λ c κs. search rules)
     (λ c. search rules)
     (λ c. search rules)
-    float-from-bits-result
+    float_from_bits-result
     returns-2
     (λ c κs. tt)
-    near-sum-requires
-    by-guess-requires
+    near_sum-requires
+    by_guess-requires
     (λ c. search rules)
-    by-guess2-requires
+    by_guess2-requires
     (λ c. search rules))

@@ -12,7 +12,7 @@ use Rattle.std.proofs.num.wrapping_sub_u64.Reads as wrapping-sub-u64-reads
 small : (c : tie.Start) → Parts c.args.s (bit_and c.args.s (2 ^ 26 - 1))
 small c = parts c.args.s (bit_and c.args.s (2 ^ 26 - 1)) (and_mask c.args.s 26) c.requires.4
 
-returns-4 : tie.Need-returns-4
+returns-4 : tie.Need-returns
 returns-4 c =
     let w = c.before.before in
     let e = w.before.before in
@@ -21,17 +21,17 @@ returns-4 c =
     let h = d.before.before in
     let s = h.before in
     inr
-    (settles s.args.c2 s.args.c1 s.args.c0 s.args.s (bit_and s.args.s (2 ^ 26 - 1)) h.wrapping-sub-u64.result
-    d.wrapping-sub-u642.result u.wrapping-sub-u643.result e.steps.result.count w.wrapping-sub-u644.result
+    (settles s.args.c2 s.args.c1 s.args.c0 s.args.s (bit_and s.args.s (2 ^ 26 - 1)) h.wrapping_sub_u64-high.result
+    d.wrapping_sub_u64-d.result u.wrapping_sub_u64-u.result e.steps-e.result.count w.wrapping_sub_u64.result
     (small s) s.requires.3 s.requires.4
-    h.wrapping-sub-u64.ensures d.before.if1.false
-    d.wrapping-sub-u642.ensures u.before.if2.false
-    u.wrapping-sub-u643.ensures
-    e.steps.ensures.0 (subst (λ (z : ℕ). z ≤ u.wrapping-sub-u643.result) e.steps.ensures.1 e.steps.ensures.2)
-    (w.wrapping-sub-u644.ensures ∙ ap (λ (z : ℕ). u.wrapping-sub-u643.result - z) e.steps.ensures.1) c.before.if3.false)
+    h.wrapping_sub_u64-high.ensures d.before.if-high-ge2147483648.false
+    d.wrapping_sub_u64-d.ensures u.before.if-d-ge4294967296.false
+    u.wrapping_sub_u64-u.ensures
+    e.steps-e.ensures.0 (subst (λ (z : ℕ). z ≤ u.wrapping_sub_u64-u.result) e.steps-e.ensures.1 e.steps-e.ensures.2)
+    (w.wrapping_sub_u64.ensures ∙ ap (λ (z : ℕ). u.wrapping_sub_u64-u.result - z) e.steps-e.ensures.1) c.before.if-wrapping_sub_u64-s.false)
 
-pub settled-spec : {M : Type 1} → statement M
-settled-spec =
+pub settled_spec : {M : Type 1} → statement M
+settled_spec =
     tie.close
     (tie.spec
     (λ c. omega (arith, mask_lt c.args.s 26))

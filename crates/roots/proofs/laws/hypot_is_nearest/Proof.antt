@@ -10,8 +10,8 @@ returns c =
     let a = c.before in (
       c.hypot.ensures,
       λ p q. subst (λ (r : Float). HypotBetween a.args.x a.args.y r) (sym c.hypot.ensures)
-          (hypot_between a.args.x a.args.y (subst T (sym a.well-formed.0.1) tt) (subst T (sym a.well-formed.1.0.1) tt) p q),
+          (hypot_between a.args.x a.args.y (subst T (sym a.well_formed.0.1) tt) (subst T (sym a.well_formed.1.0.1) tt) p q),
     )
 
-pub hypot-is-nearest-spec : {M : Type 1} → statement M
-hypot-is-nearest-spec = tie.close (tie.spec (λ c κs. tt) returns)
+pub hypot_is_nearest_spec : {M : Type 1} → statement M
+hypot_is_nearest_spec = tie.close (tie.spec (λ c κs. tt) returns)

@@ -9,8 +9,8 @@ returns : tie.Need-returns
 returns c = (
   c.root.ensures,
   λ p. subst (λ (r : Float). RootBetween c.before.args.x r) (sym c.root.ensures)
-      (root_nearest c.before.args.x (subst T (sym c.before.well-formed.0.1) tt) p),
+      (root_nearest c.before.args.x (subst T (sym c.before.well_formed.0.1) tt) p),
 )
 
-pub root-is-nearest-spec : {M : Type 1} → statement M
-root-is-nearest-spec = tie.close (tie.spec (λ c κs. tt) returns)
+pub root_is_nearest_spec : {M : Type 1} → statement M
+root_is_nearest_spec = tie.close (tie.spec (λ c κs. tt) returns)

@@ -8,12 +8,12 @@ use Rattle.roots.proofs.laws.roots_in_order.Tie as tie
 returns : tie.Need-returns
 returns c =
     let a = c.before.before in (
-      rw (c.before.root.ensures, c.root2.ensures),
+      rw (c.before.root.ensures, c.root-2.ensures),
       λ p q h.
-          subst (λ (r : Float). T (le r c.root2.result)) (sym c.before.root.ensures)
-          (subst (λ (r : Float). T (le (root_of a.args.x) r)) (sym c.root2.ensures)
-          (root_mono a.args.x a.args.y (subst T (sym a.well-formed.0.1) tt) (subst T (sym a.well-formed.1.0.1) tt) p q h)),
+          subst (λ (r : Float). T (le r c.root-2.result)) (sym c.before.root.ensures)
+          (subst (λ (r : Float). T (le (root_of a.args.x) r)) (sym c.root-2.ensures)
+          (root_mono a.args.x a.args.y (subst T (sym a.well_formed.0.1) tt) (subst T (sym a.well_formed.1.0.1) tt) p q h)),
     )
 
-pub roots-in-order-spec : {M : Type 1} → statement M
-roots-in-order-spec = tie.close (tie.spec (λ c κs. tt) (λ c κs. tt) returns)
+pub roots_in_order_spec : {M : Type 1} → statement M
+roots_in_order_spec = tie.close (tie.spec (λ c κs. tt) (λ c κs. tt) returns)

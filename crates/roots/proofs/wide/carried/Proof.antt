@@ -6,5 +6,5 @@ use Rattle.roots.proofs.wide.carried.Tie as tie
 returns : tie.Need-returns
 returns c = (mask_lt c.args.lo 55, omega (arith, and_mask c.args.lo 55))
 
-pub carried-spec : {M : Type 1} → statement M
-carried-spec = tie.close (tie.spec (λ c. search rules) returns)
+pub carried_spec : {M : Type 1} → statement M
+carried_spec = tie.close (tie.spec (λ c. search rules) returns)

@@ -24,8 +24,8 @@ returns c =
     top : (h l xx : ℕ) → h * 2 ^ 55 + l ≡ 8 * xx → xx < 2 ^ 106 → h < 2 ^ 54
     top h l xx e k = omega arith
 
-pub eight-squares-spec : {M : Type 1} → statement M
-eight-squares-spec =
+pub eight_squares_spec : {M : Type 1} → statement M
+eight_squares_spec =
     tie.close
     (tie.spec
     (λ c. omega (arith, (parts c).cross))

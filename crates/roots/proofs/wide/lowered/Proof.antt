@@ -4,24 +4,24 @@ use Rattle.roots.proofs.Lowering.{raw_lt, one_pos, odd_lt, lowered_exact, lowere
 use Rattle.roots.proofs.wide.lowered.Statement.{statement}
 use Rattle.roots.proofs.wide.lowered.Tie as tie
 
-returns : tie.Need-returns
+returns : tie.Need-returns-then-lo-c-eq0
 returns c =
     let a = c.before in (
       refl,
       raw_lt a.args.v.hi a.args.v.lo a.args.c a.requires.0 a.requires.1 a.requires.2,
-      lowered_exact a.args.v.hi a.args.v.lo a.args.c a.requires.0 a.requires.1 a.requires.2 c.if1.true,
+      lowered_exact a.args.v.hi a.args.v.lo a.args.c a.requires.0 a.requires.1 a.requires.2 c.if-lo-c-eq0.true,
     )
 
-returns-2 : tie.Need-returns-2
+returns-2 : tie.Need-returns
 returns-2 c =
     let a = c.before in (
       refl,
       odd_lt a.args.v.hi a.args.v.lo a.args.c a.requires.0 a.requires.1 a.requires.2,
-      lowered_odd a.args.v.hi a.args.v.lo a.args.c a.requires.0 a.requires.1 a.requires.2 c.if1.false,
+      lowered_odd a.args.v.hi a.args.v.lo a.args.c a.requires.0 a.requires.1 a.requires.2 c.if-lo-c-eq0.false,
     )
 
-pub lowered-spec : {M : Type 1} → statement M
-lowered-spec =
+pub lowered_spec : {M : Type 1} → statement M
+lowered_spec =
     tie.close
     (tie.spec
     (λ c. search rules)

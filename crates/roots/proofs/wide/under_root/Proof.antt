@@ -3,8 +3,8 @@ use Rattle.std.proofs.Common.{◌≡◌, ℕ, ◌+◌, ◌*◌, ◌^◌, ◌<◌
 use Rattle.roots.proofs.wide.under_root.Statement.{statement}
 use Rattle.roots.proofs.wide.under_root.Tie as tie
 
-returns : tie.Need-returns
-returns c = let w = c.before.args.w in (wider w c.before.requires.0, lit< tt, ((λ e. absurd (c.if1.true e)), (λ z. eight w)))
+returns : tie.Need-returns-then-w-ne0
+returns c = let w = c.before.args.w in (wider w c.before.requires.0, lit< tt, ((λ e. absurd (c.if-w-ne0.true e)), (λ z. eight w)))
   where
     wider : (w : ℕ) → w < 2 ^ 54 → w < 2 ^ 55
     wider w h = omega arith
@@ -12,11 +12,11 @@ returns c = let w = c.before.args.w in (wider w c.before.requires.0, lit< tt, ((
     eight : (w : ℕ) → w * 2 ^ 55 + 0 ≡ 8 * (w * 2 ^ 52)
     eight w = omega arith
 
-returns-2 : tie.Need-returns-2
-returns-2 c = let r = c.sum.ensures in (r.0, r.1, ((λ e. r.2), (λ z. absurd (none _ c.before.if1.false z))))
+returns-2 : tie.Need-returns
+returns-2 c = let r = c.sum.ensures in (r.0, r.1, ((λ e. r.2), (λ z. absurd (none _ c.before.if-w-ne0.false z))))
   where
     none : (w : ℕ) → w ≡ 0 → 0 < w → ⊥
     none w e h = omega arith
 
-pub under-root-spec : {M : Type 1} → statement M
-under-root-spec = tie.close (tie.spec returns (λ c κs. (c.before.requires.1, c.before.requires.2, c.before.requires.3)) returns-2)
+pub under_root_spec : {M : Type 1} → statement M
+under_root_spec = tie.close (tie.spec returns (λ c κs. (c.before.requires.1, c.before.requires.2, c.before.requires.3)) returns-2)

@@ -3,13 +3,13 @@ use Rattle.section.specs.Inside.{goes_of}
 use Rattle.section.proofs.slide.goes.Statement.{statement}
 use Rattle.section.proofs.slide.goes.Tie as tie
 
-returns : tie.Need-returns
+returns : tie.Need-returns-then-left
 unfolding goes_of
 returns c = search branches
 
-returns-2 : tie.Need-returns-2
+returns-2 : tie.Need-returns
 unfolding goes_of
 returns-2 c = search branches
 
-pub goes-spec : {M : Type 1} → statement M
-goes-spec = tie.close (tie.spec returns returns-2)
+pub goes_spec : {M : Type 1} → statement M
+goes_spec = tie.close (tie.spec returns returns-2)

@@ -6,5 +6,5 @@ use Rattle.section.proofs.slide.over.Tie as tie
 returns : tie.Need-returns
 returns c = c.over.ensures ∙ ap (over_of _ _) c.before.min.ensures
 
-pub over-spec : {M : Type 1} → statement M
-over-spec = tie.close (tie.spec (λ c κs. tt) (λ c κs. tt) returns)
+pub over_spec : {M : Type 1} → statement M
+over_spec = tie.close (tie.spec (λ c κs. tt) (λ c κs. tt) returns)

@@ -6,25 +6,25 @@ use Rattle.setup.proofs.Heads.{few_cells}
 use Rattle.setup.proofs.usable.counts_in.Statement.{statement}
 use Rattle.setup.proofs.usable.counts_in.Tie as tie
 
-mul-is-from : tie.Need-overflow-mul-is-from
-mul-is-from c = omega (
+mul-is_from : tie.Need-overflow_mul-rows
+mul-is_from c = omega (
   arith,
-  few_cells _ _ (sym c.before.before.before.is-from.ensures ∙ c.before.before.if1.true) (sym c.before.is-from2.ensures ∙ c.if2.true),
+  few_cells _ _ (sym c.before.before.before.is_from.ensures ∙ c.before.before.if-is_from.true) (sym c.before.is_from-then-is_from.ensures ∙ c.if-is_from-2.true),
 )
 
-returns : tie.Need-returns
+returns : tie.Need-returns-then-is_from-2
 unfolding counts_in
 returns c = search (branches, bool_called)
 
-returns-2 : tie.Need-returns-2
+returns-2 : tie.Need-returns-else-is_from-2
 unfolding counts_in
 returns-2 c = search (branches, bool_called)
 
-returns-3 : tie.Need-returns-3
+returns-3 : tie.Need-returns-else-is_from
 unfolding counts_in
 returns-3 c = search (branches, bool_called)
 
-pub counts-in-spec : {M : Type 1} → statement M
-counts-in-spec =
+pub counts_in_spec : {M : Type 1} → statement M
+counts_in_spec =
     tie.close
-    (tie.spec (λ c κs. tt) (λ c κs. tt) mul-is-from (λ c κs. tt) returns returns-2 returns-3)
+    (tie.spec (λ c κs. tt) (λ c κs. tt) mul-is_from (λ c κs. tt) returns returns-2 returns-3)
