@@ -42,6 +42,7 @@ module _ (f : ℕ → Float) where
 
   pub passed : (k c : ℕ) → somewhere (first_bad f k c) ≡ false → (i : ℕ) → i < c → finite (f (k + i)) ≡ true
   unfolding first_bad
+  passed k zero e i h = elim h [ ]
   passed k (suc c) e zero h = rw add-zero (found_is _ k _ e).0
   passed k (suc c) e (suc i) h =
       let s : k + suc i ≡ k + 1 + i = omega arith in

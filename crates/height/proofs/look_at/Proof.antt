@@ -6,18 +6,18 @@ use Rattle.height.proofs.look_at.Tie as tie
 returns : tie.Need-returns-then-not-fresh
 returns c =
     let f = c.before.before.before.fresh in
-    fresh_again _ _ _ _ _ _ f.ensures.0 f.ensures.1 c.if-not-fresh.true
+    fresh_again _ _ _ _ _ _ f.ensures.0 f.ensures.1 c.if-not-fresh.true-raw
 
 add-count : tie.Need-overflow_add-result
 add-count c =
     let f = c.before.before.before.fresh in
     let s = c.before.before.before.before.before.before.before.before.before in
-    record { fits = fresh_room _ _ _ _ _ f.ensures.0 c.if-not-fresh.false s.requires.1 s.requires.2 }
+    record { fits = fresh_room _ _ _ _ _ f.ensures.0 c.if-not-fresh.false-raw s.requires.1 s.requires.2 }
 
 returns-2 : tie.Need-returns
 returns-2 c =
     let f = c.before.before.before.before.fresh in
-    fresh_first _ _ _ _ _ _ f.ensures.0 f.ensures.1 c.before.if-not-fresh.false _ c.raise.ensures
+    fresh_first _ _ _ _ _ _ f.ensures.0 f.ensures.1 c.before.if-not-fresh.false-raw _ c.raise.ensures
 
 pub look_at_spec : {M : Type 1} → statement M
 look_at_spec =

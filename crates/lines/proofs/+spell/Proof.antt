@@ -26,7 +26,7 @@ spell_at t = and 1 spell-kinds.ps (is 1 spell-kinds.ps μ-spell t) spell.Pre
 abbrev spell_below : ℕ → In 1 spell-kinds.ps
 spell_below t = and 1 spell-kinds.ps (falls 1 spell-kinds.ps ◌<◌ μ-spell t) spell.Pre
 
-spell_returns : (t : ℕ) → spell-lts.Need-returns (
+spell_returns : (t : ℕ) → spell-lts.Need-returns-then-k-eq0 (
   is-done-reads.Asked,
   is-done-reads.Learnt,
   one-less-reads.Asked,
@@ -38,9 +38,9 @@ spell_returns : (t : ℕ) → spell-lts.Need-returns (
   put_reads.Asked,
   put_reads.Learnt,
 ) (spell_at t) spell.Post
-spell_returns t c = spells_none _ _ _ _ _ _ c.if1.true
+spell_returns t c = spells_none _ _ _ _ _ _ c.if-k-eq0.true
 
-spell-returns-2 : (t : ℕ) → spell-lts.Need-returns-2 (
+spell-returns-2 : (t : ℕ) → spell-lts.Need-returns-then-is_done (
   is-done-reads.Asked,
   is-done-reads.Learnt,
   one-less-reads.Asked,
@@ -52,9 +52,9 @@ spell-returns-2 : (t : ℕ) → spell-lts.Need-returns-2 (
   put_reads.Asked,
   put_reads.Learnt,
 ) (spell_at t) spell.Post
-spell-returns-2 t c = spells_done _ _ _ _ _ _ _ c.before.is_done.ensures c.if2.true
+spell-returns-2 t c = spells_done _ _ _ _ _ _ _ c.before.is_done.ensures c.if-is_done.true
 
-spell_sub_spell : (t : ℕ) → spell-lts.Need-overflow_sub-spell (
+spell_sub_spell : (t : ℕ) → spell-lts.Need-overflow_sub-k (
   is-done-reads.Asked,
   is-done-reads.Learnt,
   one-less-reads.Asked,
@@ -66,9 +66,9 @@ spell_sub_spell : (t : ℕ) → spell-lts.Need-overflow_sub-spell (
   put_reads.Asked,
   put_reads.Learnt,
 ) (spell_at t) spell.Post
-spell_sub_spell t c = pos_of_ne-zero c.before.before.before.before.if1.false
+spell_sub_spell t c = pos_of_ne-zero c.before.before.before.before.if-k-eq0.false
 
-spell_spell_requires : (t : ℕ) → spell-lts.Need-spell-requires (
+spell_spell_requires : (t : ℕ) → spell-lts.Need-spell-p-requires (
   is-done-reads.Asked,
   is-done-reads.Learnt,
   one-less-reads.Asked,
@@ -82,7 +82,7 @@ spell_spell_requires : (t : ℕ) → spell-lts.Need-spell-requires (
 ) (spell_at t) spell.Post
 spell_spell_requires t c κs =
     let s = c.before.before.before.before.before.before in
-    let h = pos_of_ne-zero c.before.before.before.before.if1.false in
+    let h = pos_of_ne-zero c.before.before.before.before.if-k-eq0.false in
     (omega (arith, h, s.requires.0), (omega (arith, h, s.requires.1.0), s.requires.1.1, s.requires.1.2))
 
 spell_glyph_requires : (t : ℕ) → spell-lts.Need-glyph-requires (
@@ -116,9 +116,9 @@ spell_put_requires : (t : ℕ) → spell-lts.Need-put-requires (
 spell_put_requires t c κs =
     let d = c.before.before.before.before in
     let s = d.before.before.before.before.before.before.before in
-    omega (arith, reach _ _ _ _ d.spell.ensures, d.spell.auto.0, pos_of_ne-zero d.before.before.before.before.before.if1.false, s.requires.1.0)
+    omega (arith, reach _ _ _ _ d.spell-p.ensures, d.spell-p.auto.out, pos_of_ne-zero d.before.before.before.before.before.if-k-eq0.false, s.requires.1.0)
 
-spell_same_length : (t : ℕ) → spell-lts.Need-same_length (
+spell_same_length : (t : ℕ) → spell-lts.Need-shape_of-out (
   is-done-reads.Asked,
   is-done-reads.Learnt,
   one-less-reads.Asked,
@@ -132,7 +132,7 @@ spell_same_length : (t : ℕ) → spell-lts.Need-same_length (
 ) (spell_at t) spell.Post
 spell_same_length t c = search rules
 
-spell-returns-3 : (t : ℕ) → spell-lts.Need-returns-3 (
+spell-returns-3 : (t : ℕ) → spell-lts.Need-returns (
   is-done-reads.Asked,
   is-done-reads.Learnt,
   one-less-reads.Asked,
@@ -147,8 +147,8 @@ spell-returns-3 : (t : ℕ) → spell-lts.Need-returns-3 (
 spell-returns-3 t c =
     let d = c.before.before in
     let e = d.before.before.before.before.before in
-    spells_more _ _ _ _ _ _ _ _ _ _ _ _ _ e.before.before.before.before.before.if1.false e.before.before.before.before.is_done.ensures
-    e.before.before.before.if2.false e.before.one_less.ensures e.spell.ensures d.before.glyph.ensures d.put.ensures
+    spells_more _ _ _ _ _ _ _ _ _ _ _ _ _ e.before.before.before.before.before.if-k-eq0.false e.before.before.before.before.is_done.ensures
+    e.before.before.before.if-is_done.false e.before.one_less.ensures e.spell-p.ensures d.before.glyph.ensures d.put.ensures
 
 pub +spell_spec : {M : Type 1} → statement M
 +spell_spec =

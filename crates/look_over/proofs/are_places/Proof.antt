@@ -36,13 +36,13 @@ returns : tie.Need-returns-then-not-is_place invariant-loop decreases-loop
 returns c =
     let l = c.before.before.before.before.loop-p in
     every_stops _ l.p _ _ c.before.before.before.loop-p-test.true
-    (failed _ _ (c.before.is_place.ensures ∙ ap is_place c.before.before.point_at.ensures) c.if-not-is_place.true) l.invariant.0
+    (failed _ _ (c.before.is_place.ensures ∙ ap is_place c.before.before.point_at.ensures) c.if-not-is_place.true-raw) l.invariant.0
 
 loop-again : tie.Need-loop-p-preserved invariant-loop decreases-loop
 loop-again c =
     let l = c.before.before.before.before.loop-p in (
       every_goes _ l.p _ _ c.before.before.before.loop-p-test.true (passed _ _ (c.before.is_place.ensures ∙ ap is_place
-          c.before.before.point_at.ensures) c.if-not-is_place.false) l.invariant.0,
+          c.before.before.point_at.ensures) c.if-not-is_place.false-raw) l.invariant.0,
       l.invariant.1,
       omega (arith, c.before.before.before.loop-p-test.true),
     )

@@ -28,12 +28,12 @@ loop-holds c =
 returns : tie.Need-returns-then-not-is_coordinate invariant-loop decreases-loop
 returns c =
     let l = c.before.before.before.before.loop-k in
-    every_stops _ l.k _ _ (omega arith) (failed _ _ c.before.is_coordinate.ensures c.if-not-is_coordinate.true) l.invariant.0
+    every_stops _ l.k _ _ (omega arith) (failed _ _ c.before.is_coordinate.ensures c.if-not-is_coordinate.true-raw) l.invariant.0
 
 loop-again : tie.Need-loop-k-preserved invariant-loop decreases-loop
 loop-again c =
     let l = c.before.before.before.before.loop-k in
-    (every_goes _ l.k _ _ (omega arith) (passed _ _ c.before.is_coordinate.ensures c.if-not-is_coordinate.false) l.invariant.0, omega arith, omega arith)
+    (every_goes _ l.k _ _ (omega arith) (passed _ _ c.before.is_coordinate.ensures c.if-not-is_coordinate.false-raw) l.invariant.0, omega arith, omega arith)
 
 returns-2 : tie.Need-returns invariant-loop decreases-loop
 returns-2 c = every_ends _ c.before.loop-k.k _ _ (omega arith) c.before.loop-k.invariant.0

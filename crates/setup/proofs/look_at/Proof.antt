@@ -9,7 +9,7 @@ returns : tie.Need-returns-then-not-fresh
 returns c =
     let f = c.before.before.before.fresh in
     let s = c.before.before.before.before.before.before in
-    (fresh_again _ _ _ _ _ _ f.ensures.0 f.ensures.1 c.if-not-fresh.true, s.requires.3)
+    (fresh_again _ _ _ _ _ _ f.ensures.0 f.ensures.1 c.if-not-fresh.true-raw, s.requires.3)
 
 take-requires : tie.Need-take-b-requires
 take-requires c κs =
@@ -17,14 +17,14 @@ take-requires c κs =
     let f = e.before.before.before.fresh in
     let s = e.before.before.before.before.before.before in
     let b = c.box_of.ensures in
-    (s.requires.4, b.1, b.2, omega (arith, fresh_room _ _ _ _ _ f.ensures.0 e.if-not-fresh.false s.requires.1 s.requires.2, s.requires.3.met))
+    (s.requires.4, b.1, b.2, omega (arith, fresh_room _ _ _ _ _ f.ensures.0 e.if-not-fresh.false-raw s.requires.1 s.requires.2, s.requires.3.met))
 
 add-count : tie.Need-overflow_add-result
 add-count c =
     let e = c.before.before in
     let f = e.before.before.before.fresh in
     let s = e.before.before.before.before.before.before in
-    record { fits = fresh_room _ _ _ _ _ f.ensures.0 e.if-not-fresh.false s.requires.1 s.requires.2 }
+    record { fits = fresh_room _ _ _ _ _ f.ensures.0 e.if-not-fresh.false-raw s.requires.1 s.requires.2 }
 
 returns-2 : tie.Need-returns
 returns-2 c =
@@ -32,7 +32,7 @@ returns-2 c =
     let f = e.before.before.before.fresh in
     let s = e.before.before.before.before.before.before in
     let b = c.before.box_of.ensures in (
-      fresh_first _ _ _ _ _ _ f.ensures.0 f.ensures.1 e.if-not-fresh.false _ (take_step _ _ _ _ _ _ b.0 c.take-b.ensures),
+      fresh_first _ _ _ _ _ _ f.ensures.0 f.ensures.1 e.if-not-fresh.false-raw _ (take_step _ _ _ _ _ _ b.0 c.take-b.ensures),
       taken_sane _ _ s.args.s _ s.requires.3 b.3 c.take-b.ensures,
     )
 

@@ -12,14 +12,14 @@ returns c = too_many _ _ _ (c.before.count-n.ensures ∙ sym (sections_length _ 
 returns-2 : tie.Need-returns-then-not-valid_body
 returns-2 c =
     let one = c.before.before.before in
-    invalid _ _ _ (one.count-n.ensures ∙ sym (sections_length _ _)) (omega arith) (body_bad _ _ (failed _ _ c.before.valid_body.ensures c.if-not-valid_body.true))
+    invalid _ _ _ (one.count-n.ensures ∙ sym (sections_length _ _)) (omega arith) (body_bad _ _ (failed _ _ c.before.valid_body.ensures c.if-not-valid_body.true-raw))
 
 returns-3 : tie.Need-returns-then-not-valid_holders
 returns-3 c =
     let two = c.before.before in
     let one = two.before.before.before in
     invalid _ _ _ (one.count-n.ensures ∙ sym (sections_length _ _)) (omega arith)
-    (holders_bad _ _ (passed _ _ two.before.valid_body.ensures two.if-not-valid_body.false) (failed _ _ c.before.valid_holders.ensures c.if-not-valid_holders.true))
+    (holders_bad _ _ (passed _ _ two.before.valid_body.ensures two.if-not-valid_body.false-raw) (failed _ _ c.before.valid_holders.ensures c.if-not-valid_holders.true-raw))
 
 returns-4 : tie.Need-returns-then-n-room
 returns-4 c =
@@ -27,7 +27,7 @@ returns-4 c =
     let two = three.before.before in
     let one = two.before.before.before in
     no_room _ _ _ (one.count-n.ensures ∙ sym (sections_length _ _)) (omega arith)
-    (all_good _ _ (passed _ _ two.before.valid_body.ensures two.if-not-valid_body.false) (passed _ _ three.before.valid_holders.ensures three.if-not-valid_holders.false))
+    (all_good _ _ (passed _ _ two.before.valid_body.ensures two.if-not-valid_body.false-raw) (passed _ _ three.before.valid_holders.ensures three.if-not-valid_holders.false-raw))
     (omega arith)
 
 returns-5 : tie.Need-returns
@@ -36,7 +36,7 @@ returns-5 c =
     let two = three.before.before in
     let one = two.before.before.before in
     good_list _ _ _ (one.count-n.ensures ∙ sym (sections_length _ _)) (omega arith)
-    (all_good _ _ (passed _ _ two.before.valid_body.ensures two.if-not-valid_body.false) (passed _ _ three.before.valid_holders.ensures three.if-not-valid_holders.false))
+    (all_good _ _ (passed _ _ two.before.valid_body.ensures two.if-not-valid_body.false-raw) (passed _ _ three.before.valid_holders.ensures three.if-not-valid_holders.false-raw))
     (omega arith)
 
 pub refusal_of_list_spec : {M : Type 1} → statement M

@@ -22,12 +22,12 @@ returns : tie.Need-returns-then-not-valid invariant-loop decreases-loop
 returns c =
     let l = c.before.before.before.before.loop-i in
     holder_stops _ l.i _ _ (omega arith)
-    (failed _ _ (c.before.valid.ensures ∙ ap valid_section c.before.before.holder_at.ensures) c.if-not-valid.true) l.invariant.0
+    (failed _ _ (c.before.valid.ensures ∙ ap valid_section c.before.before.holder_at.ensures) c.if-not-valid.true-raw) l.invariant.0
 
 loop-again : tie.Need-loop-i-preserved invariant-loop decreases-loop
 loop-again c =
     let l = c.before.before.before.before.loop-i in (
-      holder_goes _ l.i _ _ (omega arith) (passed _ _ (c.before.valid.ensures ∙ ap valid_section c.before.before.holder_at.ensures) c.if-not-valid.false)
+      holder_goes _ l.i _ _ (omega arith) (passed _ _ (c.before.valid.ensures ∙ ap valid_section c.before.before.holder_at.ensures) c.if-not-valid.false-raw)
           l.invariant.0,
       omega arith,
     )

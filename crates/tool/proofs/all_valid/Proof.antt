@@ -21,11 +21,11 @@ loop-holds c = (all_left _ _, omega arith)
 returns : tie.Need-returns-then-not-valid invariant-loop decreases-loop
 returns c = let l = c.before.before.before.before.loop-i in
     every_stops _ l.i _ _ (omega arith)
-    (failed _ _ (valid_here _ _ _ c.before.before.section_at.ensures _ c.before.valid.ensures) c.if-not-valid.true) l.invariant.0
+    (failed _ _ (valid_here _ _ _ c.before.before.section_at.ensures _ c.before.valid.ensures) c.if-not-valid.true-raw) l.invariant.0
 
 loop-again : tie.Need-loop-i-preserved invariant-loop decreases-loop
 loop-again c = let l = c.before.before.before.before.loop-i in (
-  every_goes _ l.i _ _ (omega arith) (passed _ _ (valid_here _ _ _ c.before.before.section_at.ensures _ c.before.valid.ensures) c.if-not-valid.false)
+  every_goes _ l.i _ _ (omega arith) (passed _ _ (valid_here _ _ _ c.before.before.section_at.ensures _ c.before.valid.ensures) c.if-not-valid.false-raw)
       l.invariant.0,
   omega arith,
 )

@@ -27,14 +27,14 @@ returns : tie.Need-returns-then-not-is_coordinate invariant-loop decreases-loop
 returns c =
     let d = c.before.before.before in
     found_stops _ _ d.before.loop-k.k _ (omega arith)
-    (ap not (ap is_coordinate (sym c.before.before.number_at.ensures.0) ∙ sym c.before.is_coordinate.ensures) ∙ c.if-not-is_coordinate.true)
+    (ap not (ap is_coordinate (sym c.before.before.number_at.ensures.0) ∙ sym c.before.is_coordinate.ensures) ∙ c.if-not-is_coordinate.true-raw)
     d.before.loop-k.invariant.0
 
 loop-again : tie.Need-loop-k-preserved invariant-loop decreases-loop
 loop-again c =
     let d = c.before.before.before in (
       found_goes _ _ d.before.loop-k.k _ (omega arith)
-          (ap not (ap is_coordinate (sym c.before.before.number_at.ensures.0) ∙ sym c.before.is_coordinate.ensures) ∙ c.if-not-is_coordinate.false)
+          (ap not (ap is_coordinate (sym c.before.before.number_at.ensures.0) ∙ sym c.before.is_coordinate.ensures) ∙ c.if-not-is_coordinate.false-raw)
           d.before.loop-k.invariant.0,
       omega arith,
       omega arith,

@@ -23,12 +23,12 @@ loop-holds c = (ap (every _ 0) (sub-zero _), omega arith)
 returns : tie.Need-returns-then-not-cell_below invariant-loop decreases-loop
 returns c =
     let l = c.before.before.before.loop-c in
-    every_stops _ l.c _ _ c.before.before.loop-c-test.true (failed _ _ c.before.cell_below.ensures c.if-not-cell_below.true) l.invariant.0
+    every_stops _ l.c _ _ c.before.before.loop-c-test.true (failed _ _ c.before.cell_below.ensures c.if-not-cell_below.true-raw) l.invariant.0
 
 loop-again : tie.Need-loop-c-preserved invariant-loop decreases-loop
 loop-again c =
     let l = c.before.before.before.loop-c in
-    (every_goes _ l.c _ _ c.before.before.loop-c-test.true (passed _ _ c.before.cell_below.ensures c.if-not-cell_below.false) l.invariant.0, omega arith)
+    (every_goes _ l.c _ _ c.before.before.loop-c-test.true (passed _ _ c.before.cell_below.ensures c.if-not-cell_below.false-raw) l.invariant.0, omega arith)
 
 returns-2 : tie.Need-returns invariant-loop decreases-loop
 returns-2 c = every_ends _ c.before.loop-c.c _ _ (omega arith) c.before.loop-c.invariant.0

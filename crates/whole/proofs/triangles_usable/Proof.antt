@@ -21,12 +21,12 @@ loop-holds c = (ap (every _ 0) (sub-zero _), omega arith)
 returns : tie.Need-returns-then-not-triangle_usable invariant-loop decreases-loop
 returns c =
     let l = c.before.before.before.loop-i in
-    every_stops _ l.i _ _ c.before.before.loop-i-test.true (failed _ _ c.before.triangle_usable.ensures c.if-not-triangle_usable.true) l.invariant.0
+    every_stops _ l.i _ _ c.before.before.loop-i-test.true (failed _ _ c.before.triangle_usable.ensures c.if-not-triangle_usable.true-raw) l.invariant.0
 
 loop-again : tie.Need-loop-i-preserved invariant-loop decreases-loop
 loop-again c =
     let l = c.before.before.before.loop-i in
-    (every_goes _ l.i _ _ c.before.before.loop-i-test.true (passed _ _ c.before.triangle_usable.ensures c.if-not-triangle_usable.false) l.invariant.0, omega arith)
+    (every_goes _ l.i _ _ c.before.before.loop-i-test.true (passed _ _ c.before.triangle_usable.ensures c.if-not-triangle_usable.false-raw) l.invariant.0, omega arith)
 
 returns-2 : tie.Need-returns invariant-loop decreases-loop
 returns-2 c = every_ends _ c.before.loop-i.i _ _ (omega arith) c.before.loop-i.invariant.0

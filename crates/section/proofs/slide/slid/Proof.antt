@@ -26,7 +26,7 @@ returns c =
 
 next-requires : tie.Need-next-w-requires invariant-loop decreases-loop
 next-requires c κs =
-    (c.before.before.before.before.before.before.before.before.requires.0, passed _ _ c.before.goes.ensures c.if-not-goes.false)
+    (c.before.before.before.before.before.before.before.before.requires.0, passed _ _ c.before.goes.ensures c.if-not-goes.false-raw)
 
 loop-again : tie.Need-loop-n-preserved invariant-loop decreases-loop
 loop-again c =

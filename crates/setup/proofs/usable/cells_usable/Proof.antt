@@ -24,12 +24,12 @@ loop-holds c = refl
 returns : tie.Need-returns-then-not-row_usable invariant-loop decreases-loop
 returns c =
     let l = c.before.before.before.loop-y in
-    every_stops _ l.y _ _ c.before.before.loop-y-test.true (failed _ _ c.before.row_usable.ensures c.if-not-row_usable.true) l.invariant
+    every_stops _ l.y _ _ c.before.before.loop-y-test.true (failed _ _ c.before.row_usable.ensures c.if-not-row_usable.true-raw) l.invariant
 
 loop-again : tie.Need-loop-y-preserved invariant-loop decreases-loop
 loop-again c =
     let l = c.before.before.before.loop-y in
-    every_goes _ l.y _ _ c.before.before.loop-y-test.true (passed _ _ c.before.row_usable.ensures c.if-not-row_usable.false) l.invariant
+    every_goes _ l.y _ _ c.before.before.loop-y-test.true (passed _ _ c.before.row_usable.ensures c.if-not-row_usable.false-raw) l.invariant
 
 returns-2 : tie.Need-returns invariant-loop decreases-loop
 returns-2 c = every_ends _ c.before.loop-y.y _ _ (omega arith) c.before.loop-y.invariant

@@ -23,12 +23,12 @@ cast-member_usable c = omega (arith, c.shared_slice_known-in-loop-j-1.given c.be
 returns : tie.Need-returns-then-not-member_usable invariant-loop decreases-loop
 returns c =
     let l = c.before.before.before.before.loop-j in
-    each_stops _ _ l.j (omega arith) (failed _ _ c.before.member_usable.ensures c.if-not-member_usable.true) l.invariant.0
+    each_stops _ _ l.j (omega arith) (failed _ _ c.before.member_usable.ensures c.if-not-member_usable.true-raw) l.invariant.0
 
 loop-again : tie.Need-loop-j-preserved invariant-loop decreases-loop
 loop-again c =
     let l = c.before.before.before.before.loop-j in
-    (each_goes _ _ l.j (omega arith) (passed _ _ c.before.member_usable.ensures c.if-not-member_usable.false) l.invariant.0, omega arith, omega arith)
+    (each_goes _ _ l.j (omega arith) (passed _ _ c.before.member_usable.ensures c.if-not-member_usable.false-raw) l.invariant.0, omega arith, omega arith)
 
 returns-2 : tie.Need-returns invariant-loop decreases-loop
 returns-2 c = each_ends _ _ c.before.loop-j.j (omega arith) c.before.loop-j.invariant.0

@@ -24,12 +24,12 @@ loop-holds c = refl
 returns : tie.Need-returns-then-not-cell_usable invariant-loop decreases-loop
 returns c =
     let l = c.before.before.before.loop-x in
-    every_stops _ l.x _ _ c.before.before.loop-x-test.true (failed _ _ c.before.cell_usable.ensures c.if-not-cell_usable.true) l.invariant
+    every_stops _ l.x _ _ c.before.before.loop-x-test.true (failed _ _ c.before.cell_usable.ensures c.if-not-cell_usable.true-raw) l.invariant
 
 loop-again : tie.Need-loop-x-preserved invariant-loop decreases-loop
 loop-again c =
     let l = c.before.before.before.loop-x in
-    every_goes _ l.x _ _ c.before.before.loop-x-test.true (passed _ _ c.before.cell_usable.ensures c.if-not-cell_usable.false) l.invariant
+    every_goes _ l.x _ _ c.before.before.loop-x-test.true (passed _ _ c.before.cell_usable.ensures c.if-not-cell_usable.false-raw) l.invariant
 
 returns-2 : tie.Need-returns invariant-loop decreases-loop
 returns-2 c = every_ends _ c.before.loop-x.x _ _ (omega arith) c.before.loop-x.invariant

@@ -27,13 +27,13 @@ returns : tie.Need-returns-then-not-is_coordinate invariant-loop decreases-loop
 returns c =
     let l = c.before.before.before.before.loop-k in
     every_stops _ l.k _ _ (omega arith)
-    (failed _ _ (c.before.is_coordinate.ensures ∙ ap is_coordinate c.before.before.number_at.ensures.0) c.if-not-is_coordinate.true) l.invariant.0
+    (failed _ _ (c.before.is_coordinate.ensures ∙ ap is_coordinate c.before.before.number_at.ensures.0) c.if-not-is_coordinate.true-raw) l.invariant.0
 
 loop-again : tie.Need-loop-k-preserved invariant-loop decreases-loop
 loop-again c =
     let l = c.before.before.before.before.loop-k in (
       every_goes _ l.k _ _ (omega arith) (passed _ _ (c.before.is_coordinate.ensures ∙ ap is_coordinate c.before.before.number_at.ensures.0)
-          c.if-not-is_coordinate.false) l.invariant.0,
+          c.if-not-is_coordinate.false-raw) l.invariant.0,
       omega arith,
       omega arith,
     )
