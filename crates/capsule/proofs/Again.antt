@@ -49,6 +49,7 @@ module _ (k : Capsule) where
 
   pub held_now : (c : Contact) (vs : List Point) → Held (offered_all k c vs) vs
   unfolding offered_all
+  held_now c [] v x' = elim x' [ ]
   held_now c (u ∷ vs) v (Memᴰ.head e) = subst (Had (offered_all k (offer_of k c u) vs)) (sym e) (had_after (offer_of k c u) u vs (had_now c u))
   held_now c (u ∷ vs) v (Memᴰ.tail m) = held_now (offer_of k c u) vs v m
 

@@ -37,6 +37,7 @@ module _ (bytes : List ℕ) where
 
   pub all_known : (t c : ℕ) → unknown_among bytes t c ≡ false → (i : ℕ) → i < c → value (kind_byte (t + i)) bytes ≤ 1
   unfolding unknown_among
+  all_known t zero e i h = elim h [ ]
   all_known t (suc c) e zero h = rw add-zero (ltb-false 1 _ (either_not _ _ e).0)
   all_known t (suc c) e (suc i) h =
       let s : t + suc i ≡ t + 1 + i = omega arith in

@@ -6,11 +6,11 @@ use Rattle.above.proofs.limit.Tie as tie
 
 returns : tie.Need-returns-in-Nothing
 unfolding limit_of
-returns c = ap limit_of (sym c.enum_told-1.given.1)
+returns c = ap limit_of (sym c.in-Nothing.is)
 
 returns-2 : tie.Need-returns-in-Height
 unfolding limit_of
-returns-2 c = ap limit_of (sym c.before.c-1.given.1)
+returns-2 c = ap limit_of (sym c.in-Height.is)
 
 pub limit_spec : {M : Type 1} → statement M
 limit_spec = tie.close (tie.spec (λ c. search rules) (λ c. search rules) returns returns-2)

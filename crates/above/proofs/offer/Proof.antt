@@ -6,11 +6,11 @@ use Rattle.above.proofs.offer.Tie as tie
 
 returns : tie.Need-returns-in-Nothing
 unfolding offer_of
-returns c = ap (offer_of _) (sym c.enum_told-1.given.1)
+returns c = ap (offer_of _) (sym c.in-Nothing.is)
 
 returns-2 : tie.Need-returns-in-Height
 unfolding offer_of
-returns-2 c = c.take.ensures ∙ ap (offer_of _) (sym c.before.before.candidate-1.given.1)
+returns-2 c = c.take.ensures ∙ ap (offer_of _) (sym c.before.in-Height.is)
 
 pub offer_spec : {M : Type 1} → statement M
 offer_spec = tie.close (tie.spec (λ c. search rules) (λ c. search rules) (λ c κs. tt) returns returns-2)

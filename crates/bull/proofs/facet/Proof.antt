@@ -7,11 +7,11 @@ use Rattle.bull.proofs.facet.Tie as tie
 
 returns : tie.Need-returns-in-Upright
 unfolding bull_facet
-returns c = ap (bull_facet _ _) (sym c.enum_told-1.given.1)
+returns c = ap (bull_facet _ _) (sym c.in-Upright.is)
 
 returns-2 : tie.Need-returns-in-Leaning
 unfolding bull_facet
-returns-2 c = c.facet_height.ensures ∙ ap (facet_height _) c.before.rest.ensures ∙ ap (bull_facet _ _) (sym c.before.before.before.f-1.given.1)
+returns-2 c = c.facet_height.ensures ∙ ap (facet_height _) c.before.rest.ensures ∙ ap (bull_facet _ _) (sym c.before.before.in-Leaning.is)
 
 pub facet_spec : {M : Type 1} → statement M
 facet_spec = tie.close (tie.spec (λ c. search rules) (λ c. search rules) (λ c κs. tt) (λ c κs. tt) returns returns-2)

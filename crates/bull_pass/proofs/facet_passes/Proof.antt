@@ -6,11 +6,11 @@ use Rattle.bull_pass.proofs.facet_passes.Tie as tie
 
 returns : tie.Need-returns-in-Upright
 unfolding facet_passes
-returns c = ap (facet_passes _ _) (sym c.enum_told-1.given.1)
+returns c = ap (facet_passes _ _) (sym c.in-Upright.is)
 
 returns-2 : tie.Need-returns-in-Leaning
 unfolding facet_passes
-returns-2 c = c.rests_miss.ensures ∙ ap (facet_passes _ _) (sym c.before.before.f-1.given.1)
+returns-2 c = c.rests_miss.ensures ∙ ap (facet_passes _ _) (sym c.before.in-Leaning.is)
 
 pub facet_passes_spec : {M : Type 1} → statement M
 facet_passes_spec = tie.close (tie.spec (λ c. search rules) (λ c. search rules) (λ c κs. tt) returns returns-2)

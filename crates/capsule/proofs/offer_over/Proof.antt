@@ -6,19 +6,19 @@ use Rattle.capsule.proofs.offer_over.Statement.{statement}
 use Rattle.capsule.proofs.offer_over.Tie as tie
 
 returns : tie.Need-returns-in-Nowhere
-returns c = none_over _ _ _ _ (sym c.before.before.bary.ensures ∙ c.enum_told-1.given.1)
+returns c = none_over _ _ _ _ (sym c.before.bary.ensures ∙ c.in-Nowhere.is)
 
 returns-2 : tie.Need-returns-then-at_least
 unfolding point_over
 returns-2 c =
     let m = c.before.before.before.before.before.before.before in
-    let d = m.before.before.before in
-    on_it _ _ _ _ _ _ (sym d.before.before.bary.ensures ∙ d.w-1.given.1) (sym m.before.at_least.ensures ∙ m.if-at_least.true) c.offer.ensures
+    let d = m.before.before in
+    on_it _ _ _ _ _ _ (sym d.before.bary.ensures ∙ d.in-At.is) (sym m.before.at_least.ensures ∙ m.if-at_least.true) c.offer.ensures
 
 returns-3 : tie.Need-returns-else-at_least
 returns-3 c =
-    let d = c.before.before.before in
-    beside _ _ _ _ _ (sym d.before.before.bary.ensures ∙ d.w-1.given.1) (sym c.before.at_least.ensures ∙ c.if-at_least.false)
+    let d = c.before.before in
+    beside _ _ _ _ _ (sym d.before.bary.ensures ∙ d.in-At.is) (sym c.before.at_least.ensures ∙ c.if-at_least.false)
 
 pub offer_over_spec : {M : Type 1} → statement M
 offer_over_spec = tie.close (tie.spec (λ c κs. tt) (λ c. search rules) (λ c. search rules) (λ c κs. tt) (λ c κs. tt) returns returns-2 returns-3)

@@ -18,11 +18,11 @@ of_kind t b m table s k r e p = p ∙ ap (λ (x : Shape). shape_blocks t b m x t
 
 returns : tie.Need-returns-in-Nose
 unfolding shape_blocks
-returns c = of_kind _ _ _ _ _ _ _ c.before.before.shape-1.given.1 c.bull_blocks.ensures
+returns c = of_kind _ _ _ _ _ _ _ c.before.in-Nose.is c.bull_blocks.ensures
 
 returns-2 : tie.Need-returns-in-Sections
 unfolding shape_blocks
-returns-2 c = of_kind _ _ _ _ _ _ _ c.before.before.shape-in-Sections-1.given.1 c.tool_blocks.ensures
+returns-2 c = of_kind _ _ _ _ _ _ _ c.before.in-Sections.is c.tool_blocks.ensures
 
 pub blocks_on_spec : {M : Type 1} → statement M
 blocks_on_spec = tie.close (tie.spec (λ c. search rules) (λ c κs. tt) (λ c. search rules) (λ c κs. tt) returns returns-2)

@@ -95,7 +95,7 @@ loop2-again c =
     let l = c.before.before.before.before.before.before.before.before.loop-j in
     let r = c.before.before.before.before.strike_at-v in
     let a = strike-requires c.before.before.before.before.before r.lifetimes in
-    (member_turns l.j (omega arith) (strike_keeps _ _ _ _ a.1) l.invariant.0 r.ensures, search rules, search rules, c.if-not-v.false)
+    (member_turns l.j (omega arith) (strike_keeps _ _ _ _ a.1) l.invariant.0 r.ensures, search rules, search rules, not-false _ c.if-not-v.false)
 
 loop-again : tie.Need-loop-x-preserved invariant-loop2 decreases-loop2 invariant-loop decreases-loop invariant-rows decreases-rows
 loop-again c =
@@ -134,7 +134,7 @@ returns-2 : tie.Need-returns-then-not-v invariant-loop2 decreases-loop2 invarian
 returns-2 c =
     let l = c.before.before.before.before.before.before.before.before.loop-j in
     let i = c.before.before.before.before.before.before.before.before.before.before in
-    let n = c.if-not-v.true in
+    let n = not-true _ c.if-not-v.true in
     let e = member_blocks _ l.j (omega arith) l.invariant.0 c.before.before.before.before.strike_at-v.ensures n in
     let f = ring_blocks _ _ i.before.loop-x.x _ i.loop-x-test.true i.before.loop-x.invariant.0 (e
     ∙ ap (fold _ _) c.before.before.before.before.before.before.before.before.before.stretch-part.ensures) n in

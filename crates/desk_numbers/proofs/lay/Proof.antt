@@ -6,11 +6,11 @@ use Rattle.desk_numbers.proofs.lay.Tie as tie
 
 returns : tie.Need-returns-in-Nothing
 unfolding contact_left_by
-returns c = ap contact_left_by (sym c.before.before.enum_told-1.given.1)
+returns c = ap contact_left_by (sym c.before.before.in-Nothing.is)
 
 returns-2 : tie.Need-returns-in-Height
 unfolding contact_left_by
-returns-2 c = ap contact_left_by (sym c.before.before.before.c-1.given.1)
+returns-2 c = ap contact_left_by (sym c.before.before.in-Height.is)
 
 pub lay_spec : {M : Type 1} → statement M
 lay_spec = tie.close (tie.spec (λ c. search rules) (λ c. search rules) returns returns-2)

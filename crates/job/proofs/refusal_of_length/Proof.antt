@@ -8,20 +8,20 @@ use Rattle.job.proofs.refusal_of_length.Tie as tie
 returns : tie.Need-returns-in-Short
 unfolding refuse_length
 returns c =
-    let d = c.before.before in
-    length_refused _ _ _ _ _ d.before.shape.ensures _ 19 _ (sym c.enum_told-1.given.1 ∙ d.length_rule.ensures) refl
+    let d = c.before in
+    length_refused _ _ _ _ _ d.before.shape.ensures _ 19 _ (sym c.in-Short.is ∙ d.length_rule.ensures) refl
 
 returns-2 : tie.Need-returns-in-Surplus
 unfolding refuse_length
 returns-2 c =
-    let d = c.before.before in
-    length_refused _ _ _ _ _ d.before.shape.ensures _ 21 _ (sym c.enum_told-in-Surplus-1.given.1 ∙ d.length_rule.ensures) refl
+    let d = c.before in
+    length_refused _ _ _ _ _ d.before.shape.ensures _ 21 _ (sym c.in-Surplus.is ∙ d.length_rule.ensures) refl
 
 returns-3 : tie.Need-returns-in-Exact
 unfolding refuse_length
 returns-3 c =
-    let d = c.before.before in
-    length_refused _ _ _ _ _ d.before.shape.ensures _ 0 _ (sym c.enum_told-in-Exact-1.given.1 ∙ d.length_rule.ensures) refl
+    let d = c.before in
+    length_refused _ _ _ _ _ d.before.shape.ensures _ 0 _ (sym c.in-Exact.is ∙ d.length_rule.ensures) refl
 
 pub refusal_of_length_spec : {M : Type 1} → statement M
 refusal_of_length_spec =

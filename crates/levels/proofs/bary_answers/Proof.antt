@@ -18,11 +18,11 @@ enum_told-2 c = search rules
 
 returns : tie.Need-returns-in-Nowhere
 unfolding answers
-returns c = ap answers (sym c.enum_told-1.given.1 ∙ c.before.before.bary.ensures)
+returns c = ap answers (sym c.in-Nowhere.is ∙ c.before.bary.ensures)
 
 returns-2 : tie.Need-returns-in-At
 unfolding answers
-returns-2 c = ap answers (sym c.enum_told-in-At-1.given.1 ∙ c.before.before.bary.ensures)
+returns-2 c = ap answers (sym c.in-At.is ∙ c.before.bary.ensures)
 
 pub bary_answers_spec : {M : Type 1} → statement M
 bary_answers_spec = tie.close (tie.spec bary-requires enum_told enum_told-2 returns returns-2)

@@ -6,7 +6,7 @@ use Rattle.list.proofs.main.Statement.{statement}
 use Rattle.list.proofs.main.Tie as tie
 
 array_share_prefix-bytes : tie.Need-slice_bounds-bytes-end
-array_share_prefix-bytes c = within_is _ _ _ c.before.input-1.given.1 c.before.before.before.before.read_input-input.ensures
+array_share_prefix-bytes c = within_is _ _ _ c.in-Length.is c.before.before.read_input-input.ensures
 
 slice_aggregate-listing : tie.Need-slice_bounds-listing-end
 slice_aggregate-listing c = sym (length-take-le _ _ (array_share_prefix-bytes c.before))

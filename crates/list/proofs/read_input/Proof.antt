@@ -50,30 +50,30 @@ enum_told : tie.Need-enum_told-1 invariant-loop decreases-loop
 enum_told c = search rules
 
 same_length : tie.Need-shape_of-buf-in_default invariant-loop decreases-loop
-same_length c = same_at c.before.before.before.before ∙ c.before.before.before.before.before.before.before.loop-done.invariant.1
+same_length c = same_at c.before.before.before ∙ c.before.before.before.before.before.before.loop-done.invariant.1
 
 returns : tie.Need-returns-in_default invariant-loop decreases-loop
 returns c = search rules
 
 same_length-2 : tie.Need-shape_of-buf-then-n-eq0 invariant-loop decreases-loop
-same_length-2 c = same_at c.before.before.before.before.before.before
-    ∙ c.before.before.before.before.before.before.before.before.before.loop-done.invariant.1
+same_length-2 c = same_at c.before.before.before.before
+    ∙ c.before.before.before.before.before.before.before.loop-done.invariant.1
 
 returns-2 : tie.Need-returns-then-n-eq0 invariant-loop decreases-loop
 returns-2 c = omega (
   arith,
-  same_at c.before.before.before.before.before.before,
-  c.before.before.before.before.before.before.before.before.before.loop-done.invariant.0,
+  same_at c.before.before.before.before,
+  c.before.before.before.before.before.before.before.loop-done.invariant.0,
 )
 
 add_done : tie.Need-overflow_add-done invariant-loop decreases-loop
-add_done c = omega (arith, further_at c.before.before.before.before.before.before _ c.before.before.got-1.given.1)
+add_done c = omega (arith, further_at c.before.before.before.before _ c.before.in-Length.is)
 
 loop-less : tie.Need-loop-done-smaller invariant-loop decreases-loop
 loop-less c = omega (
   arith,
-  same_at c.before.before.before.before.before.before,
-  further_at c.before.before.before.before.before.before _ c.before.before.got-1.given.1,
+  same_at c.before.before.before.before,
+  further_at c.before.before.before.before _ c.before.in-Length.is,
   pos_of_ne-zero c.if-n-eq0.false,
 )
 
@@ -81,10 +81,10 @@ loop-again : tie.Need-loop-done-preserved invariant-loop decreases-loop
 loop-again c = (
   omega (
     arith,
-    same_at c.before.before.before.before.before.before,
-    further_at c.before.before.before.before.before.before _ c.before.before.got-1.given.1,
+    same_at c.before.before.before.before,
+    further_at c.before.before.before.before _ c.before.in-Length.is,
   ),
-  same_at c.before.before.before.before.before.before ∙ c.before.before.before.before.before.before.before.before.before.loop-done.invariant.1,
+  same_at c.before.before.before.before ∙ c.before.before.before.before.before.before.before.loop-done.invariant.1,
 )
 
 same_length-3 : tie.Need-shape_of-buf invariant-loop decreases-loop

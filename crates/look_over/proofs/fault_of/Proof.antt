@@ -9,15 +9,15 @@ use Rattle.look_over.proofs.fault_of.Tie as tie
 
 returns : tie.Need-returns-in-Neither
 unfolding is_clear
-returns c = ap (λ (f : Finding). cond (is_clear f) Sound BlockedRapid) (sym c.enum_told-1.given.1)
+returns c = ap (λ (f : Finding). cond (is_clear f) Sound BlockedRapid) (sym c.in-Neither.is)
 
 returns-2 : tie.Need-returns-in-Clear
 unfolding is_clear
-returns-2 c = ap (λ (f : Finding). cond (is_clear f) Sound BlockedRapid) (sym c.enum_told-in-Clear-1.given.1)
+returns-2 c = ap (λ (f : Finding). cond (is_clear f) Sound BlockedRapid) (sym c.in-Clear.is)
 
 returns-3 : tie.Need-returns-in-Blocked
 unfolding is_clear
-returns-3 c = ap (λ (f : Finding). cond (is_clear f) Sound BlockedRapid) (sym c.enum_told-in-Blocked-1.given.1)
+returns-3 c = ap (λ (f : Finding). cond (is_clear f) Sound BlockedRapid) (sym c.in-Blocked.is)
 
 pub fault_of_spec : {M : Type 1} → statement M
 fault_of_spec = tie.close (tie.spec (λ c. search rules) (λ c. search rules) (λ c. search rules) returns returns-2 returns-3)

@@ -6,15 +6,15 @@ use Rattle.look_over.proofs.verdict_number.Tie as tie
 
 returns : tie.Need-returns-in-Unsaid
 unfolding verdict_number
-returns c = ap verdict_number (sym c.enum_told-1.given.1)
+returns c = ap verdict_number (sym c.in-Unsaid.is)
 
 returns-2 : tie.Need-returns-in-Passes
 unfolding verdict_number
-returns-2 c = ap verdict_number (sym c.enum_told-in-Passes-1.given.1)
+returns-2 c = ap verdict_number (sym c.in-Passes.is)
 
 returns-3 : tie.Need-returns-in-Fails
 unfolding verdict_number
-returns-3 c = ap verdict_number (sym c.enum_told-in-Fails-1.given.1)
+returns-3 c = ap verdict_number (sym c.in-Fails.is)
 
 pub verdict_number_spec : {M : Type 1} → statement M
 verdict_number_spec = tie.close (tie.spec (λ c. search rules) (λ c. search rules) (λ c. search rules) returns returns-2 returns-3)

@@ -12,74 +12,74 @@ use Rattle.moves.proofs.leg_of.Tie as tie
 
 approach-requires : tie.Need-approach-requires
 unfolding phase_number
-approach-requires c κs = run_in _ c.before.before.before.before.args.s phase.Approach c.enum_told-in-Approach-1.given.1 (omega arith) (omega arith)
-    c.before.before.before.before.requires
+approach-requires c κs = run_in _ c.before.before.before.args.s phase.Approach c.in-Approach.is (omega arith) (omega arith)
+    c.before.before.before.requires
 
 plunge-requires : tie.Need-plunge-requires
 unfolding phase_number
-plunge-requires c κs = run_in _ c.before.before.before.before.args.s phase.Plunge c.enum_told-in-Plunge-1.given.1 (omega arith) (omega arith)
-    c.before.before.before.before.requires
+plunge-requires c κs = run_in _ c.before.before.before.args.s phase.Plunge c.in-Plunge.is (omega arith) (omega arith)
+    c.before.before.before.requires
 
 cut-requires : tie.Need-cut-requires
 unfolding phase_number
-cut-requires c κs = run_in _ c.before.before.before.before.args.s phase.Cut c.enum_told-in-Cut-1.given.1 (omega arith) (omega arith)
-    c.before.before.before.before.requires
+cut-requires c κs = run_in _ c.before.before.before.args.s phase.Cut c.in-Cut.is (omega arith) (omega arith)
+    c.before.before.before.requires
 
 rise-requires : tie.Need-rise-requires
 unfolding phase_number
-rise-requires c κs = run_in _ c.before.before.before.before.args.s phase.Rise c.enum_told-in-Rise-1.given.1 (omega arith) (omega arith)
-    c.before.before.before.before.requires
+rise-requires c κs = run_in _ c.before.before.before.args.s phase.Rise c.in-Rise.is (omega arith) (omega arith)
+    c.before.before.before.requires
 
 returns : tie.Need-returns-in-Lift
 unfolding leg_of
-returns c = c.lift.ensures ∙ sym (ap (λ (ph : Phase). line_of c.before.before.before.before.before.args.runs.now
-    c.before.before.before.before.before.args.h ph c.before.before.before.before.before.args.s.run
-    c.before.before.before.before.before.args.s.position) c.before.enum_told-1.given.1)
+returns c = c.lift.ensures ∙ sym (ap (λ (ph : Phase). line_of c.before.before.before.before.args.runs.now
+    c.before.before.before.before.args.h ph c.before.before.before.before.args.s.run
+    c.before.before.before.before.args.s.position) c.before.in-Lift.is)
 
 returns-2 : tie.Need-returns-in-Approach
 unfolding leg_of
-returns-2 c = c.approach.ensures ∙ sym (ap (λ (ph : Phase). line_of c.before.before.before.before.before.args.runs.now
-    c.before.before.before.before.before.args.h ph c.before.before.before.before.before.args.s.run
-    c.before.before.before.before.before.args.s.position) c.before.enum_told-in-Approach-1.given.1)
+returns-2 c = c.approach.ensures ∙ sym (ap (λ (ph : Phase). line_of c.before.before.before.before.args.runs.now
+    c.before.before.before.before.args.h ph c.before.before.before.before.args.s.run
+    c.before.before.before.before.args.s.position) c.before.in-Approach.is)
 
 returns-3 : tie.Need-returns-in-Descend
 unfolding leg_of line_of
-returns-3 c = c.line.ensures ∙ sym (ap (λ (ph : Phase). line_of c.before.before.before.before.before.args.runs.now
-    c.before.before.before.before.before.args.h ph c.before.before.before.before.before.args.s.run
-    c.before.before.before.before.before.args.s.position) c.before.enum_told-in-Descend-1.given.1)
+returns-3 c = c.line.ensures ∙ sym (ap (λ (ph : Phase). line_of c.before.before.before.before.args.runs.now
+    c.before.before.before.before.args.h ph c.before.before.before.before.args.s.run
+    c.before.before.before.before.args.s.position) c.before.in-Descend.is)
 
 returns-4 : tie.Need-returns-in-Plunge
 unfolding leg_of
-returns-4 c = c.plunge.ensures ∙ sym (ap (λ (ph : Phase). line_of c.before.before.before.before.before.args.runs.now
-    c.before.before.before.before.before.args.h ph c.before.before.before.before.before.args.s.run
-    c.before.before.before.before.before.args.s.position) c.before.enum_told-in-Plunge-1.given.1)
+returns-4 c = c.plunge.ensures ∙ sym (ap (λ (ph : Phase). line_of c.before.before.before.before.args.runs.now
+    c.before.before.before.before.args.h ph c.before.before.before.before.args.s.run
+    c.before.before.before.before.args.s.position) c.before.in-Plunge.is)
 
 returns-5 : tie.Need-returns-in-Cut
 unfolding leg_of
-returns-5 c = c.cut.ensures ∙ sym (ap (λ (ph : Phase). line_of c.before.before.before.before.before.args.runs.now
-    c.before.before.before.before.before.args.h ph c.before.before.before.before.before.args.s.run
-    c.before.before.before.before.before.args.s.position) c.before.enum_told-in-Cut-1.given.1)
+returns-5 c = c.cut.ensures ∙ sym (ap (λ (ph : Phase). line_of c.before.before.before.before.args.runs.now
+    c.before.before.before.before.args.h ph c.before.before.before.before.args.s.run
+    c.before.before.before.before.args.s.position) c.before.in-Cut.is)
 
 returns-6 : tie.Need-returns-in-Retract
 unfolding leg_of line_of
-returns-6 c = c.line-in-Retract.ensures ∙ ap (λ (z : Float). leg (point c.before.before.before.before.before.before.args.s.position.x
-    c.before.before.before.before.before.before.args.s.position.y z) kind.Retract phase.Rise
-    c.before.before.before.before.before.before.args.s.run) c.before.max-z.ensures
-    ∙ sym (ap (λ (ph : Phase). line_of c.before.before.before.before.before.before.args.runs.now
-    c.before.before.before.before.before.before.args.h ph c.before.before.before.before.before.before.args.s.run
-    c.before.before.before.before.before.before.args.s.position) c.before.before.enum_told-in-Retract-1.given.1)
+returns-6 c = c.line-in-Retract.ensures ∙ ap (λ (z : Float). leg (point c.before.before.before.before.before.args.s.position.x
+    c.before.before.before.before.before.args.s.position.y z) kind.Retract phase.Rise
+    c.before.before.before.before.before.args.s.run) c.before.max-z.ensures
+    ∙ sym (ap (λ (ph : Phase). line_of c.before.before.before.before.before.args.runs.now
+    c.before.before.before.before.before.args.h ph c.before.before.before.before.before.args.s.run
+    c.before.before.before.before.before.args.s.position) c.before.before.in-Retract.is)
 
 returns-7 : tie.Need-returns-in-Rise
 unfolding leg_of
-returns-7 c = c.rise.ensures ∙ sym (ap (λ (ph : Phase). line_of c.before.before.before.before.before.args.runs.now
-    c.before.before.before.before.before.args.h ph c.before.before.before.before.before.args.s.run
-    c.before.before.before.before.before.args.s.position) c.before.enum_told-in-Rise-1.given.1)
+returns-7 c = c.rise.ensures ∙ sym (ap (λ (ph : Phase). line_of c.before.before.before.before.args.runs.now
+    c.before.before.before.before.args.h ph c.before.before.before.before.args.s.run
+    c.before.before.before.before.args.s.position) c.before.in-Rise.is)
 
 returns-8 : tie.Need-returns-in-Ended
 unfolding leg_of line_of
-returns-8 c = c.line-in-Ended.ensures ∙ sym (ap (λ (ph : Phase). line_of c.before.before.before.before.before.args.runs.now
-    c.before.before.before.before.before.args.h ph c.before.before.before.before.before.args.s.run
-    c.before.before.before.before.before.args.s.position) c.before.enum_told-in-Ended-1.given.1)
+returns-8 c = c.line-in-Ended.ensures ∙ sym (ap (λ (ph : Phase). line_of c.before.before.before.before.args.runs.now
+    c.before.before.before.before.args.h ph c.before.before.before.before.args.s.run
+    c.before.before.before.before.args.s.position) c.before.in-Ended.is)
 
 pub leg_of_spec : {M : Type 1} → statement M
 leg_of_spec = tie.close (tie.spec (λ c. search rules) (λ c κs. tt) (λ c. search rules) approach-requires (λ c. search rules) (λ c κs. tt)

@@ -8,27 +8,27 @@ use Rattle.paths.proofs.refusal_of_length.Tie as tie
 
 refusal_of_numbers-requires : tie.Need-refusal_of_numbers-requires
 refusal_of_numbers-requires c κs =
-    let d = c.before.before in
+    let d = c.before in
     let a = d.before.before.before.args in
-    omega (arith, length_fits a.bytes.now a.n _ d.before.shape.ensures (sym c.enum_told-in-Exact-1.given.1 ∙ d.length_rule.ensures))
+    omega (arith, length_fits a.bytes.now a.n _ d.before.shape.ensures (sym c.in-Exact.is ∙ d.length_rule.ensures))
 
 returns : tie.Need-returns-in-Short
 unfolding refuse_length
 returns c =
-    let d = c.before.before in
-    length_refused _ _ _ d.before.shape.ensures _ 19 (sym c.enum_told-1.given.1 ∙ d.length_rule.ensures) refl
+    let d = c.before in
+    length_refused _ _ _ d.before.shape.ensures _ 19 (sym c.in-Short.is ∙ d.length_rule.ensures) refl
 
 returns-2 : tie.Need-returns-in-Surplus
 unfolding refuse_length
 returns-2 c =
-    let d = c.before.before in
-    length_refused _ _ _ d.before.shape.ensures _ 21 (sym c.enum_told-in-Surplus-1.given.1 ∙ d.length_rule.ensures) refl
+    let d = c.before in
+    length_refused _ _ _ d.before.shape.ensures _ 21 (sym c.in-Surplus.is ∙ d.length_rule.ensures) refl
 
 returns-3 : tie.Need-returns-in-Exact
 unfolding refuse_length
 returns-3 c =
-    let d = c.before.before.before in
-    length_refused _ _ _ d.before.shape.ensures _ _ (sym c.before.enum_told-in-Exact-1.given.1 ∙ d.length_rule.ensures) c.refusal_of_numbers.ensures
+    let d = c.before.before in
+    length_refused _ _ _ d.before.shape.ensures _ _ (sym c.before.in-Exact.is ∙ d.length_rule.ensures) c.refusal_of_numbers.ensures
 
 pub refusal_of_length_spec : {M : Type 1} → statement M
 refusal_of_length_spec = tie.close

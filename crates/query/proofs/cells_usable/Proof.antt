@@ -51,9 +51,9 @@ returns : tie.Need-returns-then-not-one invariant-loop decreases-loop
 returns c =
     let t = c.before.before.before.before.before.before in
     let l = t.before.before.before.before.loop-y in
-    let n = c.if-not-one.true in (
+    let n = not-true _ c.if-not-one.true in (
       n
-          ∙ every_stops _ l.y _ _ t.before.before.before.loop-y-test.true (failed _ _ t.row_usable-one.ensures.0 c.if-not-one.true-raw) l.invariant.0,
+          ∙ every_stops _ l.y _ _ t.before.before.before.loop-y-test.true (failed _ _ t.row_usable-one.ensures.0 c.if-not-one.true) l.invariant.0,
       (λ e. absurd (no (sym n ∙ e))),
     )
 
@@ -61,8 +61,8 @@ loop-again : tie.Need-loop-y-preserved invariant-loop decreases-loop
 loop-again c =
     let t = c.before.before.before.before.before.before in
     let l = t.before.before.before.before.loop-y in
-    let k = t.row_usable-one.ensures.1 (c.if-not-one.false) in (
-      every_goes _ l.y _ _ t.before.before.before.loop-y-test.true (passed _ _ t.row_usable-one.ensures.0 c.if-not-one.false-raw) l.invariant.0,
+    let k = t.row_usable-one.ensures.1 (not-false _ c.if-not-one.false) in (
+      every_goes _ l.y _ _ t.before.before.before.loop-y-test.true (passed _ _ t.row_usable-one.ensures.0 c.if-not-one.false) l.invariant.0,
       k.0,
       k.0.size ∙ (sym l.invariant.1.size ∙ l.invariant.2),
       omega (arith, l.invariant.3),

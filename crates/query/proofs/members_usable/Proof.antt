@@ -36,15 +36,15 @@ returns : tie.Need-returns-then-not-one invariant-loop decreases-loop
 returns c =
     let t = c.before.before.before.before.before.before.tested-one in
     let l = c.before.before.before.before.before.before.before.before.before.before.before.loop-j in
-    let n = c.if-not-one.true in
-    (n ∙ each_stops _ _ l.j (omega arith) (failed _ _ t.ensures.0 c.if-not-one.true-raw) l.invariant.0, (λ e. absurd (no (sym n ∙ e))))
+    let n = not-true _ c.if-not-one.true in
+    (n ∙ each_stops _ _ l.j (omega arith) (failed _ _ t.ensures.0 c.if-not-one.true) l.invariant.0, (λ e. absurd (no (sym n ∙ e))))
 
 loop-again : tie.Need-loop-j-preserved invariant-loop decreases-loop
 loop-again c =
     let t = c.before.before.before.before.before.before.tested-one.ensures in
     let l = c.before.before.before.before.before.before.before.before.before.before.before.loop-j in
-    let k = t.1 (c.if-not-one.false) in (
-      each_goes _ _ l.j (omega arith) (passed _ _ t.0 c.if-not-one.false-raw) l.invariant.0,
+    let k = t.1 (not-false _ c.if-not-one.false) in (
+      each_goes _ _ l.j (omega arith) (passed _ _ t.0 c.if-not-one.false) l.invariant.0,
       omega arith,
       omega arith,
       k.0,

@@ -6,11 +6,11 @@ use Rattle.raise.proofs.all_good.Tie as tie
 
 returns : tie.Need-returns-in-Nowhere
 unfolding is_nowhere
-returns c = sym (ap is_nowhere (sym c.before.before.first_bad.ensures ∙ c.enum_told-1.given.1))
+returns c = sym (ap is_nowhere (sym c.before.first_bad.ensures ∙ c.in-Nowhere.is))
 
 returns-2 : tie.Need-returns-in-At
 unfolding is_nowhere
-returns-2 c = sym (ap is_nowhere (sym c.before.before.first_bad.ensures ∙ c.enum_told-in-At-1.given.1))
+returns-2 c = sym (ap is_nowhere (sym c.before.first_bad.ensures ∙ c.in-At.is))
 
 pub all_good_spec : {M : Type 1} → statement M
 all_good_spec = tie.close (tie.spec (λ c κs. tt) (λ c. search rules) (λ c. search rules) returns returns-2)

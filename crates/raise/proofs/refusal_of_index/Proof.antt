@@ -21,7 +21,7 @@ returns c = (search ladder depth 9, refl)
 
 mul-if2 : tie.Need-overflow_mul-n
 mul-if2 c =
-    let r = bool_called _ _ _ c.before.in_ranges.ensures (c.if-not-in_ranges.false) in
+    let r = bool_called _ _ _ c.before.in_ranges.ensures (not-false _ c.if-not-in_ranges.false-raw) in
     record { fits = omega (arith, (in-ranges-is _ r).few) }
 
 returns-2 : tie.Need-returns-then-mesh-n
@@ -31,9 +31,9 @@ returns-2 c = (search ladder depth 9, refl)
 returns-3 : tie.Need-returns-then-not-all_good
 unfolding refusal_of_index told_with
 returns-3 c = (
-  demand_next _ _ _ _ (bool_called _ _ _ c.before.before.before.before.in_ranges.ensures (c.before.before.before.if-not-in_ranges.false))
+  demand_next _ _ _ _ (bool_called _ _ _ c.before.before.before.before.in_ranges.ensures (not-false _ c.before.before.before.if-not-in_ranges.false-raw))
       (demand_next _ _ _ _ (eq-eqb _ _ c.before.before.if-mesh-n.false)
-      (demand_here _ _ _ _ (bool_called _ _ _ c.before.all_good.ensures (c.if-not-all_good.true)) refl)),
+      (demand_here _ _ _ _ (bool_called _ _ _ c.before.all_good.ensures (not-true _ c.if-not-all_good.true-raw)) refl)),
   refl,
 )
 
@@ -44,23 +44,23 @@ last : (c : tie.After-first_high) (k : ℕ) →
 unfolding refusal_of_index
 last c k e =
     demand_next _ _ _ _ (bool_called _ _ _ c.before.before.before.before.before.in_ranges.ensures
-    (c.before.before.before.before.if-not-in_ranges.false))
+    (not-false _ c.before.before.before.before.if-not-in_ranges.false-raw))
     (demand_next _ _ _ _ (eq-eqb _ _ c.before.before.before.if-mesh-n.false)
-    (demand_next _ _ _ _ (bool_called _ _ _ c.before.before.all_good.ensures (c.before.if-not-all_good.false)) e))
+    (demand_next _ _ _ _ (bool_called _ _ _ c.before.before.all_good.ensures (not-false _ c.before.if-not-all_good.false-raw)) e))
 
 returns-4 : tie.Need-returns-in-Nowhere
 unfolding is_nowhere told_with
 returns-4 c =
-    let d = c.before.before in
-    (last d _ (demand_next _ _ _ _ (ap is_nowhere (sym d.first_high.ensures ∙ c.enum_told-1.given.1)) refl), refl)
+    let d = c.before in
+    (last d _ (demand_next _ _ _ _ (ap is_nowhere (sym d.first_high.ensures ∙ c.in-Nowhere.is)) refl), refl)
 
 cast-t12 : tie.Need-overflow_cast-result
 cast-t12 c =
-    let d = c.before.before.before in
-    let s = c.before.before.before.before.before.before.before.before.before.before in
+    let d = c.before in
+    let s = c.before.before.before.before.before.before.before.before in
     omega (
       arith,
-      place_below (lifted s.args.amount s.args.mesh.now) c.before.k-1.given.0.0 (sym d.first_high.ensures ∙ c.before.k-1.given.1),
+      place_below (lifted s.args.amount s.args.mesh.now) c.in-At.k (sym d.first_high.ensures ∙ c.in-At.is),
       lifted_length s.args.amount s.args.mesh.now,
       s.requires,
     )
@@ -68,8 +68,8 @@ cast-t12 c =
 returns-5 : tie.Need-returns-in-At
 unfolding is_nowhere place_of told_with
 returns-5 c =
-    let d = c.before.before.before in
-    let p = sym d.first_high.ensures ∙ c.before.k-1.given.1 in
+    let d = c.before in
+    let p = sym d.first_high.ensures ∙ c.in-At.is in
     (last d _ (demand_here _ _ _ _ (ap is_nowhere p) refl), sym (ap place_of p))
 
 pub refusal_of_index_spec : {M : Type 1} → statement M

@@ -8,17 +8,17 @@ use Rattle.reach.proofs.square_xy.Tie as tie
 
 -- what the test of the weights says of the place
 tested : (c : tie.After-at_least) →
-    let a = c.before.before.before.before.before.args in
+    let a = c.before.before.before.args in
     inside (bary_of a.t a.x a.y) ≡ c.at_least.result
 unfolding inside
 tested c =
-    ap inside (sym c.before.before.before.before.bary.ensures ∙ c.before.before.p-1.given.1) ∙ sym c.at_least.ensures
+    ap inside (sym c.before.before.bary.ensures ∙ c.before.in-At.is) ∙ sym c.at_least.ensures
 
 returns : tie.Need-returns-in-Nowhere
 unfolding square_xy inside
 returns c =
     left _ _ _ _
-    (ap inside (sym c.before.before.before.bary.ensures ∙ c.before.enum_told-1.given.1))
+    (ap inside (sym c.before.before.bary.ensures ∙ c.before.in-Nowhere.is))
     c.edge_square.ensures
 
 returns-2 : tie.Need-returns-then-at_least

@@ -13,11 +13,11 @@ enum_told-2 c = search rules
 
 returns : tie.Need-returns-in-X
 unfolding laid_of
-returns c = rw c.enum_told-1.given.1
+returns c = rw c.in-X.is
 
 returns-2 : tie.Need-returns-in-Y
 unfolding laid_of
-returns-2 c = rw c.enum_told-in-Y-1.given.1
+returns-2 c = rw c.in-Y.is
 
 pub laid_spec : {M : Type 1} → statement M
 laid_spec = tie.close (tie.spec enum_told enum_told-2 returns returns-2)

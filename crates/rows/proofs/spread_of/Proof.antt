@@ -13,11 +13,11 @@ enum_told-2 c = search rules
 
 returns : tie.Need-returns-in-X
 unfolding spread_of
-returns c = rw c.before.before.before.before.enum_told-1.given.1
+returns c = rw c.before.before.before.before.in-X.is
 
 returns-2 : tie.Need-returns-in-Y
 unfolding spread_of
-returns-2 c = rw c.before.before.before.before.enum_told-in-Y-1.given.1
+returns-2 c = rw c.before.before.before.before.in-Y.is
 
 pub spread_of_spec : {M : Type 1} → statement M
 spread_of_spec = tie.close (tie.spec enum_told enum_told-2 returns returns-2)

@@ -11,7 +11,7 @@ use Rattle.runs.proofs.length.Reads as length-reads
 use Rattle.runs.proofs.on_to.Reads as on-to-reads
 
 returns : tie.Need-returns-then-not-y
-returns c = closed_none _ _ (c.if-not-y.true)
+returns c = closed_none _ _ (not-true _ c.if-not-y.true)
 
 on_to-requires : tie.Need-on_to-more-requires
 on_to-requires c κs = search rules
@@ -26,7 +26,7 @@ same_length : tie.Need-shape_of-runs
 same_length c = search rules
 
 returns-2 : tie.Need-returns
-returns-2 c = closed_is _ _ _ _ _ (c.before.before.before.before.before.before.before.before.if-not-y.false)
+returns-2 c = closed_is _ _ _ _ _ (not-false _ c.before.before.before.before.before.before.before.before.if-not-y.false)
     c.before.before.before.before.put.ensures c.before.before.before.before.before.before.on_to-more.ensures c.before.length.ensures
 
 pub close_spec : {M : Type 1} → statement M

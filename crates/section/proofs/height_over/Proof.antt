@@ -6,11 +6,11 @@ use Rattle.section.proofs.height_over.Tie as tie
 
 returns : tie.Need-returns-in-Beyond
 unfolding height_over
-returns c = ap height_over (sym c.enum_told-1.given.1)
+returns c = ap height_over (sym c.in-Beyond.is)
 
 returns-2 : tie.Need-returns-in-Over
 unfolding height_over
-returns-2 c = ap height_over (sym c.before.h-1.given.1)
+returns-2 c = ap height_over (sym c.in-Over.is)
 
 pub height_over_spec : {M : Type 1} → statement M
 height_over_spec = tie.close (tie.spec (λ c. search rules) (λ c. search rules) returns returns-2)

@@ -4,10 +4,10 @@ use Rattle.section.proofs.stretch_of.Statement.{statement}
 use Rattle.section.proofs.stretch_of.Tie as tie
 
 returns : tie.Need-returns-in-Nowhere
-returns c = stretch_none _ _ _ _ _ _ c.enum_told-1.given.1
+returns c = stretch_none _ _ _ _ _ _ c.in-Nowhere.is
 
 returns-2 : tie.Need-returns-in-Between
-returns-2 c = stretch_some _ _ _ _ _ _ _ _ _ c.before.before.part-1.given.1 c.bounded.ensures
+returns-2 c = stretch_some _ _ _ _ _ _ _ _ _ c.before.in-Between.is c.bounded.ensures
 
 pub stretch_of_spec : {M : Type 1} → statement M
-stretch_of_spec = tie.close (tie.spec (λ c. search rules) (λ c. search rules) (λ c κs. c.before.before.before.requires) returns returns-2)
+stretch_of_spec = tie.close (tie.spec (λ c. search rules) (λ c. search rules) (λ c κs. c.before.requires) returns returns-2)

@@ -6,11 +6,11 @@ use Rattle.section.proofs.under.Tie as tie
 
 returns : tie.Need-returns-in-Beyond
 unfolding section_under
-returns c = ap (section_under _ _) (sym c.enum_told-1.given.1)
+returns c = ap (section_under _ _) (sym c.in-Beyond.is)
 
 returns-2 : tie.Need-returns-in-Over
 unfolding section_under
-returns-2 c = ap (section_under _ _) (sym c.before.h-1.given.1)
+returns-2 c = ap (section_under _ _) (sym c.in-Over.is)
 
 pub under_spec : {M : Type 1} → statement M
 under_spec = tie.close (tie.spec (λ c. search rules) (λ c. search rules) returns returns-2)

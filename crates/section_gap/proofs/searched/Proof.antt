@@ -8,11 +8,11 @@ use Rattle.section_gap.proofs.searched.Tie as tie
 
 returns : tie.Need-returns-in-Nowhere
 unfolding section_searched
-returns c = ap (section_searched _ _ _) (sym c.enum_told-1.given.1)
+returns c = ap (section_searched _ _ _) (sym c.in-Nowhere.is)
 
 returns-2 : tie.Need-returns-in-Between
 unfolding section_searched
-returns-2 c = ap (lt f0) c.bound.ensures ∙ ap (section_searched _ _ _) (sym c.before.before.s-1.given.1)
+returns-2 c = ap (lt f0) c.bound.ensures ∙ ap (section_searched _ _ _) (sym c.before.in-Between.is)
 
 pub searched_spec : {M : Type 1} → statement M
 searched_spec = tie.close (tie.spec (λ c. search rules) (λ c. search rules) (λ c κs. tt) returns returns-2)

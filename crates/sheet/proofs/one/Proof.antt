@@ -8,11 +8,11 @@ use Rattle.sheet.proofs.one.Tie as tie
 
 returns : tie.Need-returns-in-Absent
 unfolding listed
-returns c = (ap (λ q. length (listed q)) (sym c.enum_told-1.given.1), omega arith)
+returns c = (ap (λ q. length (listed q)) (sym c.in-Absent.is), omega arith)
 
 returns-2 : tie.Need-returns-in-There
 unfolding listed
-returns-2 c = (ap (λ q. length (listed q)) (sym c.enum_told-in-There-1.given.1), omega arith)
+returns-2 c = (ap (λ q. length (listed q)) (sym c.in-There.is), omega arith)
 
 pub one_spec : {M : Type 1} → statement M
 one_spec = tie.close (tie.spec (λ c. search rules) (λ c. search rules) returns returns-2)

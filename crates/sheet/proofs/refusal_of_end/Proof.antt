@@ -7,11 +7,11 @@ use Rattle.sheet.proofs.refusal_of_end.Tie as tie
 
 returns : tie.Need-returns-in-Absent
 unfolding refusal_of_end is_absent
-returns c = refuse_here _ 24 _ _ (ap is_absent c.enum_told-1.given.1) refl
+returns c = refuse_here _ 24 _ _ (ap is_absent c.in-Absent.is) refl
 
 returns-2 : tie.Need-returns-in-There
 unfolding refusal_of_end is_absent
-returns-2 c = refuse_next _ 24 _ _ (ap is_absent c.before.enum_told-in-There-1.given.1) c.refusal_of_list.ensures
+returns-2 c = refuse_next _ 24 _ _ (ap is_absent c.before.in-There.is) c.refusal_of_list.ensures
 
 pub refusal_of_end_spec : {M : Type 1} → statement M
 refusal_of_end_spec = tie.close (tie.spec (λ c. search rules) (λ c. search rules) (λ c κs. tt) returns returns-2)

@@ -8,27 +8,27 @@ use Rattle.stl.proofs.refusal_of_length.Tie as tie
 
 refusal_of_numbers-requires : tie.Need-refusal_of_numbers-requires
 refusal_of_numbers-requires c κs =
-    let d = c.before.before in
+    let d = c.before in
     let a = d.before.before.before.args in
-    omega (arith, exact_bytes a.bytes.now a.n (sym c.enum_told-in-Exact-1.given.1 ∙ ruled _ _ _ _ d.before.shape.ensures d.length_rule.ensures))
+    omega (arith, exact_bytes a.bytes.now a.n (sym c.in-Exact.is ∙ ruled _ _ _ _ d.before.shape.ensures d.length_rule.ensures))
 
 returns : tie.Need-returns-in-Short
 unfolding refuse_length
 returns c =
-    let d = c.before.before in
-    rung _ _ _ _ (sym c.enum_told-1.given.1 ∙ ruled _ _ _ _ d.before.shape.ensures d.length_rule.ensures) refl
+    let d = c.before in
+    rung _ _ _ _ (sym c.in-Short.is ∙ ruled _ _ _ _ d.before.shape.ensures d.length_rule.ensures) refl
 
 returns-2 : tie.Need-returns-in-Surplus
 unfolding refuse_length
 returns-2 c =
-    let d = c.before.before in
-    rung _ _ _ _ (sym c.enum_told-in-Surplus-1.given.1 ∙ ruled _ _ _ _ d.before.shape.ensures d.length_rule.ensures) refl
+    let d = c.before in
+    rung _ _ _ _ (sym c.in-Surplus.is ∙ ruled _ _ _ _ d.before.shape.ensures d.length_rule.ensures) refl
 
 returns-3 : tie.Need-returns-in-Exact
 unfolding refuse_length
 returns-3 c =
-    let d = c.before.before.before in
-    rung _ _ _ _ (sym c.before.enum_told-in-Exact-1.given.1 ∙ ruled _ _ _ _ d.before.shape.ensures d.length_rule.ensures) c.refusal_of_numbers.ensures
+    let d = c.before.before in
+    rung _ _ _ _ (sym c.before.in-Exact.is ∙ ruled _ _ _ _ d.before.shape.ensures d.length_rule.ensures) c.refusal_of_numbers.ensures
 
 pub refusal_of_length_spec : {M : Type 1} → statement M
 refusal_of_length_spec = tie.close

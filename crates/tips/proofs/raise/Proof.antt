@@ -16,19 +16,19 @@ of_kind mesh boxes table s k best r i e p = p ∙ ap (λ (x : Shape). shape_step
 
 returns : tie.Need-returns-in-Nose
 unfolding shape_step
-returns c = of_kind _ _ _ _ _ _ _ _ c.before.before.shape-1.given.1 c.raise_bull.ensures
+returns c = of_kind _ _ _ _ _ _ _ _ c.before.in-Nose.is c.raise_bull.ensures
 
 returns-2 : tie.Need-returns-in-Sections
 unfolding shape_step
-returns-2 c = of_kind _ _ _ _ _ _ _ _ c.before.before.shape-in-Sections-1.given.1 c.raise_tool.ensures
+returns-2 c = of_kind _ _ _ _ _ _ _ _ c.before.in-Sections.is c.raise_tool.ensures
 
 returns-3 : tie.Need-returns-in-Guess
 unfolding shape_step
-returns-3 c = of_kind _ _ _ _ _ _ _ _ c.before.before.shape-in-Guess-1.given.1 c.raise_guess.ensures
+returns-3 c = of_kind _ _ _ _ _ _ _ _ c.before.in-Guess.is c.raise_guess.ensures
 
 returns-4 : tie.Need-returns-in-From
 unfolding shape_step
-returns-4 c = of_kind _ _ _ _ _ _ _ _ c.before.before.shape-in-From-1.given.1 c.raise_from.ensures
+returns-4 c = of_kind _ _ _ _ _ _ _ _ c.before.in-From.is c.raise_from.ensures
 
 pub raise_spec : {M : Type 1} → statement M
 raise_spec =

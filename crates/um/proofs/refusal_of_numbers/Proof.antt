@@ -29,29 +29,29 @@ unfolding refusal_of_numbers
 last c k h =
     let two = c.before in
     let one = two.before.before in
-    demand_next _ _ _ _ (bool_called _ _ _ one.before.is_coordinate.ensures (one.if-not-is_coordinate.false))
-    (demand_next _ _ _ _ (bool_called _ _ _ two.before.is_radius.ensures (two.if-not-is_radius.false)) h)
+    demand_next _ _ _ _ (bool_called _ _ _ one.before.is_coordinate.ensures (not-false _ one.if-not-is_coordinate.false-raw))
+    (demand_next _ _ _ _ (bool_called _ _ _ two.before.is_radius.ensures (not-false _ two.if-not-is_radius.false-raw)) h)
 
 returns-3 : tie.Need-returns-in-Nowhere
 unfolding somewhere told_with
 returns-3 c =
-    let d = c.before.before in
-    (last d _ (refuse_next _ _ _ _ (ap somewhere (sym d.first_bad.ensures ∙ c.enum_told-1.given.1)) refl), refl)
+    let d = c.before in
+    (last d _ (refuse_next _ _ _ _ (ap somewhere (sym d.first_bad.ensures ∙ c.in-Nowhere.is)) refl), refl)
 
 cast-place : tie.Need-overflow_cast-result
 cast-place c =
-    let d = c.before.before.before in
+    let d = c.before in
     omega (
       arith,
-      place_below d.before.before.before.before.before.args.mesh.now c.before.k-1.given.0.0 (sym d.first_bad.ensures
-          ∙ c.before.k-1.given.1),
+      place_below d.before.before.before.before.before.args.mesh.now c.in-At.k (sym d.first_bad.ensures
+          ∙ c.in-At.is),
     )
 
 returns-4 : tie.Need-returns-in-At
 unfolding somewhere place_of told_with
 returns-4 c =
-    let d = c.before.before.before in
-    let p = sym d.first_bad.ensures ∙ c.before.k-1.given.1 in
+    let d = c.before in
+    let p = sym d.first_bad.ensures ∙ c.in-At.is in
     (last d _ (refuse_here _ _ _ _ (ap somewhere p) refl), sym (ap place_of p))
 
 pub refusal_of_numbers_spec : {M : Type 1} → statement M
