@@ -46,6 +46,7 @@ module _ (test : ℕ → Bool) where
   -- nothing was found where nothing passes
   pub none : (k c : ℕ) → somewhere (first_where test k c) ≡ false → (i : ℕ) → i < c → test (k + i) ≡ false
   unfolding first_where somewhere
+  none k zero e i h = elim h [ ]
   none k (suc c) e zero h = by_test (test k) (λ t. absurd (no (sym (rw t at e)))) (λ t. rw add-zero t)
   none k (suc c) e (suc i) h =
       let s : k + suc i ≡ k + 1 + i = omega arith in
@@ -54,6 +55,7 @@ module _ (test : ℕ → Bool) where
   -- something is found where something passes
   pub some : (k c i : ℕ) → i < c → test (k + i) ≡ true → somewhere (first_where test k c) ≡ true
   unfolding first_where somewhere
+  some k zero i h e = elim h [ ]
   some k (suc c) zero h e = let t : test k ≡ true = rw add-zero at e in rw t
   some k (suc c) (suc i) h e =
       let s : k + suc i ≡ k + 1 + i = omega arith in

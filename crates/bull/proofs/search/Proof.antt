@@ -13,7 +13,7 @@ use Rattle.bull.proofs.search.Tie as tie
 returns : tie.Need-returns-then-cap-m
 returns c =
     let a = c.before.before.before.before.before.before in
-    let w = c.before.before.before.before.before.Way-of.ensures in
+    let w = c.before.before.before.before.before.way_of-w.ensures in
     let m : c.before.max-m.result ≡ max_of (bull_at a.args.k a.args.e a.args.lo) (bull_at a.args.k a.args.e a.args.hi) =
     c.before.max-m.ensures ∙ ap (λ (x : Float). max_of x c.before.before.at.result) (way_at_lem _ _ _ _ _ w c.before.before.before.at-low.ensures)
     ∙ ap (max_of (bull_at a.args.k a.args.e a.args.lo)) (way_at_lem _ _ _ _ _ w c.before.before.at.ensures) in
@@ -26,14 +26,14 @@ search_on-requires : tie.Need-search_on-requires
 search_on-requires c κs =
     record {
       base_is = c.before.before.before.before.before.before.requires.0;
-      way_is = c.before.before.before.before.before.Way-of.ensures;
+      way_is = c.before.before.before.before.before.way_of-w.ensures;
       flat_to = c.before.before.before.before.flat_of-flat.ensures;
       ends = c.before.max-m.ensures ∙ ap (λ (x : Float). max_of x c.before.before.at.result) c.before.before.before.at-low.ensures
           ∙ ap (max_of _) c.before.before.at.ensures;
     }
 
 returns-2 : tie.Need-returns
-returns-2 c = along_way _ _ _ _ _ _ _ c.before.before.before.before.before.before.Way-of.ensures c.search_on.ensures
+returns-2 c = along_way _ _ _ _ _ _ _ c.before.before.before.before.before.before.way_of-w.ensures c.search_on.ensures
 
 pub search_spec : {M : Type 1} → statement M
 search_spec = tie.close (tie.spec (λ c κs. tt) (λ c κs. tt) (λ c κs. c.flat_of-flat.ensures) (λ c κs. c.before.flat_of-flat.ensures)

@@ -7,7 +7,7 @@ returns : tie.Need-returns-then-plain-2
 unfolding ranges_miss
 returns c = taken _ _ _ _ (bool_called _ _ _ c.before.before.before.before.before.before.plain.ensures
     c.before.before.before.before.before.if-plain.true) (taken _ _ _ _ (bool_called _ _ _ c.before.before.before.before.plain-then-plain.ensures
-    c.before.before.before.if-plain-2.true) (rw (c.outside.ensures, c.before.span_of-then-plain-2.ensures, c.before.before.Span-of.ensures)))
+    c.before.before.before.if-plain-2.true) (rw (c.outside.ensures, c.before.span_of-then-plain-2.ensures, c.before.before.span_of.ensures)))
 
 returns-2 : tie.Need-returns-else-plain-2
 unfolding ranges_miss

@@ -24,7 +24,7 @@ loop-again c =
     let g = c.before.before.before in
     let a = g.before.args in (
       search rules,
-      turn _ (crossed a.k) (edges a.t) g.loop-i.i _ _ _ _ (search rules) c.before.Edge-of.ensures
+      turn _ (crossed a.k) (edges a.t) g.loop-i.i _ _ _ _ (search rules) c.before.edge_of.ensures
           c.offer_crossings-b.ensures g.loop-i.invariant.1,
     )
 

@@ -13,17 +13,17 @@ use Rattle.chords.proofs.bull_chord_clear.Statement.{statement}
 use Rattle.chords.proofs.bull_chord_clear.Tie as tie
 
 refusal-requires : tie.Need-refusal-heard-requires
-refusal-requires c κs = let i = inside _ _ _ _ _ _ _ c.before.before.before.before.patch_of-p.ensures in (i.0, i.1, refl)
+refusal-requires c κs = let i = inside _ _ _ _ _ _ _ c.before.before.before.patch_of-p.ensures in (i.0, i.1, refl)
 
 returns : tie.Need-returns-then-n-ne0
 returns c =
-    let d = c.before.before.before.before.before.before in
+    let d = c.before.before.before.before.before in
     bull_answers _ _ _ _ _ _ _ _ _ _ _ d.before.before.patch_of-p.ensures d.before.is_ride-asked.ensures d.is_corner-corner.ensures
     (ended_is _ _ _ _ c.refused.ensures (chord_refused _ _ _ _ _ _ _ c.before.before.before.refusal-heard.ensures.0 _ _ c.before.if-n-ne0.true))
 
 returns-2 : tie.Need-returns-then-blocked_at_once
 returns-2 c =
-    let d = c.before.before.before.before.before.before.before.before in
+    let d = c.before.before.before.before.before.before.before in
     bull_answers _ _ _ _ _ _ _ _ _ _ _ d.before.before.patch_of-p.ensures d.before.is_ride-asked.ensures d.is_corner-corner.ensures
     (ended_is _ _ _ _ c.blocked.ensures
     (chord_early _ _ _ _ _ _ _ c.before.before.before.before.before.refusal-heard.ensures.0 _ _ c.before.before.before.if-n-ne0.false
@@ -39,14 +39,14 @@ chase-requires c κs =
     c.before.narrowed.ensures in
     ready _ _ _ _ _ _ _ e.0 {A = Bool} _ _ true n.if-n-ne0.false
     c.before.before.before.before.before.before.before.before.before.before.next_stamp-next.ensures.1
-    (inside _ _ _ _ _ _ _ n.before.before.before.before.before.before.before.patch_of-p.ensures) w
+    (inside _ _ _ _ _ _ _ n.before.before.before.before.before.before.patch_of-p.ensures) w
 
 returns-3 : tie.Need-returns
 unfolding bull_blocks_at shape_blocks_at shape_blocks
 returns-3 c =
     let k = c.before.before.before.before.before in
     let n = k.before.before.before.before.before.before.before.before.before.before.before.before.before in
-    let d = n.before.before.before.before.before in
+    let d = n.before.before.before.before in
     let e = n.before.before.refusal-heard.ensures in
     let x = c.before.before.before.before.before.before.before.before.before.before.before.before.before.before.next_stamp-next.ensures in
     let w = narrow _ _ _ _ _ (λ t. e.1.1 n.if-n-ne0.false (leb-true _ _ t)) _ _ _ k.before.before.before.before.one_of.ensures

@@ -15,11 +15,11 @@ of_kind top m s k z tip e f g = ap (le z) f ∙ g ∙ ap (is_under top m) (sym e
 
 returns : tie.Need-returns-in-Nose
 unfolding is_under
-returns c = of_kind _ _ _ _ _ _ c.in-Nose.is c.before.min-tip.ensures refl
+returns c = of_kind _ c.args.m _ _ _ _ c.in-Nose.is c.before.min-tip.ensures refl
 
 returns-2 : tie.Need-returns-in-Sections
 unfolding is_under
-returns-2 c = of_kind _ _ _ _ _ _ c.in-Sections.is c.before.min-tip.ensures refl
+returns-2 c = of_kind _ c.args.m _ _ _ _ c.in-Sections.is c.before.min-tip.ensures refl
 
 pub is_under_spec : {M : Type 1} → statement M
 is_under_spec = tie.close (tie.spec (λ c κs. tt) (λ c. search rules) (λ c. search rules) returns returns-2)

@@ -11,7 +11,7 @@ returns : tie.Need-returns-then-k-ne0
 returns c =
     let b = c.before.before.before.before.before.before.before.before.before.before.build-b in
     let some = c.before.before.if-k-ne0.true in (
-      refused_left (outcome b.result b.new.1.1.1.0 b.new.1.1.1.1.0 b.new.1.1.1.1.1.0) some
+      refused_left (outcome b.result b.new.starts b.new.members b.new.boxes) some
           ∙ ap built_left_by b.ensures.0,
       record { sound = λ none. absurd (some none); built = λ none. absurd (some none) },
     )
@@ -36,7 +36,7 @@ unfolding header_from
 returns-2 c =
     let b = c.before.before.before.before.before.before.before.before.before.before.before.before.before.before.build-b in
     let zero = c.before.before.before.before.before.before.if-k-ne0.false in (
-      accepted_left (outcome b.result b.new.1.1.1.0 b.new.1.1.1.1.0 b.new.1.1.1.1.1.0) zero
+      accepted_left (outcome b.result b.new.starts b.new.members b.new.boxes) zero
           ∙ ap built_left_by b.ensures.0,
       b.ensures.1,
     )

@@ -5,7 +5,7 @@ use Rattle.desk_moves.proofs.mandrikelo_moves_next.Tie as tie
 returns : tie.Need-returns-then-k-ne0
 returns c =
     let i = c.before.before.before in
-    next_held _ _ _ _ i.before.before.before.next_from-a.ensures _ _ _ i.before.before.end_of.ensures i.before.kind_of-kind.ensures
+    next_held _ _ _ _ i.before.before.before.next_from-a.ensures _ _ _ i.before.before.end_of-e.ensures i.before.kind_of-kind.ensures
     i.id_of-id.ensures c.if-k-ne0.true
 
 returns-2 : tie.Need-returns
@@ -13,7 +13,7 @@ returns-2 c =
     let n = c.before.before in
     let o = n.before.before.before in
     let i = o.before.before.before in
-    next_laid _ _ _ _ i.before.before.before.next_from-a.ensures _ _ _ i.before.before.end_of.ensures
+    next_laid _ _ _ _ i.before.before.before.next_from-a.ensures _ _ _ i.before.before.end_of-e.ensures
     i.before.kind_of-kind.ensures i.id_of-id.ensures
     o.if-k-ne0.false _ n.phase_number-number.ensures
 

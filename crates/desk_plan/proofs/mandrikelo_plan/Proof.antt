@@ -27,7 +27,7 @@ returns c =
     → NothingLost (index_of a.mesh.now h a.starts.now a.members.now a.boxes.now) p (axis_from a.axis) q.result in
     let f = subst (λ (p : Parameters). lost (header_from a.measures.now a.sizes.now) p) b.parameters_from-p.ensures
     (subst (λ (h : Header). lost h b.parameters_from-p.result) b.before.header_from-h.ensures q.ensures.1) in
-    let o = outcome q.result q.new.1.1.1.1.1.1.0 q.new.1.1.1.1.1.1.1.0 q.new.1.1.1.1.1.0 in (
+    let o = outcome q.result q.new.levels q.new.runs q.new.marks in (
       laid o _ _ _ n.before.before.narrow-level_count.ensures n.before.narrow-row_count.ensures n.narrow-run_count.ensures ∙ ap plan_left_by e,
       (along_never _ _ _ _ _ _ o e, lost_laid _ _ _ q.result _ refl refl f),
     )

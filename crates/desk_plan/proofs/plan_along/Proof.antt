@@ -17,7 +17,7 @@ returns-2 c =
 
 returns-3 : tie.Need-returns
 returns-3 c =
-    let e = c.before.before.before in (
+    let e = c.before.before in (
       along_none _ _ _ _ _ _ _ _ e.before.if-axis-eq0.false e.if-axis-eq1.false c.before.no_axis.ensures c.refused.ensures,
       lost_none _ _ _ _ _ _ c.before.no_axis.ensures c.refused.ensures,
     )

@@ -23,7 +23,7 @@ returns c =
     let w = c.before.before.before.before.before.before.before.before in
     let b = w.build_um-b in
     let some = c.before.before.if-k-ne0.true in (
-      refused_left _ _ _ _ _ _ _ (floor_is w) (radius_counted w) (outcome b.result b.new.1.1.1.0 b.new.1.1.1.1.0) b.ensures.0 some,
+      refused_left _ _ _ _ _ _ _ (floor_is w) (radius_counted w) (outcome b.result b.new.starts b.new.members) b.ensures.0 some,
       record { sound = λ none. absurd (some none); built = λ none. absurd (some none) },
     )
 
@@ -55,7 +55,7 @@ returns-2 c =
     let f = again _ c.before.before.before.before.before.before.before.number-f.type_inv
     ∙ c.before.before.before.before.before.before.before.number-f.ensures in
     let r = again _ c.before.before.before.before.before.before.number-q.type_inv ∙ c.before.before.before.before.before.before.number-q.ensures in (
-      accepted_left _ _ _ _ _ _ _ (floor_is w) (radius_counted w) (outcome b.result b.new.1.1.1.0 b.new.1.1.1.1.0)
+      accepted_left _ _ _ _ _ _ _ (floor_is w) (radius_counted w) (outcome b.result b.new.starts b.new.members)
           b.ensures.0 none _ _ _ _ x y f r,
       promise_left _ _ _ _ b.result.header _ _ _ _ x y f r (narrow b.result.header (b.ensures.1.sound none).ranges) b.ensures.1,
     )

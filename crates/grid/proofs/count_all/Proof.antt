@@ -26,7 +26,7 @@ count_cells-requires c κs =
     let s = c.before.before.before.before.before.before in
     let l = c.before.before.before.loop-i in
     let lt : l.i < s.args.n = omega arith in
-    subst⁻¹ (λ (b : Cells). Fitting s.args.g.columns b × Countable (covers s.args.g.columns b) l.starts) c.Cells-of.ensures (
+    subst⁻¹ (λ (b : Cells). Fitting s.args.g.columns b × Countable (covers s.args.g.columns b) l.starts) c.cells_of.ensures (
       fitting _ _ _ s.requires.0 l.i,
       λ k e. omega (
         arith,
@@ -43,7 +43,7 @@ loop-again : tie.Need-loop-i-preserved invariant-loop decreases-loop
 loop-again c =
     let d = c.before.before.before in
     let l = d.before.before.before.loop-i in
-    (counted_all_more _ _ _ _ _ l.invariant.0 (rw d.Cells-of.ensures at c.before.before.count_cells.ensures), omega arith)
+    (counted_all_more _ _ _ _ _ l.invariant.0 (rw d.cells_of.ensures at c.before.before.count_cells.ensures), omega arith)
 
 returns : tie.Need-returns invariant-loop decreases-loop
 returns c = counted_all_as _ _ _ _ _ (omega arith) c.before.loop-i.invariant.0

@@ -33,7 +33,7 @@ place_cells-requires c κs =
     let s = c.before.before.before.before.before.before.before.before in
     let l = c.before.before.before.before.loop-i in
     let h : l.i - 1 < s.args.n = omega arith in
-    subst⁻¹ (λ (b : Cells). Fitting s.args.g.columns b × Open (covers s.args.g.columns b) l.starts l.members) c.Cells-of.ensures
+    subst⁻¹ (λ (b : Cells). Fitting s.args.g.columns b × Open (covers s.args.g.columns b) l.starts l.members) c.cells_of.ensures
     (fitting _ _ _ s.requires.0 (l.i - 1), filled_open _ _ _ _ _ s.requires.1 _ _ _ h (filled_as _ _ _ _ _ _ _ _ _ (omega arith) l.invariant.0))
 
 loop-again : tie.Need-loop-i-preserved invariant-loop decreases-loop
@@ -44,7 +44,7 @@ loop-again c =
     let l = d.before.before.before.before.loop-i in
     let h : l.i - 1 < s.args.n = omega arith in (
       filled_more _ _ _ _ _ s.requires.1 _ _ _ _ _ h (filled_as _ _ _ _ _ _ _ _ _ (omega arith) l.invariant.0)
-          (rw d.Cells-of.ensures at f.place_cells.ensures),
+          (rw d.cells_of.ensures at f.place_cells.ensures),
       omega arith,
     )
 

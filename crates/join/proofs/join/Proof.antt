@@ -10,7 +10,7 @@ returns c = promised _ _ (refused _ _ c.before.refusal-k.ensures c.if-k-ne0.true
 clear_behind-requires : tie.Need-clear_behind-requires
 clear_behind-requires c κs =
     let d = c.before.before.before in
-    omega (arith, fit d.before.before.before.before.before.before.args.runs.now, d.join_all-count.ensures.1)
+    omega (arith, fit d.before.before.before.before.before.args.runs.now, d.join_all-count.ensures.1)
 
 returns-2 : tie.Need-returns
 returns-2 c =

@@ -41,8 +41,8 @@ loop-less c = omega arith
 loop-again : tie.Need-loop-m-preserved invariant-loop decreases-loop
 loop-again c =
     let d = c.before.before in
-    let l = d.before.before.before.before.before.loop-m in (
-      taken_goes _ l.m (work l.runs l.y) l.invariant.0 _ (work d.take-y.new.0 d.take-y.result) d.before.run_at.ensures d.take-y.ensures,
+    let l = d.before.before.before.before.loop-m in (
+      taken_goes _ l.m (work l.runs l.y) l.invariant.0 _ (work d.take-y.new.runs d.take-y.result) d.before.run_at.ensures d.take-y.ensures,
       omega arith,
       omega arith,
       omega arith,

@@ -28,24 +28,24 @@ sort-requires c κs =
 
 collect-requires : tie.Need-collect-requires
 collect-requires c κs =
-    let s = c.before.before.before.before.before.before.before.before.before.before.before.before.before.before in
-    let g = c.before.before.before.before.before.before.before.before.gather-k.ensures in
+    let s = c.before.before.before.before.before.before.before.before.before.before.before.before.before in
+    let g = c.before.before.before.before.before.before.before.gather-k.ensures in
     let f = flats_few s.args.mesh.now s.args.tolerance (s.args.floor ⊕ s.args.level_tolerance) (length s.args.list.now) in
-    (omega (arith, s.requires.0), c.before.before.before.before.sort.ensures.1, omega (arith, s.requires.1, g.0), omega (arith, s.requires.2))
+    (omega (arith, s.requires.0), c.before.before.before.sort.ensures.1, omega (arith, s.requires.1, g.0), omega (arith, s.requires.2))
 
 returns : tie.Need-returns
 unfolding levels_of
 returns c =
-    let s = c.before.before.before.before.before.before.before.before.before.before.before.before.before.before.before.before.before in
-    let g = c.before.before.before.before.before.before.before.before.before.before.before.gather-k.ensures in
+    let s = c.before.before.before.before.before.before.before.before.before.before.before.before.before.before.before.before in
+    let g = c.before.before.before.before.before.before.before.before.before.before.gather-k.ensures in
     let t = sorted_front s.args.mesh.now _ s.args.tolerance s.args.level_tolerance s.args.floor _ _ _ _ g.0 g.1
-    c.before.before.before.before.before.before.before.sort.ensures.0 in
+    c.before.before.before.before.before.before.sort.ensures.0 in
     let e = c.before.before.collect.ensures in (
       e.0 ∙ ap (λ (is : List ℕ). written (map five_of (levels_from s.args.mesh.now s.args.boxes.now s.args.level_tolerance is))
           s.args.levels.now) t,
       e.1 ∙ ap (λ (is : List ℕ). length (levels_from s.args.mesh.now s.args.boxes.now s.args.level_tolerance is)) t,
       sorted_whole s.args.mesh.now _ s.args.tolerance s.args.level_tolerance s.args.floor _ _ _ _ g.0 g.1
-          c.before.before.before.before.before.before.before.sort.ensures.0,
+          c.before.before.before.before.before.before.sort.ensures.0,
     )
 
 pub find_levels_spec : {M : Type 1} → statement M

@@ -16,5 +16,5 @@ returns c =
     (a then b.0 then d.0 then e.0 then f.0, omega (arith, a.ends, b.1, d.1, e.1, f.1))
 
 pub head_line_spec : {M : Type 1} → statement M
-head_line_spec = tie.close (tie.spec (λ c. search rules) (λ c κs. search rules) (λ c κs. search rules) (λ c κs. search rules) (λ c κs. search rules)
+head_line_spec = tie.close (tie.spec (λ c κs. search rules) (λ c κs. search rules) (λ c κs. search rules) (λ c κs. search rules)
     (λ c κs. search rules) (λ c. search rules) returns)

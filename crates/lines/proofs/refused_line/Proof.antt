@@ -13,4 +13,4 @@ returns c =
     (a then b.0, omega (arith, a.ends, b.1))
 
 pub refused_line_spec : {M : Type 1} → statement M
-refused_line_spec = tie.close (tie.spec (λ c. search rules) (λ c κs. search rules) (λ c κs. search rules) (λ c. search rules) returns)
+refused_line_spec = tie.close (tie.spec (λ c κs. search rules) (λ c κs. search rules) (λ c. search rules) returns)

@@ -44,8 +44,8 @@ loop-again c =
       told_more l.invariant.0 (answers_more _ _ _ _ _ l.i _ _ t a.ensures) w.ensures.0,
       omega (arith, t),
       omega (arith, l.invariant, w.ensures.1),
-      w.auto.0 ∙ l.invariant.3,
-      a.auto.1.1.1.1.1.0 ∙ l.invariant.4,
+      w.auto.out ∙ l.invariant.3,
+      a.auto.marks ∙ l.invariant.4,
     )
 
 same_length : tie.Need-shape_of-marks invariant-loop decreases-loop

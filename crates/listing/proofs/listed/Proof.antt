@@ -16,26 +16,26 @@ returns c =
     )
 
 slice_aggregate-answers-3 : tie.Need-slice_bounds-answers-end-3
-slice_aggregate-answers-3 c = sym (length-take-le _ _ c.before.before.before.before.before.before.before.before.before.before.before.before.before.before.before.before.before.before.before.before.before.before.before.requires.0)
+slice_aggregate-answers-3 c = sym (length-take-le _ _ c.before.before.before.before.before.before.before.before.before.before.before.before.before.before.before.before.before.before.before.before.before.before.requires.0)
 
 answers-requires : tie.Need-answers-requires
 answers-requires c κs =
-    let s = c.before.before.before.before.before.before.before.before.before.before.before.before.before.before.before.before.before.before.before.before.before.before.before.before in
-    let w = c.before.before.before.before.before.before.before.head_line-at in
-    (s.pre.2, omega (arith, s.pre, w.ensures.1, w.auto.0))
+    let s = c.before.before.before.before.before.before.before.before.before.before.before.before.before.before.before.before.before.before.before.before.before.before.before in
+    let w = c.before.before.before.before.before.before.head_line-at in
+    (s.requires.2, omega (arith, s.requires, w.ensures.1, w.auto.out))
 
 returns-2 : tie.Need-returns
 returns-2 c =
     let a = c.before.before.before.answers.ensures in
-    let w = c.before.before.before.before.before.before.before.before.before.before.before.head_line-at.ensures in (
-      built_told _ _ _ _ _ _ _ _ _ _ _ c.before.before.before.before.before.before.before.before.before.before.before.before.before.before.before.before.before.before.before.before.build-b.ensures.0 256 _ _ _ _ _
-          c.before.before.before.before.before.before.before.before.before.before.before.before.before.before.before.before.before.before.before.before.before.before.before.before.before.before.before.before.requires.0
-          c.before.before.before.before.before.before.before.before.before.before.before.before.before.before.if-b-ne0.false w.0 a.0,
+    let w = c.before.before.before.before.before.before.before.before.before.before.head_line-at.ensures in (
+      built_told _ _ _ _ _ _ _ _ _ _ _ c.before.before.before.before.before.before.before.before.before.before.before.before.before.before.before.before.before.before.before.build-b.ensures.0 256 _ _ _ _ _
+          c.before.before.before.before.before.before.before.before.before.before.before.before.before.before.before.before.before.before.before.before.before.before.before.before.before.before.before.requires.0
+          c.before.before.before.before.before.before.before.before.before.before.before.before.before.if-b-ne0.false w.0 a.0,
       omega (
         arith,
         w.1,
         a.1,
-        c.before.before.before.before.before.before.before.before.before.before.before.before.before.before.before.before.before.before.before.before.before.before.before.before.before.before.before.before.requires.1,
+        c.before.before.before.before.before.before.before.before.before.before.before.before.before.before.before.before.before.before.before.before.before.before.before.before.before.before.before.requires.1,
       ),
     )
 

@@ -10,21 +10,21 @@ use Rattle.listing.proofs.listing.Statement.{statement}
 use Rattle.listing.proofs.listing.Tie as tie
 
 -- an accepted job's numbers stand within the tables
-room : (c : tie.Else-a-ne0) → (9 * c.before.before.before.before.read_job-a.result.n ≤ length c.before.before.before.before.read_job-a.new.1.0)
-    × (5 * c.before.before.before.before.read_job-a.result.m ≤ length c.before.before.before.before.read_job-a.new.1.1.0)
+room : (c : tie.Else-a-ne0) → (9 * c.before.before.before.before.read_job-a.result.n ≤ length c.before.before.before.before.read_job-a.new.mesh)
+    × (5 * c.before.before.before.before.read_job-a.result.m ≤ length c.before.before.before.before.read_job-a.new.questions)
 room c =
     let r = c.before.before.before.before.read_job-a in
     let h = room_for _ _ _ _ r.ensures.0 c.if-a-ne0.false in
-    (omega (arith, h.0, r.auto.1.0), omega (arith, h.1, r.auto.1.1.0))
+    (omega (arith, h.0, r.auto.mesh), omega (arith, h.1, r.auto.questions))
 
 five : (c : tie.Else-a-ne0) → 5 * c.before.before.before.before.read_job-a.result.n ≤ 1280
-five c = let r = c.before.before.before.before.read_job-a in omega (arith, (room c).0, r.auto.1.0)
+five c = let r = c.before.before.before.before.read_job-a in omega (arith, (room c).0, r.auto.mesh)
 
 returns : tie.Need-returns-then-a-ne0
 returns c =
     let w = c.refused_line.ensures in (
       w.0.text ∙ read_not _ _ _ _ c.before.before.before.before.before.before.read_job-a.ensures.0 c.before.before.if-a-ne0.true,
-      omega (arith, w.1, c.refused_line.auto.0),
+      omega (arith, w.1, c.refused_line.auto.out),
       enough _,
       w.0.rest,
     )
@@ -51,7 +51,7 @@ listed-requires : tie.Need-listed-requires
 listed-requires c κs =
     let r = c.before.before.before.before.before.before.before.before.before.before.read_job-a in
     let h = room c.before.before.before.before.before.before in
-    (omega (arith, h.0, r.auto.1.0), omega (arith, h.1, r.auto.1.1.0), length-take-le _ _ h.1, search rules)
+    (omega (arith, h.0, r.auto.mesh), omega (arith, h.1, r.auto.questions), length-take-le _ _ h.1, search rules)
 
 returns-2 : tie.Need-returns
 returns-2 c =
@@ -60,7 +60,7 @@ returns-2 c =
           c.before.before.before.before.before.before.before.before.before.before.before.before.read_job-a.ensures.0 1280
           (five c.before.before.before.before.before.before.before.before)
           c.before.before.before.before.before.before.before.before.if-a-ne0.false,
-      omega (arith, w.1, c.before.listed.auto.1.1.1.1.1.1.1.0),
+      omega (arith, w.1, c.before.listed.auto.out),
       enough _,
       w.0.rest,
     )

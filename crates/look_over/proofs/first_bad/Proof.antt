@@ -75,7 +75,7 @@ returns c =
     s.args.table.now s.args.tolerance) c.before.before.before.before.before.before.move_at-m.ensures in (
       bad_stops _ _ _ l.t _ l.invariant.0 _ c.before.before.before.before.before.before.before.loop-t-test.true f (sym c.before.is_sound.ensures
           ∙ c.if-not-is_sound.true),
-      t.ensures.1.size ∙ sym s.pre.2.size,
+      t.ensures.1.size ∙ sym s.requires.2.size,
     )
 
 loop-again : tie.Need-loop-t-preserved invariant-loop decreases-loop
@@ -92,7 +92,7 @@ loop-again c =
       l.invariant.3,
       l.invariant.4,
       t.ensures.1,
-      t.ensures.1.size ∙ sym s.pre.2.size,
+      t.ensures.1.size ∙ sym s.requires.2.size,
     )
 
 returns-2 : tie.Need-returns invariant-loop decreases-loop

@@ -25,7 +25,7 @@ loop-holds c = (refl, c.before.requires.0, c.before.requires.1)
 
 -- what the loop's test, the line and the test of its move tell
 open_at : (c : tie.In-loop-h invariant-loop decreases-loop) → is_ended c.before.before.loop-h.now.phase ≡ false
-open_at c = sym c.before.is_done.ensures ∙ not-true _ c.loop-h-test.true
+open_at c = sym c.before.is_done.ensures ∙ c.loop-h-test.true
 
 told : (c : tie.After-is_empty invariant-loop decreases-loop)
     → same_of (leg_of c.before.before.before.before.before.before.args.runs.now c.before.before.before.before.before.before.args.h
@@ -81,7 +81,7 @@ loop-again c = (
 
 returns-2 : tie.Need-returns invariant-loop decreases-loop
 returns-2 c = sym (goes_end _ _ c.before.before.loop-h.now c.before.before.loop-h.invariant.1 (sym c.before.is_done.ensures
-    ∙ not-false _ c.loop-h-test.false)) ∙ c.before.before.loop-h.invariant.0
+    ∙ c.loop-h-test.false)) ∙ c.before.before.loop-h.invariant.0
 
 pub go_on_spec : {M : Type 1} → statement M
 go_on_spec = tie.close (tie.spec invariant-loop decreases-loop loop-holds (λ c κs. tt) leg_of-requires (λ c κs. tt) given-requires returns

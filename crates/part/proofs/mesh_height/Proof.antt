@@ -11,7 +11,7 @@ returns c =
 
 returns-2 : tie.Need-returns
 returns-2 c =
-    let d = c.before.before.before.before.before.before.before in
+    let d = c.before.before.before.before in
     let a = d.before.before.before.before.before.before.before.before.before.before.before.before.before.before.before.before.before.args in
     let b = d.before.before.before.before.before.before.before.before.build-b in
     let q = c.before.before.max_height in

@@ -14,11 +14,11 @@ slice_reshare_prefix-mesh_height : tie.Need-slice_bounds-mesh_height-end
 slice_reshare_prefix-mesh_height c = fits _ _ _ c.before.before.before.before.read_stl-o.ensures.0 c.if-refusal-ne0.false
 
 slice_aggregate-mesh_height : tie.Need-slice_bounds-mesh_height-end-2
-slice_aggregate-mesh_height c = sym (length-take-le _ _ (fits _ _ _ c.before.before.before.before.before.read_stl-o.ensures.0 c.before.if-refusal-ne0.false))
+slice_aggregate-mesh_height c = sym (length-take-le _ _ (fits _ _ _ c.before.before.before.before.read_stl-o.ensures.0 c.if-refusal-ne0.false))
 
 returns-2 : tie.Need-returns
 returns-2 c =
-    let d = c.before.before.before.before.before.before.before.before.before.before.before.before.before.before in
+    let d = c.before.before.before.before.before.before.before.before.before.before.before.before.before in
     let a = d.before.before.before.before.before.before.before.before.before.before.before.before.args in
     let o = d.before.before.before.before.read_stl-o in
     let q = c.before.before.before.before.before.before.before.before.mesh_height in

@@ -5,11 +5,11 @@ use Rattle.plan.proofs.survey.Tie as tie
 
 returns : tie.Need-returns
 returns c =
-    let d = c.before.before.before.before in
+    let d = c.before.before.before in
     let e = d.before.before.before.before.before.before in
     let s = e.before.before.before.before.before.before.before in
     let f = e.find_levels-count.ensures in
-    surveyed _ _ _ _ _ _ s.args.marks.now e.find_levels-count.new.1.1.0 _ _ _ f.0 f.1 (search rules) d.wipe.ensures
+    surveyed _ _ _ _ _ _ s.args.marks.now e.find_levels-count.new.list _ _ _ f.0 f.1 (search rules) d.wipe.ensures
     c.refusal_of_levels-refusal.ensures
 
 pub survey_spec : {M : Type 1} → statement M

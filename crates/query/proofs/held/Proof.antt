@@ -15,7 +15,7 @@ returns-2 c = held_none _ _ _ _ c.before.cut-first.ensures c.before.before.if-hi
 returns-3 : tie.Need-returns
 returns-3 c =
     let d = c.before.before in
-    held_some _ _ _ _ d.before.cut-first.ensures d.before.before.if-hi.false _ _ c.before.cut.ensures c.«one-past».ensures d.if-count-first.false
+    held_some _ _ _ _ d.before.cut-first.ensures d.before.before.if-hi.false _ _ c.before.cut.ensures c.one_past.ensures d.if-count-first.false
 
 pub held_spec : {M : Type 1} → statement M
 held_spec = tie.close (tie.spec returns (λ c κs. tt) returns-2 (λ c κs. tt) (λ c κs. tt) returns-3)

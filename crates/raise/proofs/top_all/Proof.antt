@@ -20,8 +20,8 @@ decreases-loop mesh n boxes₀ i₀ boxes i = n - i
 
 loop-again : tie.Need-loop-i-preserved invariant-loop decreases-loop
 loop-again c =
-    let l = c.before.before.before.before.before.before.before.before.before.loop-i in
-    let s = c.before.before.before.before.before.before.before.before.before.before.before.before in
+    let l = c.before.before.before.before.before.before.before.before.loop-i in
+    let s = c.before.before.before.before.before.before.before.before.before.before.before in
     let b = c.before.before.before.before.before.before.box_at-b.ensures ∙ topping_reads _ _ _ _ l.invariant.0 in
     let z = c.before.before.before.before.top-z.ensures ∙ ap top_of c.before.before.before.before.before.triangle_at.ensures in
     let p = c.before.before.put.ensures ∙ ap₂ (λ (x : Bounds) (y : Float). put_at l.boxes l.i (five_of (topped x y))) b z in (
@@ -41,6 +41,6 @@ pub top_all_spec : {M : Type 1} → statement M
 top_all_spec =
     tie.close
     (tie.spec invariant-loop decreases-loop (λ c. (topping_none _ _, omega arith))
-    (λ c κs. omega (arith, c.before.before.loop-i.invariant.0.size, c.before.before.before.before.before.requires))
-    (λ c κs. omega (arith, c.before.before.before.before.before.before.requires)) (λ c κs. tt) (λ c κs. tt) (λ c. omega arith) (λ c. omega arith)
+    (λ c κs. omega (arith, c.before.loop-i.invariant.0.size, c.before.before.before.before.requires))
+    (λ c κs. omega (arith, c.before.before.before.before.before.requires)) (λ c κs. tt) (λ c κs. tt) (λ c. omega arith) (λ c. omega arith)
     loop-again (λ c. c.before.loop-i.invariant.0.size) returns)

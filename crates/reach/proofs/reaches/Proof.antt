@@ -9,7 +9,7 @@ use Rattle.reach.proofs.reaches.Tie as tie
 returns : tie.Need-returns
 returns c =
     let a = c.before.before.args in
-    c.is_Within.ensures
+    c.is_within.ensures
     ∙ ap (λ (w : Float). le w a.k.r) (ap root_of c.before.square_at.ensures ∙ sym (apart_root a.t a.m a.s))
 
 pub reaches_spec : {M : Type 1} → statement M

@@ -15,7 +15,7 @@ returns c = (
 end_stretch-requires : tie.Need-end_stretch-requires
 end_stretch-requires c κs = let s =
     c.before.before.before.before.before.before.before.before.before.before.before.before.before.before.before.before.before in
-    (s.pre.0, c.before.before.before.before.before.sample-o.ensures.1, s.pre.2, omega (arith, s.pre.3), s.pre.5)
+    (s.requires.0, c.before.before.before.before.before.sample-o.ensures.1, s.requires.2, omega (arith, s.requires.3), s.requires.5)
 
 returns-2 : tie.Need-returns
 returns-2 c =

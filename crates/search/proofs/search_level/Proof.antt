@@ -27,10 +27,10 @@ returns : tie.Need-returns
 returns c =
     let d = c.before.before.before.before in
     let g = d.before.before.before in (
-      level_there _ _ _ _ _ _ g.header-for.ensures.0 _ _ _ _ _ _ _ _ g.before.before.before.before.before.aim_of-a.ensures
-          (g.header-for.ensures.1
+      level_there _ _ _ _ _ _ g.header_for-g.ensures.0 _ _ _ _ _ _ _ _ g.before.before.before.before.before.aim_of-a.ensures
+          (g.header_for-g.ensures.1
           _ _) d.search_rows.ensures.0,
-      marks_there _ _ _ _ (ap (λ (k : Header). k.n) g.header-for.ensures.0) d.search_rows.ensures.1,
+      marks_there _ _ _ _ (ap (λ (k : Header). k.n) g.header_for-g.ensures.0) d.search_rows.ensures.1,
     )
 
 pub search_level_spec : {M : Type 1} → statement M

@@ -13,8 +13,8 @@ returns c =
     let a = c.before.before.before.before.before.before.args in
     let on : Contact → Edge → Contact = λ d e. offer_of d (section_edge a.s a.x a.y e) in
     three _ _ _ _ _ _ _
-    (c.before.before.before.before.edge-ab.ensures ∙ ap (on _) c.before.before.before.before.before.edge-ab.ensures)
-    (c.before.before.edge-bc.ensures ∙ ap (on _) c.before.before.before.edge-bc.ensures)
+    (c.before.before.before.before.edge-ab.ensures ∙ ap (on _) c.before.before.before.before.before.edge_ab.ensures)
+    (c.before.before.edge-bc.ensures ∙ ap (on _) c.before.before.before.edge_bc.ensures)
     (c.edge.ensures ∙ ap (on _) c.before.edge_ca.ensures)
 
 pub edges_spec : {M : Type 1} → statement M

@@ -11,7 +11,7 @@ span_of-requires-2 c κs = let p = c.before.requires in (p.0.bottom, p.0.top, p.
 
 returns : tie.Need-returns
 unfolding patch_of
-returns c = rw (c.before.Span-of.ensures, c.span_of-y.ensures) refl
+returns c = rw (c.before.span_of-x.ensures, c.span_of-y.ensures) refl
 
 pub patch_of_spec : {M : Type 1} → statement M
 patch_of_spec =

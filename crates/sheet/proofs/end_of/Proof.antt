@@ -32,7 +32,7 @@ returns-5 c = let d = c.before in let a = d.before.args in ap There c.chamfer.en
 
 returns-6 : tie.Need-returns-in-Beam
 unfolding end_of
-returns-6 c = let d = c in let a = d.before.before.args in ap (λ s. end_of s a.enclose a.p) (sym d.enum_told6.given.1)
+returns-6 c = let a = c.before.args in ap (λ s. end_of s a.enclose a.p) (sym c.in-Beam.is)
 
 pub end_of_spec : {M : Type 1} → statement M
 end_of_spec = tie.close (tie.spec (λ c. search rules) (λ c κs. tt) (λ c. search rules) (λ c κs. tt) (λ c. search rules) (λ c κs. tt) (λ c. search rules)

@@ -19,17 +19,17 @@ cast-t14 : tie.Need-overflow_cast-result
 cast-t14 c =
     let n = c.before.before in
     let d = n.before.before in
-    omega (arith, n.put_all.ensures.0, (accepted _ _ _ _ (sym d.before.refusal-k.ensures ∙ d.if-k-ne0.false)).few)
+    omega (arith, n.put_all-n.ensures.0, (accepted _ _ _ _ (sym d.before.refusal-k.ensures ∙ d.if-k-ne0.false)).few)
 
 returns-2 : tie.Need-returns
 returns-2 c =
     let n = c.before.before in
     let d = n.before.before in
     let k = d.before in (
-      accepted_is _ _ _ _ _ _ _ _ k.before.body_of-b.ensures k.refusal-k.ensures d.if-k-ne0.false _ _ n.put_all.ensures.0 n.put_all.ensures.1,
+      accepted_is _ _ _ _ _ _ _ _ k.before.body_of-b.ensures k.refusal-k.ensures d.if-k-ne0.false _ _ n.put_all-n.ensures.0 n.put_all-n.ensures.1,
       (
-        λ z. accepted_tool _ _ _ _ (sym k.refusal-k.ensures ∙ d.if-k-ne0.false) _ _ n.put_all.ensures.0 n.put_all.ensures.1,
-        λ z q. accepted_encloses _ _ _ _ _ _ _ k.before.body_of-b.ensures (sym k.refusal-k.ensures ∙ d.if-k-ne0.false) _ n.put_all.ensures.1 q,
+        λ z. accepted_tool _ _ _ _ (sym k.refusal-k.ensures ∙ d.if-k-ne0.false) _ _ n.put_all-n.ensures.0 n.put_all-n.ensures.1,
+        λ z q. accepted_encloses _ _ _ _ _ _ _ k.before.body_of-b.ensures (sym k.refusal-k.ensures ∙ d.if-k-ne0.false) _ n.put_all-n.ensures.1 q,
       ),
     )
 

@@ -10,11 +10,11 @@ use Rattle.tips.proofs.max_bull.Statement.{statement}
 use Rattle.tips.proofs.max_bull.Tie as tie
 
 refusal-requires : tie.Need-refusal-heard-requires
-refusal-requires c κs = let i = inside _ _ _ _ _ _ _ c.before.before.before.before.patch_of-p.ensures in (i.0, i.1, refl)
+refusal-requires c κs = let i = inside _ _ _ _ _ _ _ c.before.before.before.patch_of-p.ensures in (i.0, i.1, refl)
 
 returns : tie.Need-returns-then-n-ne0
 returns c =
-    let d = c.before.before.before.before.before in
+    let d = c.before.before.before.before in
     bull_answers _ _ _ _ _ _ _ _ _ d.before.before.patch_of-p.ensures d.before.is_stand-stands.ensures d.is_corner-corner.ensures
     (height_refused _ _ _ _ _ _ _ c.before.before.refusal-heard.ensures.0 _ c.if-n-ne0.true)
 
@@ -27,14 +27,14 @@ walk_nose-requires c κs =
     c.before.before.before.one_of-2.ensures
     c.before.narrowed.ensures in
     ready_walks _ _ _ _ _ _ _ e.0 _ _ n.if-n-ne0.false x.0 x.1
-    (inside _ _ _ _ _ _ _ n.before.before.before.before.before.before.before.patch_of-p.ensures) w
+    (inside _ _ _ _ _ _ _ n.before.before.before.before.before.before.patch_of-p.ensures) w
 
 returns-2 : tie.Need-returns
 returns-2 c =
     let x = c.before.before.before.before.before.before.before.before.before.before.before.before.before.before.next_stamp-next.ensures in
     let k = c.before.before.before.before.before in
     let n = c.before.before.before.before.before.before.before.before.before.before.before.before.before.before.before.before in
-    let d = n.before.before.before.before.before in
+    let d = n.before.before.before.before in
     let e = n.before.before.refusal-heard.ensures in
     let w = narrow _ _ _ _ _ (λ t. e.1.1 n.if-n-ne0.false (leb-true _ _ t)) _ _ _ k.before.before.before.before.one_of.ensures
     k.before.before.one_of-2.ensures

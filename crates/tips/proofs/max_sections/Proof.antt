@@ -13,11 +13,11 @@ use Rattle.tips.proofs.max_sections.Statement.{statement}
 use Rattle.tips.proofs.max_sections.Tie as tie
 
 refusal-requires : tie.Need-refusal-heard-requires
-refusal-requires c κs = let i = inside _ _ _ _ _ _ _ c.before.before.before.before.patch_of-p.ensures in (i.0, i.1, refl)
+refusal-requires c κs = let i = inside _ _ _ _ _ _ _ c.before.before.before.patch_of-p.ensures in (i.0, i.1, refl)
 
 returns : tie.Need-returns-then-n-ne0
 returns c =
-    let d = c.before.before.before.before.before in
+    let d = c.before.before.before.before in
     tool_answers _ _ _ _ _ _ _ _ _ _ _ _ _ d.before.before.before.before.widest-reach.ensures d.before.before.before.lowest-low.ensures
     d.before.before.patch_of-p.ensures d.before.is_place-stands.ensures d.is_tool-valid.ensures
     (height_refused _ _ _ _ _ _ _ c.before.before.refusal-heard.ensures.0 _ c.if-n-ne0.true)
@@ -31,7 +31,7 @@ visit-requires c κs =
     c.narrowed.ensures in
     ready _ _ _ _ _ _ _ e.0 {A = Best} _ _ (at_floor f0) n.if-n-ne0.false
     c.before.before.before.before.before.before.before.before.before.next_stamp-next.ensures.1
-    (inside _ _ _ _ _ _ _ n.before.before.before.before.before.before.before.patch_of-p.ensures) w
+    (inside _ _ _ _ _ _ _ n.before.before.before.before.before.before.patch_of-p.ensures) w
 
 returns-2 : tie.Need-returns
 unfolding tool_step shape_step
@@ -39,7 +39,7 @@ returns-2 c =
     let x = c.before.before.before.before.before.before.before.before.before.before.before.before.before.next_stamp-next.ensures in
     let k = c.before.before.before.before in
     let n = c.before.before.before.before.before.before.before.before.before.before.before.before.before.before.before in
-    let d = n.before.before.before.before.before in
+    let d = n.before.before.before.before in
     let e = n.before.before.refusal-heard.ensures in
     let w = narrow _ _ _ _ _ (λ t. e.1.1 n.if-n-ne0.false (leb-true _ _ t)) _ _ _ k.before.before.before.before.one_of.ensures
     k.before.before.one_of-2.ensures

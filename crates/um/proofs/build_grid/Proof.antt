@@ -16,7 +16,7 @@ size_of-requires c κs =
 returns : tie.Need-returns-then-cell-eq0
 returns c =
     let d = c.before.before in
-    gridded_refused _ _ _ _ _ _ _ _ d.before.extent_of-e.ensures d.type_size.ensures _ c.refused.ensures c.before.if-cell-eq0.true
+    gridded_refused _ _ _ _ _ _ _ _ d.before.extent_of-e.ensures d.size_of-cell.ensures _ c.refused.ensures c.before.if-cell-eq0.true
 
 grid_of-requires : tie.Need-grid_of-requires
 grid_of-requires c κs =
@@ -29,16 +29,16 @@ fill_grid-requires c κs =
     let g = c.before.before in
     let e = g.before in
     let d = e.before.before in
-    found_gridded _ _ _ (accepted _ _ _ d.before.before.before.requires) _ _ _ _ d.extent_of-e.ensures e.before.type_size.ensures
-    e.if-cell-eq0.false g.grid-of.ensures
+    found_gridded _ _ _ (accepted _ _ _ d.before.before.before.requires) _ _ _ _ d.extent_of-e.ensures e.before.size_of-cell.ensures
+    e.if-cell-eq0.false g.grid_of.ensures
 
 returns-2 : tie.Need-returns
 returns-2 c =
     let f = c.before.before.before.before in
     let g = f.before.before.before in
     let e = g.before in
-    gridded_next _ _ _ _ _ _ _ _ e.before.before.extent_of-e.ensures e.before.type_size.ensures _ _ e.if-cell-eq0.false
-    g.grid-of.ensures f.fill_grid.ensures
+    gridded_next _ _ _ _ _ _ _ _ e.before.before.extent_of-e.ensures e.before.size_of-cell.ensures _ _ e.if-cell-eq0.false
+    g.grid_of.ensures f.fill_grid.ensures
 
 pub build_grid_spec : {M : Type 1} → statement M
 build_grid_spec =

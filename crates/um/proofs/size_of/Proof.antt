@@ -31,7 +31,7 @@ returns : tie.Need-returns-then-fits invariant-loop decreases-loop
 unfolding size_of power_at
 returns c =
     let l = c.before.before.before.loop-k in
-    l.invariant.1 ∙ ap power_at (found_stops _ 32 l.k _ (omega arith) (rw (← l.invariant.1, ← c.before.fits2.ensures) c.if-fits.true) l.invariant.0)
+    l.invariant.1 ∙ ap power_at (found_stops _ 32 l.k _ (omega arith) (rw (← l.invariant.1, ← c.before.fits.ensures) c.if-fits.true) l.invariant.0)
 
 mul-cell : tie.Need-overflow_mul-cell invariant-loop decreases-loop
 mul-cell c = let l = c.before.before.before.loop-k in record { fits = omega (arith, l.invariant.1, small l.k (omega arith)) }
@@ -39,7 +39,7 @@ mul-cell c = let l = c.before.before.before.loop-k in record { fits = omega (ari
 loop-again : tie.Need-loop-k-preserved invariant-loop decreases-loop
 loop-again c =
     let l = c.before.before.before.loop-k in (
-      found_goes _ 32 l.k _ (omega arith) (rw (← l.invariant.1, ← c.before.fits2.ensures) c.if-fits.false) l.invariant.0,
+      found_goes _ 32 l.k _ (omega arith) (rw (← l.invariant.1, ← c.before.fits.ensures) c.if-fits.false) l.invariant.0,
       rw (l.invariant.1, add-one l.k, pow-suc) refl,
       omega arith,
     )

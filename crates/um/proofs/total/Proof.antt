@@ -22,7 +22,7 @@ area-requires : tie.Need-area-t-requires invariant-loop decreases-loop
 area-requires c κs =
     let s = c.before.before.before in
     let f = fitting _ s.args.g _ s.requires c.before.before.loop-i.i in
-    subst⁻¹ (λ (b : Cells). (b.right < 65536) × (b.top < 65536)) c.Cells-of.ensures (omega (arith, f))
+    subst⁻¹ (λ (b : Cells). (b.right < 65536) × (b.top < 65536)) c.cells_of.ensures (omega (arith, f))
 
 add-t : tie.Need-overflow_add-t invariant-loop decreases-loop
 add-t c = omega (arith, c.before.before.before.before.requires.few)
@@ -31,7 +31,7 @@ loop-again : tie.Need-loop-i-preserved invariant-loop decreases-loop
 loop-again c =
     let l = c.before.before.before.loop-i in
     let a : c.area-t.result ≡ area_of (cells_of c.before.before.before.before.args.mesh.now c.before.before.before.before.args.g l.i) =
-    c.area-t.ensures.0 ∙ ap area_of c.before.Cells-of.ensures in
+    c.area-t.ensures.0 ∙ ap area_of c.before.cells_of.ensures in
     omega (arith, a, total_more c.before.before.before.before.args.mesh.now c.before.before.before.before.args.g l.i)
 
 returns : tie.Need-returns invariant-loop decreases-loop
