@@ -1,5 +1,4 @@
-// A lent slice of sections as a flat table of four numbers each. The borrow checker covers no function that takes a slice of structs, so `at` and `flat` are
-// proved by a walk of their code by hand; the work is done by the others.
+// A lent slice of sections as a flat table of four numbers each.
 ghost use Rattle.std.specs.Prelude.{◌≡◌, ◌+◌, ◌≤◌, ◌<◌, length, take};
 ghost use Rattle.flatten.specs.Flat.{flat_of, section_in, copied_of, held_in, Emptied, Pushed};
 

@@ -1,5 +1,4 @@
-// The section questions over a lent slice of sections: thin functions over those of a flat table. The borrow checker covers no function that takes a slice of
-// structs, so `max_sections` and `sections_chord_clear` are proved by a walk of their code by hand; the work is done by the others.
+// The section questions over a lent slice of sections: thin functions over those of a flat table.
 ghost use Rattle.std.specs.Prelude.{◌≡◌, ◌≤◌, length};
 ghost use Rattle.grid.specs.Index.{index_of};
 ghost use Rattle.ask.specs.Ask.{ended};

@@ -42,7 +42,7 @@ loop-holds c = (
 )
 
 -- the top of the stack lies in the arrays
-inside : (c : tie.In-loop-top invariant-loop decreases-loop) → c.before.loop-top.top - 1 < 33
+inside : (c : tie.In-loop-top-unread invariant-loop decreases-loop) → c.before.loop-top.top - 1 < 33
 inside c =
     let l = c.before.loop-top in
     omega (arith, l.invariant.1.deep (l.top - 1) (omega arith))
