@@ -1,4 +1,6 @@
 // A contact on top of a best so far: the candidates of one triangle go on from where the search stands, so that what cannot exceed it is left out.
+#![tactic(auto)]
+
 ghost use Rattle.std.specs.Prelude.{◌≡◌};
 ghost use Rattle.above.specs.Above.{offer_of, so_far};
 ghost use Rattle.above.specs.Inside.{limit_of, touches_of};

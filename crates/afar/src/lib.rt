@@ -1,4 +1,6 @@
 // Whether a chord surely stays out of reach of a triangle, told from boxes, without a search.
+#![tactic(auto)]
+
 ghost use Rattle.std.specs.Prelude.{true, ◌&&◌, ◌≡◌, ℕ};
 ghost use Rattle.std.specs.Float.Ieee.{lt};
 ghost use Rattle.roots.specs.Root.{root_of};

@@ -1,5 +1,7 @@
 // Where the walk of a bull-nose cutter may begin above the floor: a guess of what the walk will find, from tips over vertices, facets and places of edges.
 // Any number would do, so none of these tips is worked out to the last digit. The laws in proofs/ are on contacts beside such a height.
+#![tactic(auto)]
+
 ghost use Rattle.std.specs.Prelude.{◌≡◌};
 ghost use Rattle.std.specs.Float.Ieee.{le};
 ghost use Rattle.numbers.specs.Reals.{f0};

@@ -1,4 +1,6 @@
 // Whether a triangle surely lies apart from what is asked about, so that its points need no look. Only orders of numbers are compared; a false says nothing.
+#![tactic(auto)]
+
 ghost use Rattle.std.specs.Prelude.{true, cond, ◌≡◌};
 ghost use Rattle.std.specs.Float.Ieee.{lt};
 ghost use Rattle.apart.specs.Inside.{low_on, high_on, lowest_on, highest_on, Ahead, Behind, Fine, Apart};

@@ -1,4 +1,6 @@
 // What every question shares: its refusals in their order, and its answer.
+#![tactic(auto)]
+
 ghost use Rattle.std.specs.Prelude.{◌≡◌, ◌≤◌, length};
 ghost use Rattle.walk.specs.Inside.{StandsFor};
 ghost use Rattle.grid.specs.Index.{index_of};

@@ -1,5 +1,7 @@
 // What a search can at most find. The laws in proofs/ say where the points of a golden-section search lie, what small numbers make, and what a sum of two
 // squares tells of a distance.
+#![tactic(auto)]
+
 ghost use Rattle.std.specs.Prelude.{◌≡◌};
 ghost use Rattle.bound.specs.Inside.{nearer_of, Within, Beyond};
 

@@ -1,4 +1,6 @@
 // A bull-nose cutter: its profile, and its contact with one triangle.
+#![tactic(auto)]
+
 ghost use Rattle.std.specs.Prelude.{true, ◌≡◌};
 ghost use Rattle.std.specs.Float.Ieee.{le};
 ghost use Rattle.plane.specs.Contacts.{edge, take_of};

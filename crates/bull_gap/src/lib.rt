@@ -1,4 +1,6 @@
 // Whether a triangle blocks a bull-nose cutter on a chord.
+#![tactic(auto)]
+
 ghost use Rattle.std.specs.Prelude.{◌≡◌, true, false, ◌&&◌};
 ghost use Rattle.std.specs.Float.Ieee.{lt};
 ghost use Rattle.numbers.specs.Reals.{f0, max_of};

@@ -1,4 +1,6 @@
 // Whether a bull-nose cutter surely passes over a triangle on a part of a chord, told from boxes, without a search.
+#![tactic(auto)]
+
 ghost use Rattle.std.specs.Prelude.{◌≡◌, ◌&&◌};
 ghost use Rattle.std.specs.Float.Ieee.{le};
 ghost use Rattle.numbers.specs.Reals.{◌⊕◌, ◌⊖◌, f0};

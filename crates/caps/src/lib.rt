@@ -1,4 +1,6 @@
 // What a cutter's tip over an edge is at most, so that an edge that cannot exceed the best so far is not searched. What both round cutters share.
+#![tactic(auto)]
+
 ghost use Rattle.std.specs.Prelude.{true, ◌≡◌};
 ghost use Rattle.caps.specs.Inside.{root_most, high_on, side_on, least_on, side_tame, in_order, tame_on, tame_rise, Inner, InnerOf};
 

@@ -1,5 +1,7 @@
 // The height of one triangle under the swept disk: the highest of its candidates, the points where a linear height can peak, that lie in the capsule.
 // What was found so far is a number and a float, which stay in registers; a contact is made of them at the end.
+#![tactic(auto)]
+
 ghost use Rattle.std.specs.Prelude.{true, cond, ◌⊎◌, ◌≡◌, get_or};
 ghost use Rattle.std.specs.Float.Ieee.{lt};
 ghost use Rattle.numbers.specs.Reals.{f0};

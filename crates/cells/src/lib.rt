@@ -1,5 +1,7 @@
 // The two tables of an index without its floats: a triangle arrives as the cells that it covers. Cells are counted, the counts
 // become running sums, and from the last triangle back each number is placed.
+#![tactic(auto)]
+
 ghost use Rattle.std.specs.Prelude.{◌≡◌, ◌+◌, ◌*◌, ◌^◌, ◌<◌, ◌≤◌, length};
 ghost use Rattle.cells.specs.Cover.{covers, area_of};
 ghost use Rattle.cells.specs.Inside.{Fitting, between, entry, sums, Countable, Counted, Cleared, Summed, Open, Placed};

@@ -1,5 +1,7 @@
 // Whether header and tables are the index of a mesh. The header and the boxes are worked out afresh and compared to the bit. The members are counted, and each
 // cell's stretch is looked through: its numbers rise and cover the cell. If there are as many as there should be, none is missing.
+#![tactic(auto)]
+
 ghost use Rattle.std.specs.Prelude.{true, ◌&&◌, ◌≡◌, ℕ, ◌+◌, ◌*◌, ◌<◌, ◌≤◌, length};
 ghost use Rattle.spans.specs.Inside.{AllGood};
 ghost use Rattle.rules.specs.Every.{is_from};

@@ -1,4 +1,6 @@
 // Whether a tool that moves straight from one tip to another stays above the part: a bull-nose cutter, or a table of sections.
+#![tactic(auto)]
+
 ghost use Rattle.std.specs.Prelude.{◌≡◌, true, cond, ◌+◌, ◌*◌, ◌≤◌, ◌<◌, length};
 ghost use Rattle.walk.specs.Walk.{block, fold};
 ghost use Rattle.walk.specs.Inside.{judged, strike, Room, Walkable};

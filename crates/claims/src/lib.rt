@@ -1,4 +1,6 @@
 // The proved examples of document 01, as a contract: the check computes each over the definitions.
+#![tactic(auto)]
+
 ghost use Rattle.std.specs.Prelude.{◌≡◌, length};
 ghost use Rattle.claims.specs.Examples.{examples, AllGive};
 

@@ -1,5 +1,7 @@
 // The swept-disk height where it only enters a comparison, as in the plan: cells none of whose triangles has its top above the best so far are passed over.
 // A table of crests tells that: the highest top of each two cells side by side.
+#![tactic(auto)]
+
 ghost use Rattle.std.specs.Prelude.{◌≡◌, ◌+◌, ◌*◌, ◌^◌, ◌≤◌, ◌<◌, length};
 ghost use Rattle.std.specs.Float.Ieee.{le};
 ghost use Rattle.numbers.specs.Reals.{num};

@@ -1,4 +1,6 @@
 // What the contacts of round cutters share: a triangle's edges, the stretch of an edge under a cutter, the place on a facet where a cutter rests.
+#![tactic(auto)]
+
 ghost use Rattle.std.specs.Prelude.{◌≡◌};
 ghost use Rattle.cutters.specs.Touch.{edge_ab, edge_bc, edge_ca, crossed_of, reached_of, gradient_of, facing_of, rest_of, weighed_of, spot_height, facet_height};
 

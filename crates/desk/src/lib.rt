@@ -1,5 +1,7 @@
 // What C and Rust call of the index and of heights: include/mandrikelo.h declares these functions. Each hands its arguments to the library and
 // lays the answer into fixed arrays; the contract is the library's own, and asks nothing of the caller.
+#![tactic(auto)]
+
 ghost use Rattle.std.specs.Prelude.{◌≡◌};
 ghost use Rattle.handed.specs.Handed.{index_from};
 ghost use Rattle.desk.specs.Doors.{built_left, built_left_by, height_left, height_left_by, answer_from};

@@ -1,5 +1,7 @@
 // What C and Rust call of chords: include/mandrikelo.h declares these functions. Each hands its arguments to the library and lays the verdict into a
 // fixed array; the contract is the library's own, and asks nothing of the caller.
+#![tactic(auto)]
+
 ghost use Rattle.std.specs.Prelude.{◌≡◌};
 ghost use Rattle.handed.specs.Handed.{index_from};
 ghost use Rattle.chords.specs.Chords.{bull_chord_of, BullChordPromise, sections_chord_of, SectionsChordPromise};

@@ -1,5 +1,7 @@
 // What C and Rust call before an index is built and before one is trusted: include/mandrikelo.h declares these functions. Each hands its arguments to the
 // library; the contract is the library's own, and asks nothing of the caller.
+#![tactic(auto)]
+
 ghost use Rattle.std.specs.Prelude.{◌≡◌};
 ghost use Rattle.handed.specs.Handed.{index_from};
 ghost use Rattle.rooms.specs.Rooms.{rooms_of, RoomsPromise};

@@ -1,5 +1,7 @@
 // What C and Rust call to join runs: include/mandrikelo.h declares this function. It hands its table to the library and lays the number
 // of runs into a fixed array; the contract is the library's own, and asks nothing of the caller.
+#![tactic(auto)]
+
 ghost use Rattle.std.specs.Prelude.{◌≡◌};
 ghost use Rattle.join.specs.Join.{outcome, join_of};
 ghost use Rattle.join.specs.Law.{WheneverJoined, HandedOn};

@@ -1,5 +1,7 @@
 // What C and Rust call of the moves: include/mandrikelo.h declares these functions. The state goes in and comes back in two arrays, its
 // position and its phase, run and next id; the contract is the library's own, and asks nothing of the caller.
+#![tactic(auto)]
+
 ghost use Rattle.std.specs.Prelude.{◌≡◌, ◌%◌, eqb, length};
 ghost use Rattle.rules.specs.Ladder.{demand};
 ghost use Rattle.moves.specs.Begin.{begin_of};

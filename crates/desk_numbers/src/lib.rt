@@ -1,5 +1,7 @@
 // What C and Rust call of the numbers and of one triangle: include/mandrikelo.h declares these functions. Each hands its arguments to
 // the library, whose contract is its own, and asks nothing of the caller.
+#![tactic(auto)]
+
 ghost use Rattle.std.specs.Prelude.{◌≡◌};
 ghost use Rattle.numbers.specs.Reals.{max_of, min_of, clamp_unit};
 ghost use Rattle.roots.specs.Root.{root_of};

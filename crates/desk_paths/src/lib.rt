@@ -1,5 +1,7 @@
 // What C and Rust call to look over another planner's moves: include/mandrikelo.h declares this function. It hands its arguments to the
 // library and lays the verdict into a fixed array; the contract is the library's own, and asks nothing of the caller.
+#![tactic(auto)]
+
 ghost use Rattle.std.specs.Prelude.{◌≡◌};
 ghost use Rattle.look_over.specs.Verdict.{look_over_of};
 ghost use Rattle.handed.specs.Handed.{index_from};

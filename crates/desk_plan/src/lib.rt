@@ -1,5 +1,7 @@
 // What C and Rust call of the plan: include/mandrikelo.h declares the function. It hands its arguments to the library and lays the answer into fixed
 // arrays; the contract is the library's own, and asks nothing of the caller.
+#![tactic(auto)]
+
 ghost use Rattle.std.specs.Prelude.{◌≡◌};
 ghost use Rattle.handed.specs.Handed.{index_from};
 ghost use Rattle.grid.specs.Boxes.{is_boxed};

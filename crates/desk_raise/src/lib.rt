@@ -1,5 +1,7 @@
 // What C and Rust call to raise a part: include/mandrikelo.h declares this function. It hands its arguments to the library and lays the answer into
 // fixed arrays; the contract is the library's own, and asks nothing of the caller.
+#![tactic(auto)]
+
 ghost use Rattle.std.specs.Prelude.{◌≡◌};
 ghost use Rattle.raise.specs.Raise.{raise_of, RaisePromise};
 ghost use Rattle.handed.specs.Handed.{header_from};

@@ -1,5 +1,7 @@
 // What C and Rust call of the tool sheet: include/mandrikelo.h declares this function. It hands its arguments to the library and lays
 // the count into a fixed array; the contract is the library's own, and asks nothing of the caller.
+#![tactic(auto)]
+
 ghost use Rattle.std.specs.Prelude.{true, ◌≡◌, ◌*◌, get_or, take};
 ghost use Rattle.tool.specs.Tool.{is_tool};
 ghost use Rattle.sheet.specs.Sheet.{shape_from, radius_of, sheet_of};

@@ -1,5 +1,7 @@
 // What C and Rust call in whole micrometres: include/mandrikelo.h declares these functions. Each hands its arguments to the library and lays the
 // answer into fixed arrays; the contract is the library's own, and asks nothing of the caller.
+#![tactic(auto)]
+
 ghost use Rattle.std.specs.Prelude.{◌≡◌, ◌/◌, length};
 ghost use Rattle.micro.specs.Micro.{counted};
 ghost use Rattle.job_um.specs.Reader.{read_of, SoundExactly, AcceptedPromise};

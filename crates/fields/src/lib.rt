@@ -1,4 +1,6 @@
 // What every file has: numbers at a place, little endian, a test of their bits, counts with a limit, and a length that its counts ask for.
+#![tactic(auto)]
+
 ghost use Rattle.std.specs.Prelude.{◌≡◌, ◌+◌, ◌≤◌, length};
 ghost use Rattle.std.specs.Float.{binary64};
 ghost use Rattle.std.specs.Float.Ieee.{of_bits};

@@ -1,4 +1,6 @@
 // Lent tables of five numbers an entry: what levels and runs are written to.
+#![tactic(auto)]
+
 ghost use Rattle.std.specs.Prelude.{◌≡◌, ◌∷◌, []};
 ghost use Rattle.fives.specs.Tables.{put_at, zeroed};
 

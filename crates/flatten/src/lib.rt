@@ -1,4 +1,6 @@
 // A lent slice of sections as a flat table of four numbers each.
+#![tactic(auto)]
+
 ghost use Rattle.std.specs.Prelude.{◌≡◌, ◌+◌, ◌≤◌, ◌<◌, length, take};
 ghost use Rattle.flatten.specs.Flat.{flat_of, section_in, copied_of, held_in, Emptied, Pushed};
 

@@ -1,4 +1,6 @@
 // The golden-section search, cut at its objective: whoever searches evaluates the objective at the point that `probe` names and hands the value to `narrowed`.
+#![tactic(auto)]
+
 ghost use Rattle.std.specs.Prelude.{◌≡◌, ◌&&◌};
 ghost use Rattle.golden.specs.Phi.{phi_of, phi60_of};
 ghost use Rattle.golden.specs.Search.{lower, upper, rises, falls, probe_of, narrowed_of, start_of, best_of, bound_of};

@@ -1,4 +1,6 @@
 // The index of a mesh: a grid over it, and for each cell the triangles that cover it, in two lent tables; and the box of each triangle in a third.
+#![tactic(auto)]
+
 ghost use Rattle.std.specs.Prelude.{◌≡◌, ◌+◌, ◌*◌, ◌/◌, ◌^◌, ◌<◌, ◌≤◌, length};
 ghost use Rattle.spans.specs.Mesh.{box_of};
 ghost use Rattle.spans.specs.Inside.{AllGood};

@@ -1,4 +1,6 @@
 // Halving: the pieces of one run, kept or dropped, over a stack of 33 entries.
+#![tactic(auto)]
+
 ghost use Rattle.std.specs.Prelude.{◌≡◌};
 ghost use Rattle.grid.specs.Index.{index_of};
 ghost use Rattle.crests.specs.Inside.{Crested};

@@ -1,4 +1,6 @@
 // What the doors share: a header as C hands it over.
+#![tactic(auto)]
+
 ghost use Rattle.std.specs.Prelude.{◌≡◌};
 ghost use Rattle.handed.specs.Handed.{header_from};
 

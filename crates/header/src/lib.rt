@@ -1,4 +1,6 @@
 // What refusal 7 tests of a header by itself: its ranges, its n against the mesh's, and the length of starts.
+#![tactic(auto)]
+
 ghost use Rattle.std.specs.Prelude.{◌≡◌, ◌&&◌, ◌*◌};
 ghost use Rattle.std.specs.Float.Ieee.{lt, le};
 ghost use Rattle.numbers.specs.Reals.{f0, millionth, two_million, two_millionths};

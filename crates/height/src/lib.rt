@@ -1,4 +1,6 @@
 // The swept-disk height: the highest part point under a disk swept from p to q, at least the floor.
+#![tactic(auto)]
+
 ghost use Rattle.std.specs.Prelude.{◌≡◌, ◌+◌, ◌*◌, ◌≤◌, ◌<◌, length};
 ghost use Rattle.walk.specs.Walk.{block, fold, next_stamp};
 ghost use Rattle.walk.specs.Inside.{seen, look, Below, Room, Walkable};

@@ -1,6 +1,8 @@
 // Reads a job: a mesh, a floor, a radius and questions as one file of bytes, little endian.
 //
 // Every reason to refuse it is looked for before the first number is written, so a refused job leaves both lent tables as they were.
+#![tactic(auto)]
+
 ghost use Rattle.std.specs.Prelude.{◌≡◌, true, ◌++◌, ℕ, ◌+◌, ◌*◌, ◌/◌, ◌≤◌, ◌<◌, length, drop};
 ghost use Rattle.fields.specs.Little.{value};
 ghost use Rattle.fields.specs.Rows.{finite, row, first_bad};

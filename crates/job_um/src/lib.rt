@@ -1,6 +1,8 @@
 // Reads a job of version 2: a mesh, a floor, a radius and questions in whole micrometres, as one file of bytes, little endian.
 //
 // Every reason to refuse it is looked for before the first number is written, so a refused job leaves both lent tables as they were.
+#![tactic(auto)]
+
 ghost use Rattle.std.specs.Prelude.{◌≡◌, ◌++◌, ◌+◌, ◌*◌, ◌/◌, ◌≤◌, length, drop};
 ghost use Rattle.fields.specs.Rows.{row};
 ghost use Rattle.job.specs.Layout.{bytes_of, narrow};

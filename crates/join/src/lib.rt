@@ -1,4 +1,6 @@
 // Joining as an operation of its own: each run of a lent table that touches the one before it becomes part of it. The plan joins by the same function.
+#![tactic(auto)]
+
 ghost use Rattle.std.specs.Prelude.{◌≡◌, map, ◌++◌, ◌+◌, ◌*◌, ◌≤◌, length, take, drop};
 ghost use Rattle.fives.specs.Tables.{written, zeroed};
 ghost use Rattle.runs.specs.Runs.{joined_of, five_of};

@@ -1,4 +1,6 @@
 // Levels: the flat triangles of a mesh, sorted by z falling, and the groups that they make.
+#![tactic(auto)]
+
 ghost use Rattle.std.specs.Prelude.{◌≡◌, ◌++◌, map, ◌+◌, ◌*◌, ◌≤◌, ◌<◌, length, take, drop};
 ghost use Rattle.plane.specs.Distance.{bary_of};
 ghost use Rattle.fives.specs.Tables.{put_at, written};

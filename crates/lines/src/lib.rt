@@ -1,6 +1,8 @@
 // The lines of a listing, written one after the other into a lent buffer.
 //
 // Each function is told where the text ends and answers where it ends then. The bytes before and behind stay.
+#![tactic(auto)]
+
 ghost use Rattle.std.specs.Prelude.{◌≡◌, ◌&&◌, [], ◌∷◌, ◌++◌, ◌+◌, ◌-◌, ◌≤◌, ◌<◌, eqb, length};
 ghost use Rattle.std.specs.Float.{binary64};
 ghost use Rattle.std.specs.Float.Ieee.{to_bits};

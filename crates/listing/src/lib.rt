@@ -1,4 +1,6 @@
 // The listing of a job: its text is a function of the job's bytes.
+#![tactic(auto)]
+
 ghost use Rattle.std.specs.Prelude.{◌≡◌, ◌+◌, ◌*◌, ◌≤◌, length, take, drop};
 ghost use Rattle.grid.specs.Index.{index_of};
 ghost use Rattle.ask.specs.Ask.{ended};

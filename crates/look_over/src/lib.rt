@@ -1,5 +1,7 @@
 // Looks over another planner's moves: every rapid clear by the section chord rule, every cut at one height and not too deep. The moves are read one at a time
 // where they stand in their bytes, and refusal 7 is tested once, over the whole grid, for all of them.
+#![tactic(auto)]
+
 ghost use Rattle.std.specs.Prelude.{◌≡◌, true, cond, eqb, length, replicate};
 ghost use Rattle.std.specs.Float.{binary64};
 ghost use Rattle.std.specs.Float.Ieee.{to_bits, le};

@@ -1,4 +1,6 @@
 // Whole micrometres: an i32 counted from the least one, so that sums and differences of a few of them are worked out in u64 and stay in range.
+#![tactic(auto)]
+
 ghost use Rattle.std.specs.Prelude.{◌≡◌, ◌+◌, ◌*◌, ◌^◌, ◌≤◌, ◌<◌, min, max, length};
 ghost use Rattle.micro.specs.Micro.{whole_of, counted, number_of, is_coordinate, is_radius, number_at, low_at, high_at, box_of};
 

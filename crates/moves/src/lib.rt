@@ -1,4 +1,6 @@
 // Moves for the runs of a plan: lift, then for each run approach, descend, plunge, cut, retract and rise. One step gives the next move.
+#![tactic(auto)]
+
 ghost use Rattle.std.specs.Prelude.{◌≡◌, true, false, ◌+◌, ◌*◌, ◌<◌};
 ghost use Rattle.fives.specs.Tables.{room_of};
 ghost use Rattle.moves.specs.Phases.{point, line_of, leg_of, same_of, phase_number, kind_number, is_lift, is_ended};

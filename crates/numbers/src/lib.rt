@@ -1,5 +1,7 @@
 // Document 01, "Numbers": what the planner does with one or two f64s beside +, -, *, / and comparing. Each function is equal to its definition in
 // specs/, on every f64. `laws` holds theorems on them.
+#![tactic(auto)]
+
 ghost use Rattle.std.specs.Prelude.{◌≡◌, ◌+◌, ◌*◌, ◌/◌, ◌^◌, ◌<◌, true, false, bit_and, from_bits};
 ghost use Rattle.std.specs.Float.{binary64};
 ghost use Rattle.numbers.specs.Reals.{max_of, min_of, abs_of, clamp_unit};

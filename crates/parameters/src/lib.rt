@@ -1,4 +1,6 @@
 // A plan's terms: its parameters, and what its levels must be.
+#![tactic(auto)]
+
 ghost use Rattle.std.specs.Prelude.{◌≡◌, ◌*◌, ◌≤◌, length};
 ghost use Rattle.parameters.specs.Terms.{are_three, are_numbers, are_steps, are_heights, are_terms, too_deep, too_fine, any_of};
 ghost use Rattle.parameters.specs.Inside.{levels_in, refusal_of_count};

@@ -1,4 +1,6 @@
 // From the bytes of an STL file to a swept-disk height: read, build and ask in one call.
+#![tactic(auto)]
+
 ghost use Rattle.std.specs.Prelude.{◌≡◌};
 ghost use Rattle.ask.specs.Ask.{refused_by};
 ghost use Rattle.height.specs.Sweep.{sweep};

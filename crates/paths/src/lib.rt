@@ -1,4 +1,6 @@
 // Reads a list of moves from the bytes of its file: a head with the start point, then 25 bytes a move. Nothing is copied out: a move is read where it stands.
+#![tactic(auto)]
+
 ghost use Rattle.std.specs.Prelude.{◌≡◌, true, ℕ, ◌+◌, ◌*◌, ◌/◌, ◌%◌, ◌≤◌, ◌<◌, length};
 ghost use Rattle.fields.specs.Little.{value};
 ghost use Rattle.fields.specs.Rows.{finite, first_bad};

@@ -1,4 +1,6 @@
 // The plan: the flat levels of a mesh, and the runs that finish them.
+#![tactic(auto)]
+
 ghost use Rattle.std.specs.Prelude.{false, ◌≡◌, ◌*◌, ◌≤◌, length, replicate};
 ghost use Rattle.grid.specs.Index.{index_of};
 ghost use Rattle.fives.specs.Tables.{zeroed};

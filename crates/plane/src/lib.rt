@@ -1,4 +1,6 @@
 // Triangles of the mesh, seen from above: ranges of coordinates, a triangle's box, plan distances, what a contact is and the best so far.
+#![tactic(auto)]
+
 ghost use Rattle.std.specs.Prelude.{◌≡◌, ◌+◌, ◌*◌, ◌≤◌, length};
 ghost use Rattle.plane.specs.Ranges.{is_coordinate, is_radius, is_point};
 ghost use Rattle.plane.specs.Mesh.{triangle_of, lowest, highest, top_of, bounds_of};

@@ -1,4 +1,6 @@
 // Heights asked along rows, with the search's own marks: whether a sample is on the level, and what becomes of a piece of a run.
+#![tactic(auto)]
+
 ghost use Rattle.std.specs.Prelude.{◌≡◌, true};
 ghost use Rattle.grid.specs.Index.{index_of};
 ghost use Rattle.crests.specs.Inside.{Crested};

@@ -1,5 +1,7 @@
 // A question's cells, what refusal 7 tests of a header and its tables, and the list of numbers that a walk may go over in place of the cells. Of what a
 // question is lent these functions read, and never write.
+#![tactic(auto)]
+
 ghost use Rattle.std.specs.Prelude.{cond, [], ◌∷◌, ◌≡◌, ◌+◌, ◌*◌, ◌≤◌, ◌<◌, min, length, set, true};
 ghost use Rattle.walk.specs.Walk.{cell, row, block};
 ghost use Rattle.walk.specs.Inside.{StandsFor};

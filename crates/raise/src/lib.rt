@@ -1,4 +1,6 @@
 // Raising a part: one amount is added to every z of its mesh, and its index stays an index.
+#![tactic(auto)]
+
 ghost use Rattle.std.specs.Prelude.{◌≡◌, ◌*◌, ◌≤◌, length};
 ghost use Rattle.spans.specs.Mesh.{first_bad};
 ghost use Rattle.spans.specs.Inside.{AllGood};

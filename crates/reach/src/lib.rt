@@ -1,4 +1,6 @@
 // A chord, the straight move of a tool's tip, and where along it a triangle is within a cutter's reach.
+#![tactic(auto)]
+
 ghost use Rattle.std.specs.Prelude.{◌≡◌};
 ghost use Rattle.std.specs.Float.Ieee.{lt, le};
 ghost use Rattle.numbers.specs.Reals.{f0, f1};

@@ -1,4 +1,6 @@
 // What a build of a mesh needs: how many starts and how many members.
+#![tactic(auto)]
+
 ghost use Rattle.std.specs.Prelude.{◌≡◌};
 ghost use Rattle.grid.specs.Build.{refusal_of_grid};
 ghost use Rattle.grid.specs.Inside.{Gridded};

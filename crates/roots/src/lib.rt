@@ -1,6 +1,8 @@
 // Document 01, "Numbers": the root, and hypot of document 02, request 6, both correctly rounded, each equal to its definition in specs/ on every f64. `laws`
 // holds theorems on them. The root of a number above zero, m * 2^e: which significand is nearest is decided in whole numbers. A float gives a candidate, whole
 // numbers check it, and where it fails the root is found digit by digit.
+#![tactic(auto)]
+
 ghost use Rattle.std.specs.Prelude.{◌≡◌, ◌+◌, ◌*◌, ◌/◌, ◌%◌, ◌^◌, ◌<◌, ◌≤◌, true, false, ◌||◌, negsuc, if◌then◌else◌};
 ghost use Rattle.std.specs.Float.{nan, inf, fin};
 ghost use Rattle.std.specs.Float.Ieee.{minus, le};

@@ -1,4 +1,6 @@
 // The search for runs: each row of each level is sampled, its stretches on the level are runs, and a run that is not clear is halved.
+#![tactic(auto)]
+
 ghost use Rattle.std.specs.Prelude.{◌≡◌, map, true, false, ◌+◌, ◌*◌, ◌≤◌, ◌<◌, length};
 ghost use Rattle.grid.specs.Index.{index_of};
 ghost use Rattle.crests.specs.Inside.{Crested};

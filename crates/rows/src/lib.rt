@@ -1,4 +1,6 @@
 // Rows: where the rows of a level lie, and where the samples of a row.
+#![tactic(auto)]
+
 ghost use Rattle.std.specs.Prelude.{◌≡◌};
 ghost use Rattle.rows.specs.Lanes.{spread_of, parts_of, intervals_of, step_of, samples_of, cross_of, along_of, laid_of, between};
 

@@ -1,4 +1,6 @@
 // Runs: what the run search keeps is joined where it touches and written to a lent table; what it drops is added up.
+#![tactic(auto)]
+
 ghost use Rattle.std.specs.Prelude.{◌≡◌, ◌&&◌, ◌+◌, ◌<◌, true};
 ghost use Rattle.runs.specs.Runs.{length_of, touches_of, lengthened};
 ghost use Rattle.runs.specs.Pieces.{first_half};

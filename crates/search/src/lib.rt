@@ -1,4 +1,6 @@
 // The search over all levels of a table: the rows of each, one after the other. Every second row that has a stretch is walked back.
+#![tactic(auto)]
+
 ghost use Rattle.std.specs.Prelude.{false, [], ◌≡◌, ◌*◌, ◌≤◌, ◌<◌, length};
 ghost use Rattle.grid.specs.Index.{index_of};
 ghost use Rattle.crests.specs.Inside.{Crested};

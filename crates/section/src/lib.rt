@@ -1,4 +1,6 @@
 // A section of a tool: its profile, its validity, and its contact with one triangle.
+#![tactic(auto)]
+
 ghost use Rattle.std.specs.Prelude.{true, ◌≡◌, ◌≤◌};
 ghost use Rattle.numbers.specs.Reals.{◌⊕◌};
 ghost use Rattle.above.specs.Above.{offer_of};

@@ -1,4 +1,6 @@
 // Whether a triangle blocks a tool's section on a chord.
+#![tactic(auto)]
+
 ghost use Rattle.std.specs.Prelude.{◌≡◌};
 ghost use Rattle.golden.specs.Search.{rises, golden_start, golden_step};
 ghost use Rattle.golden.specs.Upper.{bracket_start, bracket_step, bracket_run, concave_max_upper};

@@ -1,4 +1,6 @@
 // The section questions over a lent slice of sections: thin functions over those of a flat table.
+#![tactic(auto)]
+
 ghost use Rattle.std.specs.Prelude.{◌≡◌, ◌≤◌, length};
 ghost use Rattle.grid.specs.Index.{index_of};
 ghost use Rattle.ask.specs.Ask.{ended};

@@ -2,6 +2,8 @@
 // how near they are; each comes within 2^-15 of 1 / sqrt at five points of its stretch, or a search would only take longer. The first 8 share out 1/2 to 1
 // evenly, the others 1 to 2; each meets 1 / sqrt at three points of its stretch. A `match` on constants becomes a table that is only read, and one of 16 is
 // short enough for the compiler to put into each place that calls it, where one of 128 was called.
+#![tactic(auto)]
+
 ghost use Rattle.std.specs.Prelude.{◌≡◌, true};
 ghost use Rattle.seeds.specs.Near.{is_curve};
 

@@ -1,5 +1,7 @@
 // The set-up height: the floor, or the highest top over it of any triangle whose box meets the question's box grown by the radius. All numbers are
 // counted from the least i32.
+#![tactic(auto)]
+
 ghost use Rattle.std.specs.Prelude.{◌≡◌, true, ◌+◌, ◌-◌, ◌*◌, ◌^◌, ◌≤◌, ◌<◌, min, length};
 ghost use Rattle.walk.specs.Walk.{block, fold};
 ghost use Rattle.walk.specs.Inside.{look, Below, Room, Walkable};

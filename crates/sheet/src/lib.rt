@@ -1,6 +1,8 @@
 // A tool's sections from its sheet: camlib's `sections_of`, with the tip height and the radii above the cutting length and the neck handed in.
 //
 // Every reason to refuse is looked for before the first section is written, so a refused sheet leaves the lent table as it was.
+#![tactic(auto)]
+
 ghost use Rattle.std.specs.Prelude.{◌≡◌, true, ◌&&◌, [], ◌∷◌, min, ◌+◌, ◌*◌, ◌/◌, ◌^◌, ◌≤◌, ◌<◌, length, take};
 ghost use Rattle.fields.specs.Rows.{all_finite};
 ghost use Rattle.tool.specs.Tool.{is_tool};

@@ -1,4 +1,6 @@
 // An f32 that arrives as its bits, made an f64 of the same value.
+#![tactic(auto)]
+
 ghost use Rattle.std.specs.Prelude.{◌≡◌, true};
 ghost use Rattle.fields.specs.Rows.{finite};
 ghost use Rattle.single.specs.Single.{value_of, IsNumberOf};

@@ -1,4 +1,6 @@
 // Triangle numbers sorted in place by z falling, equal ones in mesh order: a heap sort over a lent table.
+#![tactic(auto)]
+
 ghost use Rattle.std.specs.Prelude.{◌≡◌, ◌++◌, ◌+◌, ◌*◌, ◌≤◌, ◌<◌, length, get_or, take, drop};
 ghost use Rattle.sort.specs.Ranks.{before, sorted_by};
 ghost use Rattle.sort.specs.Inside.{Rearranged, swapped, Heap, Within, later_of};

@@ -1,4 +1,6 @@
 // Where a mesh lies, how large the cells over it are, and which of them a stretch of an axis covers.
+#![tactic(auto)]
+
 ghost use Rattle.std.specs.Prelude.{◌≡◌, ◌+◌, ◌-◌, ◌*◌, ◌^◌, ◌<◌, ◌≤◌, min, true, false, T, length, is_nan};
 ghost use Rattle.spans.specs.Mesh.{first_bad, box_of, widened, extent_of, farther, farthest_of, scale_of, eps_of};
 ghost use Rattle.std.specs.Float.Ieee.{le};

@@ -1,5 +1,7 @@
 // Where the walks of a level begin: just under it instead of at the floor, where no sample and no piece is decided otherwise, so that triangles that lie
 // lower are left out without a contact.
+#![tactic(auto)]
+
 ghost use Rattle.std.specs.Prelude.{true, ◌≡◌, ℕ, ◌+◌, ◌*◌, ◌≤◌, ◌<◌, length, List};
 ghost use Rattle.numbers.specs.Reals.{◌⊖◌};
 ghost use Rattle.grid.specs.Index.{index_of};

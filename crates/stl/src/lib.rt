@@ -1,6 +1,8 @@
 // Reads a binary STL file into a mesh: 80 bytes of heading, a count, and 50 bytes a triangle, of which the 36 of its vertices count.
 //
 // Every reason to refuse it is looked for before the first number is written, so a refused file leaves the lent mesh as it was.
+#![tactic(auto)]
+
 ghost use Rattle.std.specs.Prelude.{◌≡◌, ◌++◌, true, ℕ, ◌+◌, ◌*◌, ◌/◌, ◌≤◌, ◌<◌, length, drop};
 ghost use Rattle.std.proofs.lemmas.List.Edits.{sets};
 ghost use Rattle.fields.specs.Rows.{finite, row};

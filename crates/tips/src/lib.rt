@@ -1,4 +1,6 @@
 // The highest tip of a tool that rests on the part: a bull-nose cutter, or a table of sections.
+#![tactic(auto)]
+
 ghost use Rattle.std.specs.Prelude.{true, List, ◌≡◌, ℕ, ◌+◌, ◌*◌, ◌≤◌, ◌<◌, length};
 ghost use Rattle.walk.specs.Walk.{block, fold};
 ghost use Rattle.walk.specs.Inside.{seen, look, Below, Room, Walkable};

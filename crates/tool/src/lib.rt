@@ -1,4 +1,6 @@
 // A tool: a flat table of sections, four numbers each.
+#![tactic(auto)]
+
 ghost use Rattle.std.specs.Prelude.{◌≡◌, ◌+◌, ◌*◌, ◌≤◌, length};
 ghost use Rattle.rules.specs.Every.{is_from, every};
 ghost use Rattle.section.specs.Section.{valid_section};

@@ -1,4 +1,6 @@
 // Triangles that lie so low that no contact with them is above a height, as it is computed. The laws in proofs/ are on rounded sums of products.
+#![tactic(auto)]
+
 ghost use Rattle.std.specs.Prelude.{◌≡◌};
 ghost use Rattle.tops.specs.Inside.{is_start, is_low, lies_low, is_apart, lies_apart, is_parted};
 

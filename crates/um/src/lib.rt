@@ -1,4 +1,6 @@
 // The index of a mesh in whole micrometres: a grid over it whose cell is a power of two, and for each cell the triangles that cover it, in two lent tables.
+#![tactic(auto)]
+
 ghost use Rattle.std.specs.Prelude.{◌≡◌, ◌+◌, ◌*◌, ◌/◌, ◌^◌, ◌<◌, ◌≤◌, length};
 ghost use Rattle.cells.specs.Cover.{starts_of, members_table};
 ghost use Rattle.cells.specs.Inside.{Room, CountedAll, Ready, Filled, Fits};

@@ -1,5 +1,7 @@
 // The lines of the fixed lists that the replay programs read: a letter, then numbers of 16 hex digits each with a blank before them, every NaN written
 // 7ff8000000000000.
+#![tactic(auto)]
+
 ghost use Rattle.std.specs.Prelude.{◌≡◌, ◌+◌, ◌*◌, ◌≤◌, length};
 ghost use Rattle.vectors.specs.Lines.{digit_of, hex_of, float_of, bits_of, asked_of, triangle_of, unlike_of, heights_in, differs_from};
 

@@ -1,4 +1,6 @@
 // What every question's walk shares: the stamp's turn, the mark of one triangle, and the numbers of one cell.
+#![tactic(auto)]
+
 ghost use Rattle.std.specs.Prelude.{◌≡◌, not, cond, ◌<◌, eqb, length, get_or, set, replicate};
 ghost use Rattle.walk.specs.Walk.{cell, next_stamp, ready_marks};
 ghost use Rattle.walk.specs.Inside.{Stretch};

@@ -1,4 +1,6 @@
 // What refusal 7 tests of the plan: every cell of the grid and every triangle of the mesh, and no mark.
+#![tactic(auto)]
+
 ghost use Rattle.std.specs.Prelude.{◌≡◌, ◌+◌, ◌*◌, ◌/◌, ◌<◌, ltb, length};
 ghost use Rattle.grid.specs.Index.{index_of};
 ghost use Rattle.rules.specs.Every.{every, each};

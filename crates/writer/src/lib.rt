@@ -1,6 +1,8 @@
 // Writes a job: a mesh, a floor, a radius and questions as one file of bytes, little endian, as the reader takes it.
 //
 // Every reason to refuse is looked for before the first byte is written, so a refusal leaves the lent bytes as they were.
+#![tactic(auto)]
+
 ghost use Rattle.std.specs.Prelude.{◌≡◌, true, ◌∷◌, [], ◌++◌, ◌+◌, ◌*◌, ◌/◌, ◌≤◌, length};
 ghost use Rattle.std.specs.Float.{binary64};
 ghost use Rattle.std.specs.Float.Ieee.{to_bits};

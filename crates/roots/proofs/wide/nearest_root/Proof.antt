@@ -32,11 +32,15 @@ add-q c = omega (arith, (small c.before.before).1)
 
 mul-rest-2 : tie.Need-overflow_mul-rest-in-loop-r invariant-loop decreases-loop
 mul-rest-2 c = elim c.before.if-t-rest.branch [
-    then-t-rest w ↦ omega (arith, (small c.before.before.before).0) | else-t-rest w ↦ omega (arith, (small c.before.before.before).0) ]
+  | then-t-rest w ↦ omega (arith, (small c.before.before.before).0)
+  | else-t-rest w ↦ omega (arith, (small c.before.before.before).0)
+]
 
 add-rest-2 : tie.Need-overflow_add-rest-then-low-r invariant-loop decreases-loop
 add-rest-2 c = let s = (small c.before.before.before.before).0 in elim c.before.before.if-t-rest.branch [
-    then-t-rest w ↦ omega arith | else-t-rest w ↦ omega arith ]
+  | then-t-rest w ↦ omega arith
+  | else-t-rest w ↦ omega arith
+]
 
 loop-again : tie.Need-loop-r-preserved invariant-loop decreases-loop
 loop-again c =
@@ -45,12 +49,14 @@ loop-again c =
     let v = l.before.args.hi * 2 ^ 55 + l.before.args.lo in
     let part : Digits v l.loop-r.rest l.loop-r.low l.loop-r.q (2 * l.loop-r.r) → Part v (2 * x.if-t-rest.rest) l.loop-r.low x.if-t-rest.q l.loop-r.r =
     λ d. elim x.if-t-rest.branch [
-    then-t-rest w ↦ rw (w.rest-is, w.q-is) (set v l.loop-r.rest l.loop-r.low l.loop-r.q l.loop-r.r d w.if-t-rest.true)
-    | else-t-rest w ↦ rw (w.rest-is, w.q-is) (clear v l.loop-r.rest l.loop-r.low l.loop-r.q l.loop-r.r d w.if-t-rest.false)] in
+      | then-t-rest w ↦ rw (w.rest-is, w.q-is) (set v l.loop-r.rest l.loop-r.low l.loop-r.q l.loop-r.r d w.if-t-rest.true)
+      | else-t-rest w ↦ rw (w.rest-is, w.q-is) (clear v l.loop-r.rest l.loop-r.low l.loop-r.q l.loop-r.r d w.if-t-rest.false)
+    ] in
     found_next v l.loop-r.rest l.loop-r.low l.loop-r.q l.loop-r.r c.if-low-r.rest c.if-low-r.low x.if-t-rest.q
     (λ d. elim c.if-low-r.branch [
-    then-low-r w ↦ rw (w.rest-is, w.low-is) (brought v (2 * x.if-t-rest.rest) l.loop-r.low x.if-t-rest.q l.loop-r.r (part d) w.if-low-r.true)
-    | else-low-r w ↦ rw (w.rest-is, w.low-is) (none v (2 * x.if-t-rest.rest) l.loop-r.low x.if-t-rest.q l.loop-r.r (part d) w.if-low-r.false)])
+      | then-low-r w ↦ rw (w.rest-is, w.low-is) (brought v (2 * x.if-t-rest.rest) l.loop-r.low x.if-t-rest.q l.loop-r.r (part d) w.if-low-r.true)
+      | else-low-r w ↦ rw (w.rest-is, w.low-is) (none v (2 * x.if-t-rest.rest) l.loop-r.low x.if-t-rest.q l.loop-r.r (part d) w.if-low-r.false)
+    ])
     x.before.loop-r-test.true l.loop-r.invariant
 
 ended : (c : tie.At-loop-r invariant-loop decreases-loop) → c.loop-r.r ≡ 0 → (c.before.args.hi * 2 ^ 55 + c.before.args.lo
