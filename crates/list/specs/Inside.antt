@@ -1,8 +1,5 @@
 -- What reading the input promises: the bytes that it counts stand within the buffer.
-use Rattle.std.specs.Prelude.{ℕ, ◌≤◌}
-use Rattle.list.specs.declared.Input.{Input}
-use Rattle.list.specs.declared.Input.TheVariants.{Failed, Length}
+use Rattle.std.specs.Prelude.{ℕ, ◌≤◌, Result, IfOk}
 
-abbrev pub Within : Input → ℕ → Type 0
-Within Failed room = Unit {0}
-Within (Length n) room = n ≤ room
+abbrev pub Within : {E : Type 0} → Result ℕ E → ℕ → Type 0
+Within r room = IfOk r (λ n. n ≤ room)
