@@ -7,10 +7,13 @@
 // ends of the ranges, i determinants near 1e-300, j no length or no radius, k large and far, l any bits. The list was made by compare/lists/make, from camlib's
 // own functions with document 01's max and min and request 6's hypot. Written are six numbers: the lines, the heights among the contacts, and how many contacts
 // of capsules, of bull-nose cutters and of sections and how many distances differ.
+#![tactic(auto)]
+
 use bull::Bull;
-use libc::{STDIN_FILENO, STDOUT_FILENO};
 use plane::{Contact, Triangle};
 use section::Section;
+use std::io;
+use std::io::Read;
 
 // The contact in the capsule.
 fn of_capsule(line: &[u8; 293], t: Triangle) -> Contact {
@@ -60,8 +63,8 @@ fn far(line: &[u8; 293], t: Triangle) -> u64 {
 // Counts a contact, and in column k whether it differs.
 fn tell(table: &mut [u64; 6], line: &[u8; 293], c: Contact, k: usize) {
     if k < 6 {
-        table[1] = std::num::wrapping_add_u64(table[1], vectors::height(c));
-        table[k] = std::num::wrapping_add_u64(table[k], vectors::differs(line, c));
+        table[1] = table[1].wrapping_add(vectors::height(c));
+        table[k] = table[k].wrapping_add(vectors::differs(line, c));
     }
 }
 
@@ -69,8 +72,8 @@ fn tell(table: &mut [u64; 6], line: &[u8; 293], c: Contact, k: usize) {
 fn count(table: &mut [u64; 6], line: &[u8; 293], n: usize) {
     if n == 293 {
         let t = vectors::triangle(line);
-        table[0] = std::num::wrapping_add_u64(table[0], 1);
-        table[5] = std::num::wrapping_add_u64(table[5], far(line, t));
+        table[0] = table[0].wrapping_add(1);
+        table[5] = table[5].wrapping_add(far(line, t));
         if line[0] == b'n' {
             tell(table, line, of_bull(line, t), 3);
         } else {
@@ -83,19 +86,23 @@ fn count(table: &mut [u64; 6], line: &[u8; 293], n: usize) {
     }
 }
 
-fn write(n: u64) {
-    io::print_decimal(STDOUT_FILENO, n);
-    io::write_all(STDOUT_FILENO, b"\n");
+fn write(rt: &impl Print, n: u64) -> io::Result<()> {
+    println!(rt; "{n}")
 }
 
-fn main() {
+fn main(rt: HostRuntime) -> io::Result<()> {
+    let mut input = rt.stdin();
     let mut table = [0u64; 6];
     for _ in 0..1000usize {
         let mut line = [0u8; 293];
-        let n = io::read_full(STDIN_FILENO, &mut line);
+        let n = match input.read_exact(&mut line) {
+            Ok(()) => 293,
+            Err(_) => 0,
+        };
         count(&mut table, &line, n);
     }
     for k in 0..6usize {
-        write(table[k]);
+        write(&rt, table[k])?;
     }
+    Ok(())
 }

@@ -4,7 +4,10 @@
 // document 01's rules in Rust. It has the first and last values of exponents, a subnormal of each length, squares and their neighbours, halves and
 // whole numbers around 2^52 and 2^53, both zeros, both infinities, NaN, and some random bits. For each function a line is written: its letter, how
 // many questions it had and how many answers differ.
-use libc::{STDIN_FILENO, STDOUT_FILENO};
+#![tactic(auto)]
+
+use std::io;
+use std::io::Read;
 
 // the letter at place k: root, down, up, abs, clamp, max, min (n), hypot, total order
 fn letter(k: usize) -> u8 {
@@ -57,7 +60,7 @@ fn place(what: u8) -> usize {
 
 fn add(table: &mut [u32; 9], k: usize, by: u32) {
     if k < 9 {
-        table[k] = std::num::wrapping_add_u32(table[k], by);
+        table[k] = table[k].wrapping_add(by);
     }
 }
 
@@ -70,24 +73,25 @@ fn count(asked: &mut [u32; 9], wrong: &mut [u32; 9], line: &[u8; 53], n: usize) 
     }
 }
 
-fn report(k: usize, asked: u32, wrong: u32) {
-    let name = [letter(k), b' '];
-    io::write_all(STDOUT_FILENO, &name);
-    io::print_decimal(STDOUT_FILENO, asked as u64);
-    io::write_all(STDOUT_FILENO, b" ");
-    io::print_decimal(STDOUT_FILENO, wrong as u64);
-    io::write_all(STDOUT_FILENO, b"\n");
+fn report(rt: &impl Print, k: usize, asked: u32, wrong: u32) -> io::Result<()> {
+    let name = letter(k) as char;
+    println!(rt; "{name} {asked} {wrong}")
 }
 
-fn main() {
+fn main(rt: HostRuntime) -> io::Result<()> {
+    let mut input = rt.stdin();
     let mut asked = [0u32; 9];
     let mut wrong = [0u32; 9];
     for _ in 0..2000usize {
         let mut line = [0u8; 53];
-        let n = io::read_full(STDIN_FILENO, &mut line);
+        let n = match input.read_exact(&mut line) {
+            Ok(()) => 53,
+            Err(_) => 0,
+        };
         count(&mut asked, &mut wrong, &line, n);
     }
     for k in 0..9usize {
-        report(k, asked[k], wrong[k]);
+        report(&rt, k, asked[k], wrong[k])?;
     }
+    Ok(())
 }
