@@ -5,13 +5,16 @@
 // functions with document 01's max, min and hypot. Then, where the list was answered rightly, a hundred thousand cases are asked over the slice and
 // over the flat table, and whole answers and marks are compared. Written are six numbers: the lines, how many of them are accepted and how many
 // clear, how many differ from the list; the cases asked both ways, and how many of them differ.
+#![tactic(auto)]
+
 ghost use Rattle.std.specs.Prelude.{◌≤◌};
 
 use ask::{Answer, Ruling};
 use grid::Header;
-use libc::{STDIN_FILENO, STDOUT_FILENO};
 use reach::Chord;
 use section::Section;
+use std::io;
+use std::io::Read;
 
 // A case but for its mesh: the chord, whose first end is the place, how many sections the tool has, and what they are made from.
 #[derive(Clone, Copy)]
@@ -131,8 +134,7 @@ fn question_of(seed: u64) -> Question
     }
 }
 
-// The highest tip of a tool of the first n sections, over a slice of them. Proved by hand, as the next: the borrow checker covers no function that
-// makes a slice of structs.
+// The highest tip of a tool of the first n sections, over a slice of them.
 fn of_heights(
     mesh: &[f64],
     h: Header,
@@ -398,18 +400,18 @@ fn count_line(table: &mut [u64; 6], line: &[u8; 38], n: usize, i: u64) {
         let ruling = a.ruling;
         let finding = ruling.finding;
         let clear = alike(wide(ask::finding_number(finding)), 1);
-        table[0] = std::num::wrapping_add_u64(table[0], 1);
-        table[1] = std::num::wrapping_add_u64(table[1], alike(wide(ruling.refusal), 0));
-        table[2] = std::num::wrapping_add_u64(table[2], clear);
-        table[3] = std::num::wrapping_add_u64(table[3], differs(line, a));
+        table[0] = table[0].wrapping_add(1);
+        table[1] = table[1].wrapping_add(alike(wide(ruling.refusal), 0));
+        table[2] = table[2].wrapping_add(clear);
+        table[3] = table[3].wrapping_add(differs(line, a));
     }
 }
 
 // Counts case i, asked over the slice and over the table.
 fn count_both(table: &mut [u64; 6], i: u64) {
     let d = parts(asked(i, true), asked(i, false));
-    table[4] = std::num::wrapping_add_u64(table[4], 1);
-    table[5] = std::num::wrapping_add_u64(table[5], d);
+    table[4] = table[4].wrapping_add(1);
+    table[5] = table[5].wrapping_add(d);
 }
 
 // A hundred thousand cases both ways, where no line differed.
@@ -425,23 +427,26 @@ fn ask_all(table: &mut [u64; 6]) {
     }
 }
 
-fn write(n: u64) {
-    io::print_decimal(STDOUT_FILENO, n);
-    io::write_all(STDOUT_FILENO, b"\n");
+fn write(rt: &impl Print, n: u64) -> io::Result<()> {
+    println!(rt; "{n}")
 }
 
-fn main() {
+fn main(rt: HostRuntime) -> io::Result<()> {
+    let mut input = rt.stdin();
     let mut table = [0u64; 6];
     for i in 0..1000u64 {
         let mut line = [0u8; 38];
-        let n = io::read_full(STDIN_FILENO, &mut line);
+        let n = match input.read_exact(&mut line) {
+            Ok(()) => 38,
+            Err(_) => 0,
+        };
         count_line(&mut table, &line, n, i);
     }
     ask_both(&mut table);
-    write(table[0]);
-    write(table[1]);
-    write(table[2]);
-    write(table[3]);
-    write(table[4]);
-    write(table[5]);
+    write(&rt, table[0])?;
+    write(&rt, table[1])?;
+    write(&rt, table[2])?;
+    write(&rt, table[3])?;
+    write(&rt, table[4])?;
+    write(&rt, table[5])
 }
