@@ -4,7 +4,6 @@
 ghost use Rattle.std.specs.Prelude.{length};
 ghost use Rattle.list.specs.Inside.{Within};
 
-use anyhow::{Context, Result};
 use std::io;
 use std::io::{Read, Stdin, Write};
 
@@ -30,10 +29,17 @@ fn read_input(input: &mut Stdin, buf: &mut [u8]) -> io::Result<usize>
     Ok(done)
 }
 
-fn main(rt: HostRuntime) -> Result<()> {
+// A read or a write that fails is told on standard error.
+fn main(rt: HostRuntime) -> io::Result<()> {
     let mut bytes = [0u8; listing::INPUT];
-    let n = read_input(&mut rt.stdin(), &mut bytes).context("standard input")?;
+    let n = match read_input(&mut rt.stdin(), &mut bytes) {
+        Ok(n) => n,
+        Err(e) => return eprintln!(rt; "standard input: {e}"),
+    };
     let mut text = [0u8; listing::TEXT];
     let k = listing::listing(&bytes[..n], &mut text);
-    rt.stdout().write_all(&text[..k]).context("standard output")
+    match rt.stdout().write_all(&text[..k]) {
+        Ok(()) => Ok(()),
+        Err(e) => eprintln!(rt; "standard output: {e}"),
+    }
 }
