@@ -1,5 +1,6 @@
 -- Candidates taken on top of a best so far give what their own contact gives beside it. Heights take each other's place in one order on all floats, a NaN below
 -- every number, so it does not matter which two are compared first.
+use Rattle.std.specs.Prelude.{None, Option, Some}
 use mathlib.Core.Bool.{Bool, true, false, cond}
 use mathlib.Core.Path.{◌≡◌, refl, sym, ap, ◌∙◌}
 use Prim.Native.Nat.{ℕ, zero, suc, ◌+◌, ◌*◌, ◌≤◌, ◌<◌}
@@ -14,8 +15,7 @@ use Rattle.order.proofs.Strict.{lt_goes_on, lt_number, le_not_lt}
 use Rattle.numbers.specs.Reals.{◌⊘◌, f0}
 use Rattle.plane.specs.declared.Touch.{Touch}
 use Rattle.plane.specs.declared.Contact.{Contact}
-use Rattle.plane.specs.declared.Contact.TheVariants.{Nothing, Height}
-use Rattle.plane.specs.Contacts.{exceeds_of, take_of}
+use Rattle.plane.specs.Contacts.{exceeds_of, take_of, at_height}
 use Rattle.plane.proofs.Higher.{same_waits}
 use Rattle.above.specs.Above.{offer_of, so_far}
 use Rattle.above.specs.Inside.{limit_of, touches_of}
@@ -134,42 +134,42 @@ rises f b z p q =
     (λ k. beside_number z f k ∙ lt_goes_on f b z (sym (beside_number b f k) ∙ p) (sym (beside_number z b n) ∙ q))))
 
 -- ---- contacts
-pub takes : (b z : Float) (s t : Touch) → exceeds_of z b ≡ true → take_of (Height b s) z t ≡ Height z t
+pub takes : (b z : Float) (s t : Touch) → exceeds_of z b ≡ true → take_of (at_height b s) z t ≡ at_height z t
 unfolding take_of
 takes b z s t e = rw e
 
-pub waits : (b z : Float) (s t : Touch) → exceeds_of z b ≡ false → take_of (Height b s) z t ≡ Height b s
+pub waits : (b z : Float) (s t : Touch) → exceeds_of z b ≡ false → take_of (at_height b s) z t ≡ at_height b s
 unfolding take_of
 waits b z s t e = rw e
 
 -- a candidate more on top of c
-pub goes_on : (c d : Contact) (z : Float) (t : Touch) → offer_of c (take_of d z t) ≡ take_of (offer_of c d) z t
+pub goes_on : (c d : Option Contact) (z : Float) (t : Touch) → offer_of c (take_of d z t) ≡ take_of (offer_of c d) z t
 unfolding offer_of
-goes_on c Nothing z t = unfold take_of in refl
-goes_on Nothing (Height b s) z t = unfold take_of in by_test (exceeds_of z b) (λ e. rw e) (λ e. rw e)
-goes_on (Height f r) (Height b s) z t =
-    by_test (exceeds_of z b)
-    (λ e. ap (offer_of (Height f r)) (takes b z s t e)
-    ∙ by_test (exceeds_of b f)
-    (λ g. takes f z r t (rises f b z g e) ∙ sym (ap (λ c. take_of c z t) (takes f b r s g) ∙ takes b z s t e))
-    (λ g. sym (ap (λ c. take_of c z t) (waits f b r s g))))
-    (λ e. ap (offer_of (Height f r)) (waits b z s t e)
-    ∙ by_test (exceeds_of b f)
-    (λ g. takes f b r s g ∙ sym (ap (λ c. take_of c z t) (takes f b r s g) ∙ waits b z s t e))
-    (λ g. by_test (exceeds_of z f)
-    (λ k. absurd (no (sym g ∙ passes f z b k e)))
-    (λ k. waits f b r s g ∙ sym (ap (λ c. take_of c z t) (waits f b r s g) ∙ waits f z r t k))))
+goes_on c None z t = unfold take_of in refl
+goes_on None (Some m) z t = unfold take_of in by_test (exceeds_of z m.height) (λ e. rw e) (λ e. rw e)
+goes_on (Some m) (Some n) z t =
+    by_test (exceeds_of z n.height)
+    (λ e. ap (offer_of (at_height m.height m.touch)) (takes n.height z n.touch t e)
+    ∙ by_test (exceeds_of n.height m.height)
+    (λ g. takes m.height z m.touch t (rises m.height n.height z g e) ∙ sym (ap (λ c. take_of c z t) (takes m.height n.height m.touch n.touch g) ∙ takes n.height z n.touch t e))
+    (λ g. sym (ap (λ c. take_of c z t) (waits m.height n.height m.touch n.touch g))))
+    (λ e. ap (offer_of (at_height m.height m.touch)) (waits n.height z n.touch t e)
+    ∙ by_test (exceeds_of n.height m.height)
+    (λ g. takes m.height n.height m.touch n.touch g ∙ sym (ap (λ c. take_of c z t) (takes m.height n.height m.touch n.touch g) ∙ waits n.height z n.touch t e))
+    (λ g. by_test (exceeds_of z m.height)
+    (λ k. absurd (no (sym g ∙ passes m.height z n.height k e)))
+    (λ k. waits m.height n.height m.touch n.touch g ∙ sym (ap (λ c. take_of c z t) (waits m.height n.height m.touch n.touch g) ∙ waits m.height z m.touch t k))))
 
-pub offers : (c d e : Contact) → offer_of c (offer_of d e) ≡ offer_of (offer_of c d) e
+pub offers : (c d e : Option Contact) → offer_of c (offer_of d e) ≡ offer_of (offer_of c d) e
 unfolding offer_of
-offers c d Nothing = refl
-offers c d (Height z t) = goes_on c d z t
+offers c d None = refl
+offers c d (Some m) = goes_on c d m.height m.touch
 
 -- on top of nothing
-pub alone : (c : Contact) → offer_of Nothing c ≡ c
+pub alone : (c : Option Contact) → offer_of None c ≡ c
 unfolding offer_of take_of
-alone Nothing = refl
-alone (Height z t) = refl
+alone None = refl
+alone (Some m) = refl
 
 -- ---- what is at most the limit is not taken
 none_under : (z : Float) → le z (f0 ⊘ f0) ≡ true → ⊥
@@ -187,44 +187,44 @@ at_most_waits z b h =
     not_of_nan : (z b : Float) → is_nan b ≡ true → le z b ≡ true → ⊥
     not_of_nan z b n h = no (sym (le_number z b h) ∙ n)
 
-pub stays_under : (c : Contact) (z : Float) (t : Touch) → le z (limit_of c) ≡ true → take_of c z t ≡ c
+pub stays_under : (c : Option Contact) (z : Float) (t : Touch) → le z (limit_of c) ≡ true → take_of c z t ≡ c
 unfolding limit_of
-stays_under Nothing z t h = absurd (none_under z h)
-stays_under (Height b s) z t h = waits b z s t (at_most_waits z b h)
+stays_under None z t h = absurd (none_under z h)
+stays_under (Some m) z t h = waits m.height z m.touch t (at_most_waits z m.height h)
 
 -- ---- three candidates, one after the other
-pub three : (c₀ c₁ c₂ c₃ e₁ e₂ e₃ : Contact) → c₁ ≡ offer_of c₀ e₁ → c₂ ≡ offer_of c₁ e₂ → c₃ ≡ offer_of c₂ e₃ → c₃ ≡ offer_of (offer_of (offer_of c₀ e₁) e₂) e₃
+pub three : (c₀ c₁ c₂ c₃ e₁ e₂ e₃ : Option Contact) → c₁ ≡ offer_of c₀ e₁ → c₂ ≡ offer_of c₁ e₂ → c₃ ≡ offer_of c₂ e₃ → c₃ ≡ offer_of (offer_of (offer_of c₀ e₁) e₂) e₃
 three c₀ c₁ c₂ c₃ e₁ e₂ e₃ q₁ q₂ q₃ = rw (q₃, q₂, q₁)
 
-pub three_on : (c d e₁ e₂ e₃ : Contact) → offer_of c (offer_of (offer_of (offer_of d e₁) e₂) e₃) ≡ offer_of (offer_of (offer_of (offer_of c d) e₁) e₂) e₃
+pub three_on : (c d e₁ e₂ e₃ : Option Contact) → offer_of c (offer_of (offer_of (offer_of d e₁) e₂) e₃) ≡ offer_of (offer_of (offer_of (offer_of c d) e₁) e₂) e₃
 three_on c d e₁ e₂ e₃ =
     offers c (offer_of (offer_of d e₁) e₂) e₃ ∙ ap (λ k. offer_of k e₃) (offers c (offer_of d e₁) e₂ ∙ ap (λ k. offer_of k e₂) (offers c d e₁))
 
-pub three_from : (c₀ c₁ c₂ c₃ e₁ e₂ e₃ : Contact) → c₁ ≡ offer_of c₀ e₁ → c₂ ≡ offer_of c₁ e₂ → c₃ ≡ offer_of c₂ e₃
-    → c₃ ≡ offer_of c₀ (offer_of (offer_of (offer_of Nothing e₁) e₂) e₃)
+pub three_from : (c₀ c₁ c₂ c₃ e₁ e₂ e₃ : Option Contact) → c₁ ≡ offer_of c₀ e₁ → c₂ ≡ offer_of c₁ e₂ → c₃ ≡ offer_of c₂ e₃
+    → c₃ ≡ offer_of c₀ (offer_of (offer_of (offer_of None e₁) e₂) e₃)
 three_from c₀ c₁ c₂ c₃ e₁ e₂ e₃ q₁ q₂ q₃ =
-    let n : c₀ ≡ offer_of c₀ Nothing = unfold offer_of in refl in
-    three c₀ c₁ c₂ c₃ e₁ e₂ e₃ q₁ q₂ q₃ ∙ ap (λ k. offer_of (offer_of (offer_of k e₁) e₂) e₃) n ∙ sym (three_on c₀ Nothing e₁ e₂ e₃)
+    let n : c₀ ≡ offer_of c₀ None = unfold offer_of in refl in
+    three c₀ c₁ c₂ c₃ e₁ e₂ e₃ q₁ q₂ q₃ ∙ ap (λ k. offer_of (offer_of (offer_of k e₁) e₂) e₃) n ∙ sym (three_on c₀ None e₁ e₂ e₃)
 
 -- ---- what a contact raises: f of its height and touch where it takes b's place, else a
-unfoldable pub raising : {A : Type 0} → Float → (Float → Touch → A) → A → Contact → A
-raising b f a Nothing = a
-raising b f a (Height z t) = cond (exceeds_of z b) (f z t) a
+unfoldable pub raising : {A : Type 0} → Float → (Float → Touch → A) → A → Option Contact → A
+raising b f a None = a
+raising b f a (Some m) = cond (exceeds_of m.height b) (f m.height m.touch) a
 
 -- it raises the same on top of b
-pub raises_same : {A : Type 0} (b : Float) (s : Touch) (f : Float → Touch → A) (a : A) (c : Contact) → raising b f a (offer_of (Height b s) c) ≡ raising b f a c
+pub raises_same : {A : Type 0} (b : Float) (s : Touch) (f : Float → Touch → A) (a : A) (c : Option Contact) → raising b f a (offer_of (at_height b s) c) ≡ raising b f a c
 unfolding raising offer_of take_of
-raises_same b s f a Nothing = rw (same_waits b)
-raises_same b s f a (Height z t) =
-    by_test (exceeds_of z b)
-    (λ e. ap (raising b f a) (takes b z s t e) ∙ refl)
-    (λ e. ap (raising b f a) (waits b z s t e) ∙ (rw (same_waits b, e)))
+raises_same b s f a None = rw (same_waits b)
+raises_same b s f a (Some m) =
+    by_test (exceeds_of m.height b)
+    (λ e. ap (raising b f a) (takes b m.height s m.touch e) ∙ refl)
+    (λ e. ap (raising b f a) (waits b m.height s m.touch e) ∙ (rw (same_waits b, e)))
 
 -- ---- what is on top of a best so far and touches something is the contact itself
-pub own : (f : Float) (c r : Contact) → r ≡ offer_of (so_far f) c → touches_of r ≡ true → r ≡ c
+pub own : (f : Float) (c r : Option Contact) → r ≡ offer_of (so_far f) c → touches_of r ≡ true → r ≡ c
 unfolding touches_of offer_of
-own f Nothing r e h = absurd (no (sym (ap touches_of e) ∙ h))
-own f (Height z t) r e h =
-    by_test (exceeds_of z f)
-    (λ g. e ∙ takes f z _ t g)
-    (λ g. absurd (no (sym (ap touches_of (e ∙ waits f z _ t g)) ∙ h)))
+own f None r e h = absurd (no (sym (ap touches_of e) ∙ h))
+own f (Some m) r e h =
+    by_test (exceeds_of m.height f)
+    (λ g. e ∙ takes f m.height _ m.touch g)
+    (λ g. absurd (no (sym (ap touches_of (e ∙ waits f m.height _ m.touch g)) ∙ h)))

@@ -8,38 +8,44 @@ ghost use Rattle.above.specs.Inside.{limit_of, touches_of};
 use plane::{Contact, Touch};
 
 // The contact c with one candidate more.
-pub fn offer(c: Contact, candidate: Contact) -> Contact
+#[tactic(auto, unfolding(crate::specs::Above::offer_of))]
+pub fn offer(c: Option<Contact>, candidate: Option<Contact>) -> Option<Contact>
     ensures { result ≡ offer_of c candidate }
 {
     match candidate {
-        Contact::Nothing => c,
-        Contact::Height(z, t) => plane::take(c, z, t),
+        None => c,
+        Some(met) => plane::take(c, met.height, met.touch),
     }
 }
 
 // A best so far of the height z, for candidates to be taken on top of.
-pub fn so_far(z: f64) -> Contact
+pub fn so_far(z: f64) -> Option<Contact>
     ensures { result ≡ so_far z }
 {
-    Contact::Height(z, Touch { kind: 0, which: 0 })
+    Some(Contact {
+        height: z,
+        touch: Touch { kind: 0, which: 0 },
+    })
 }
 
 // The height that a candidate has to exceed: a NaN, which no number is at most, where every candidate is taken.
-pub fn limit(c: Contact) -> f64
+#[tactic(auto, unfolding(crate::specs::Inside::limit_of))]
+pub fn limit(c: Option<Contact>) -> f64
     ensures { result ≡ limit_of c }
 {
     match c {
-        Contact::Nothing => 0.0 / 0.0,
-        Contact::Height(b, _) => b,
+        None => 0.0 / 0.0,
+        Some(best) => best.height,
     }
 }
 
 // Whether a contact is with a triangle: a best so far touches nothing.
-pub fn touches(c: Contact) -> bool
+#[tactic(auto, unfolding(crate::specs::Inside::touches_of))]
+pub fn touches(c: Option<Contact>) -> bool
     ensures { result ≡ touches_of c }
 {
     match c {
-        Contact::Nothing => false,
-        Contact::Height(_, t) => t.kind != 0,
+        None => false,
+        Some(best) => best.touch.kind != 0,
     }
 }

@@ -1,5 +1,7 @@
 -- Where the boxes of the edges and of a part of the chord lie more than r apart, and no point of the part's box counts as inside, the triangle is more than r
 -- away from every point of the part. A search looks at places from 0 to 1 alone: it finds none within reach where this holds of the chord, or of its quarters.
+use Rattle.plane.specs.Contacts.{at_height}
+use Rattle.std.specs.Prelude.{None, Option, Some}
 use mathlib.Core.Bool.{Bool, true, false, cond}
 use mathlib.Core.Logic.{◌⊎◌, inl, inr}
 use mathlib.Core.Path.{◌≡◌, refl, sym, ap, ◌∙◌}
@@ -15,12 +17,8 @@ use Rattle.rules.proofs.Branches.{either, by_test, no, holds, both_true}
 use Rattle.plane.specs.declared.Triangle.{Triangle}
 use Rattle.plane.specs.declared.Touch.{Touch}
 use Rattle.plane.specs.declared.Contact.{Contact}
-use Rattle.plane.specs.declared.Contact.TheVariants.{Nothing, Height}
 use Rattle.plane.specs.declared.Weights.{Weights}
-use Rattle.plane.specs.declared.Spot.{Spot}
-use Rattle.plane.specs.declared.Spot.TheVariants.{Nowhere as Flat, At}
 use Rattle.plane.specs.Distance.{farthest, dist2_to_segment, bary_of, at_least, inside}
-use Rattle.cutters.specs.declared.Stretch.TheVariants.{Nowhere}
 use Rattle.cutters.specs.Touch.{along, weighed_of, spot_height}
 use Rattle.order.proofs.Extremes.{not_below_lem, min_either, lt_le, le_not_nan}
 use Rattle.order.proofs.Order.{O, le_trans, add_left, add_right, square_up, square_down}
@@ -175,11 +173,11 @@ edge_fits t x y =
     (min_either (λ v. T (fits binary64 v)) farthest _ (unfold of_bits fits in tt) (add-fits binary64 _ _)) (add-fits binary64 _ _)) (add-fits binary64 _ _)
 
 -- ---- a place where the facet has no candidate is not inside, and on a triangle that stands upright none is
-abbrev some : Contact → Bool
-some Nothing = false
-some (Height z f) = true
+abbrev some : Option Contact → Bool
+some None = false
+some (Some m) = true
 
-none_some : (b : Bool) (z : Float) (f : Touch) → cond b (Height z f) Nothing ≡ Nothing → b ≡ false
+none_some : (b : Bool) (z : Float) (f : Touch) → cond b (at_height z f) None ≡ None → b ≡ false
 none_some true z f e = absurd (no (sym (ap some e)))
 none_some false z f e = refl
 
@@ -193,10 +191,10 @@ all_under p e =
     let b = both_true _ _ a.1 in
     rw (slack_under _ a.0, slack_under _ b.0, slack_under _ b.1)
 
-not_inside : (t : Triangle) (s : Spot) → spot_height t f0 s ≡ Nothing → inside s ≡ false
+not_inside : (t : Triangle) (s : Option Weights) → spot_height t f0 s ≡ None → inside s ≡ false
 unfolding spot_height weighed_of inside
-not_inside t Flat e = refl
-not_inside t (At p) e =
+not_inside t None e = refl
+not_inside t (Some p) e =
     by_test (at_least p f0) (λ i. absurd (no (sym (none_some (at_least p minus_slack) _ _ e) ∙ all_under p i))) (λ i. i)
 
 upright_none : (t : Triangle) (x y : Float) → upright_of t ≡ true → inside (bary_of t x y) ≡ false
@@ -281,7 +279,7 @@ module _ (t : Triangle) (m : Chord) (r : Float) where
       away = rw (apart_root t m s, square_is) (past r _ _ k.far roots_over)
 
   -- the whole
-  nowhere_near : ((s : Float) → Unit s → lt r (apart_at t m s) ≡ true) → (n : ℕ) → stretch_of t m r n ≡ Nowhere
+  nowhere_near : ((s : Float) → Unit s → lt r (apart_at t m s) ≡ true) → (n : ℕ) → stretch_of t m r n ≡ None
   unfolding stretch_of stretch_from near_of
   nowhere_near k n = rw (k _ (argmin_held (apart_at t m) f0 f1 n none_unit one_unit))
 
@@ -299,11 +297,11 @@ module _ (t : Triangle) (m : Chord) (r : Float) where
 
   -- as the code has it
   module _ (x y : Range) (i : x ≡ ex) (j : y ≡ ey) where
-    pub never : Off t m r x y f0 f1 → (n : ℕ) → stretch_of t m r n ≡ Nowhere
+    pub never : Off t m r x y f0 f1 → (n : ℕ) → stretch_of t m r n ≡ None
     unfolding of_bits
     never k = nowhere_near (λ s u. away f0 f1 (rw (i, j) at k) s u.low u.high)
 
-    pub never_in_quarters : Quarters t m r x y → (n : ℕ) → stretch_of t m r n ≡ Nowhere
+    pub never_in_quarters : Quarters t m r x y → (n : ℕ) → stretch_of t m r n ≡ None
     never_in_quarters k = nowhere_near (in-quarters (rw (i, j) at k))
 
   pub keeps_off : (x y : Range) (lo hi : Float) (v w : Side) → v ≡ side_of x m.ax m.bx lo hi → w ≡ side_of y m.ay m.by lo hi

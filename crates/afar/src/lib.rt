@@ -1,10 +1,9 @@
 // Whether a chord surely stays out of reach of a triangle, told from boxes, without a search.
 #![tactic(auto)]
 
-ghost use Rattle.std.specs.Prelude.{true, ◌&&◌, ◌≡◌, ℕ};
+ghost use Rattle.std.specs.Prelude.{true, ◌&&◌, ◌≡◌, ℕ, None};
 ghost use Rattle.std.specs.Float.Ieee.{lt};
 ghost use Rattle.roots.specs.Root.{root_of};
-ghost use Rattle.cutters.specs.declared.Stretch.TheVariants.{Nowhere};
 ghost use Rattle.reach.specs.Reach.{stretch_of};
 ghost use Rattle.bull_pass.specs.Inside.{axis_fair};
 ghost use Rattle.afar.specs.Inside.{edges_of, side_of, way_of, square_of, upright_of, off_of, Fair, Clear, Off, Quarters};
@@ -26,7 +25,7 @@ pub struct Side {
 // Whether the chord surely stays more than r away from the triangle, so that a search of any number of steps finds it nowhere within reach. Where it
 // does not say so, it may do so all the same. The box of a chord that runs aslant is wide, those of its quarters are less so.
 pub fn is_afar(t: Triangle, m: Chord, r: f64) -> bool
-    ensures { result ≡ true → (n : ℕ) → stretch_of t m r n ≡ Nowhere }
+    ensures { result ≡ true → (n : ℕ) → stretch_of t m r n ≡ None }
 {
     let x = edges_of(t.ax, t.bx, t.cx);
     let y = edges_of(t.ay, t.by, t.cy);

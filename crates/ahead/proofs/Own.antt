@@ -1,4 +1,5 @@
 -- A contact that is above where its candidates began is the triangle's own, wherever they began.
+use Rattle.std.specs.Prelude.{Option}
 use mathlib.Core.Bool.{true, false}
 use mathlib.Core.Path.{◌≡◌, refl, sym, ◌∙◌}
 use lib.Dec.{T}
@@ -28,7 +29,7 @@ least_waits (inf true) n = refl
 least_waits (inf false) n = refl
 least_waits (fin s m e) n = refl
 
-pub own_contact : (t : Triangle) (k : Bull) (f : Float) (r : Contact) → T (fits binary64 k.rc) → begins_at t k f ≡ true
+pub own_contact : (t : Triangle) (k : Bull) (f : Float) (r : Option Contact) → T (fits binary64 k.rc) → begins_at t k f ≡ true
     → r ≡ offer_of (so_far f) (bull_contact_above t k f) → touches_of r ≡ true → r ≡ bull_contact t k
 unfolding begins_at bull_contact
 own_contact t k f r fit h e w =

@@ -1,4 +1,7 @@
 -- No candidate of a triangle whose corners lie a margin under `from` is above it. So the contact with it changes nothing on top of `from`.
+use Rattle.cutters.specs.declared.Gradient.{Gradient}
+use Rattle.plane.specs.declared.Weights.{Weights}
+use Rattle.std.specs.Prelude.{None, Option, Some}
 use mathlib.Core.Bool.{true, false, ◌&&◌}
 use mathlib.Core.Path.{◌≡◌, refl, ap, ◌∙◌}
 use Prim.Native.Nat.{ℕ}
@@ -11,15 +14,10 @@ use Rattle.roots.specs.Hypot.{hypot_of}
 use Rattle.rules.proofs.Branches.{either, both_true, holds}
 use Rattle.plane.specs.declared.Touch.{Touch}
 use Rattle.plane.specs.declared.Triangle.{Triangle}
-use Rattle.plane.specs.declared.Spot.{Spot}
-use Rattle.plane.specs.declared.Spot.TheVariants.{Nowhere, At}
 use Rattle.plane.specs.declared.Contact.{Contact}
-use Rattle.plane.specs.declared.Contact.TheVariants.{Nothing, Height}
-use Rattle.plane.specs.Contacts.{corner, face, exceeds_of}
+use Rattle.plane.specs.Contacts.{corner, face, exceeds_of, at_height}
 use Rattle.plane.specs.Distance.{bary_of, at_least}
 use Rattle.cutters.specs.declared.Edge.{Edge}
-use Rattle.cutters.specs.declared.Facing.{Facing}
-use Rattle.cutters.specs.declared.Facing.TheVariants.{Upright, Leaning}
 use Rattle.cutters.specs.declared.Rest.{Rest}
 use Rattle.cutters.specs.Touch.{along, distance_at, reached_of, weighed_of, spot_height, facet_height}
 use Rattle.above.specs.Above.{offer_of, so_far}
@@ -40,26 +38,26 @@ use Rattle.ahead.proofs.Lowered.{lowered, Dropped, dropped, distance_up, profile
 use Rattle.ahead.proofs.Resting.{rest_drop}
 
 -- ---- what changes nothing on top of f
-abbrev pub Under : Float → Contact → Type 0
+abbrev pub Under : Float → Option Contact → Type 0
 Under f c = offer_of (so_far f) c ≡ so_far f
 
 pub not_exceeds : (f z : Float) → is_nan f ≡ false → lt f z ≡ false → exceeds_of z f ≡ false
 unfolding exceeds_of
 not_exceeds f z n h = rw (n, h)
 
-pub under_none : (f : Float) → Under f Nothing
+pub under_none : (f : Float) → Under f None
 unfolding offer_of
 under_none f = refl
 
-pub under_height : (f z : Float) (t : Touch) → is_nan f ≡ false → lt f z ≡ false → Under f (Height z t)
+pub under_height : (f z : Float) (t : Touch) → is_nan f ≡ false → lt f z ≡ false → Under f (at_height z t)
 unfolding offer_of
 under_height f z t n h = waits f z _ t (not_exceeds f z n h)
 
-pub under_offer : (f : Float) (c d : Contact) → Under f c → Under f d → Under f (offer_of c d)
-under_offer f c d p q = offers (so_far f) c d ∙ ap (λ (k : Contact). offer_of k d) p ∙ q
+pub under_offer : (f : Float) (c d : Option Contact) → Under f c → Under f d → Under f (offer_of c d)
+under_offer f c d p q = offers (so_far f) c d ∙ ap (λ (k : Option Contact). offer_of k d) p ∙ q
 
 -- the candidate of an edge
-abbrev pub edge_of : Bull → Edge → Contact
+abbrev pub edge_of : Bull → Edge → Option Contact
 edge_of k e = bull_stretch k e (reached_of e k.x k.y k.r)
 
 -- ---- a height at which a walk may begin
@@ -107,7 +105,7 @@ module _ (f : Float) (b : Begun f) where
     unfolding bull_vertex bull_over
     vertex_under n x y z l =
         let d = hypot_of (x ⊖ k.x) (y ⊖ k.y) in
-        either (Under f) (le d k.r) (Height (z ⊖ bull_profile d k.r k.rc) (corner n)) Nothing
+        either (Under f) (le d k.r) (at_height (z ⊖ bull_profile d k.r k.rc) (corner n)) None
         (λ e.
         let h = holds (le d k.r) e in
         let p = profile_up k level d (distance_up (x ⊖ k.x) (y ⊖ k.y) (number_of d k.r h).0) h in
@@ -149,7 +147,7 @@ module _ (f : Float) (b : Begun f) where
     weighed_under t p q r drop d v w =
         let u = f1 ⊖ v ⊖ w in
         let z = u ⊗ t.az ⊕ v ⊗ t.bz ⊕ w ⊗ t.cz in
-        either (Under f) _ (Height (z ⊖ drop) face) Nothing
+        either (Under f) _ (at_height (z ⊖ drop) face) None
         (λ o.
         let x = both_true (le minus_slack u) (le minus_slack v && le minus_slack w) o in
         let y = both_true (le minus_slack v) (le minus_slack w) x.1 in
@@ -178,10 +176,10 @@ module _ (f : Float) (b : Begun f) where
         let det = bx ⊗ cy ⊖ cx ⊗ by in
         let l1 = (dx ⊗ cy ⊖ cx ⊗ dy) ⊘ det in
         let l2 = (bx ⊗ dy ⊖ dx ⊗ by) ⊘ det in
-        either (λ (w : Spot). Under f (spot_height t r.drop w)) (lt (abs_of det) tiny) Nowhere (At (record { u = f1 ⊖ l1 ⊖ l2; v = l1; w = l2 }))
+        either (λ (w : Option Weights). Under f (spot_height t r.drop w)) (lt (abs_of det) tiny) None (Some (record { u = f1 ⊖ l1 ⊖ l2; v = l1; w = l2 }))
         (λ e. unfold spot_height in under_none f) (λ e. weighed_under t p q s r.drop d l1 l2)
 
-    pub facet_low : (t : Triangle) → Low f t.az → Low f t.bz → Low f t.cz → (g : Facing) → Under f (bull_facet k t g)
+    pub facet_low : (t : Triangle) → Low f t.az → Low f t.bz → Low f t.cz → (g : Option Gradient) → Under f (bull_facet k t g)
     unfolding bull_facet
-    facet_low t p q s Upright = under_none f
-    facet_low t p q s (Leaning g) = rest_under t p q s (bull_rest k g) (rest_drop k level fit g)
+    facet_low t p q s None = under_none f
+    facet_low t p q s (Some g) = rest_under t p q s (bull_rest k g) (rest_drop k level fit g)

@@ -12,7 +12,7 @@ const MINUS_ONE: f64 = -1.0;
 const UNDER: f64 = 0.0009765625;
 
 // The tip's height where the cutter rests on the triangle. What lies lower than a guess of it is left out; where the guess does not serve, nothing is.
-pub fn contact(t: Triangle, k: Bull) -> Contact
+pub fn contact(t: Triangle, k: Bull) -> Option<Contact>
     ensures { result ≡ bull_contact t k }
 {
     let from = start_of(t, k);
@@ -35,7 +35,7 @@ fn begins(t: Triangle, k: Bull, from: f64) -> bool
 }
 
 // The same contact from there, if it is above that.
-fn contact_from(t: Triangle, k: Bull, from: f64) -> Contact
+fn contact_from(t: Triangle, k: Bull, from: f64) -> Option<Contact>
     requires { begins_at t k from ≡ true }
     ensures { result ≡ bull_contact t k }
 {

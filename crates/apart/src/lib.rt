@@ -87,6 +87,7 @@ pub fn fine(a: f64, b: f64, c: f64, p: f64, q: f64) -> bool
 }
 
 // The smaller of the two ends of the way from a to b, as points of the way are computed.
+#[tactic(auto, unfolding(crate::specs::Inside::low_on))]
 fn low_on(a: f64, b: f64) -> f64
     ensures { result ≡ low_on a b }
 {
@@ -94,6 +95,7 @@ fn low_on(a: f64, b: f64) -> f64
 }
 
 // The larger of them.
+#[tactic(auto, unfolding(crate::specs::Inside::high_on))]
 fn high_on(a: f64, b: f64) -> f64
     ensures { result ≡ high_on a b }
 {
@@ -101,6 +103,7 @@ fn high_on(a: f64, b: f64) -> f64
 }
 
 // The smallest number on the three ways between a, b and c.
+#[tactic(auto, unfolding(crate::specs::Inside::lowest_on))]
 pub fn lowest_on(a: f64, b: f64, c: f64) -> f64
     ensures { result ≡ lowest_on a b c }
 {
@@ -111,6 +114,7 @@ pub fn lowest_on(a: f64, b: f64, c: f64) -> f64
 }
 
 // The largest.
+#[tactic(auto, unfolding(crate::specs::Inside::highest_on))]
 pub fn highest_on(a: f64, b: f64, c: f64) -> f64
     ensures { result ≡ highest_on a b c }
 {

@@ -12,10 +12,10 @@ use Rattle.walk.proofs.Marks.{ready_length}
 use Rattle.rules.proofs.Branches.{taken, left, both_true}
 use Rattle.plane.specs.declared.Best.{Best}
 use Rattle.walk.specs.Walk.{Walk, block, next_stamp, ready_marks, fold, walked, chased}
-use Rattle.walk.specs.Inside.{Below, Room, Walkable, seen, judged, look, strike}
+use Rattle.walk.specs.Inside.{Room, Walkable, seen, judged, look, strike}
 use Rattle.walk.specs.declared.Seen.{Seen}
 use Rattle.walk.specs.declared.Verdict.{Verdict}
-use Rattle.walk.proofs.Rings.{Kept, unmarked_length, look_keeps, fold_keeps}
+use Rattle.walk.proofs.Rings.{unmarked_length}
 use Rattle.walk.proofs.Lists.{walk_is, chase_is}
 use Rattle.grid.specs.declared.Header.{Header}
 use Rattle.grid.specs.Boxes.{is_boxed}
@@ -33,8 +33,8 @@ use Rattle.ask.specs.Ask.{at_floor, refusal_of, begun, ended, refused_by, answer
 use Rattle.ask.specs.Ask.{refused_chord, blocked_early, ruled_by, ruling_of, asked_chord}
 use Rattle.ask.specs.Demand.{GoodQuestion}
 use Rattle.ask.proofs.Narrowing.{Narrow, narrow_walk, narrow_chase}
-use Rattle.ask.specs.declared.Finding.{Finding}
-use Rattle.ask.specs.declared.Finding.TheVariants.{Clear, Blocked}
+use Rattle.ask.specs.Ask.{Finding}
+use Rattle.ask.specs.Ask.{Clear, Blocked}
 
 pub record Marked (mesh : List Float) (marks : List ℕ) : Type 0 where
   pub few : length marks ≤ 65536
@@ -113,7 +113,7 @@ module _ (numbers tool : Bool) (ix : Index) (marks : List ℕ) (stamp : ℕ) (p 
     unfolding asked_height answer_of
     height_refused z = left _ _ _ _ (ne_eqb _ 0 (λ k. z (e ∙ k))) (ap (λ (j : ℕ). ended (refused_by j stamp) marks) e)
 
-    pub height_answered : {starts members : List ℕ} {q : Patch} → Narrow ix p starts members q → (next : ℕ) (m m' : List ℕ) (s : Seen) → n ≡ 0
+    pub height_answered : {starts members : List ℕ} {q : Patch} → Narrow ix p starts members q → (next : ℕ) (m m' : List ℕ) (s : Seen Best) → n ≡ 0
         → next ≡ next_stamp stamp → m ≡ ready_marks marks stamp
         → seen m' s ≡ fold (look next step) (seen m (record { count = 0; best = at_floor ix.header.floor }))
         (block starts members ix.header.columns q.x0 q.x1 q.y0 q.y1)
@@ -149,8 +149,3 @@ module _ (numbers tool : Bool) (ix : Index) (marks : List ℕ) (stamp : ℕ) (p 
         (ap (λ (x : Finding). ended (record { refusal = 0; finding = x; count = v.count; stamp = next }) m') r
         ∙ ap (λ (x : Walk Bool). ended (ruled_by x next) x.marks) i
         ∙ ap (λ (x : ℕ). ended (ruled_by u x) u.marks) g))
-
--- what the step over one cell keeps
-pub cell_keeps : (stamp : ℕ) (step : Best → ℕ → Best) (ms : List ℕ) {w w' : Walk Best} → w' ≡ fold (look stamp step) w ms
-    → Below (length w.marks) ms → Kept stamp w w'
-cell_keeps stamp step ms {w} e b = rw e (fold_keeps stamp (look stamp step) (look_keeps stamp step) ms w b)

@@ -18,7 +18,7 @@ use Rattle.query.specs.Looked.{within, looked_in}
 use Rattle.query.specs.Patch.{patch_of}
 use Rattle.query.proofs.Looks.{looks_once}
 use Rattle.query.proofs.Patches.{patch_inside}
-use Rattle.ask.specs.declared.Answer.{Answer}
+use Rattle.ask.specs.Ask.{Answer}
 use Rattle.ask.specs.Ask.{refusal_of, at_floor, begun, Outcome, ended, refused_by, answered_by, answer_of, asked_height}
 use Rattle.ask.specs.Demand.{GoodAccepted, LookedAll, HeightPromise}
 use Rattle.ask.proofs.Answers.{passed, good_passes}
@@ -31,9 +31,6 @@ module _ (numbers tool : Bool) (ix : Index) (marks : List ℕ) (stamp : ℕ) (p 
   -- a good question is accepted
   pub good_is_accepted : (n : ℕ) → n ≡ refusal → GoodAccepted numbers tool ix marks stamp n
   good_is_accepted n e b g = e ∙ good_passes numbers tool ix marks stamp p (index_sound ix b) g right top
-
-  pub refusal_told : (n : ℕ) → n ≡ refusal → {Listed : Type 0} → Listed → (n ≡ refusal) × (GoodAccepted numbers tool ix marks stamp n × Listed)
-  refusal_told n e listed = (e, (good_is_accepted n e, listed))
 
   -- an accepted question looks at a list of the right triangles, so a count of them all is enough
   pub counted : (count : ℕ) → BuiltFrom ix → refusal ≡ 0 → count ≡ length (looked_in ix marks stamp p) → LookedAll ix p (looked_in ix marks stamp p) count

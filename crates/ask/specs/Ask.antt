@@ -1,5 +1,5 @@
 -- Document 01, "Questions" and "Refusal numbers": what every question shares: its refusals in their order, its answer, and the marks that it leaves.
-use Rattle.std.specs.Prelude.{Bool, true, cond, ◌&&◌, List, ℕ, eqb, Float}
+use Rattle.std.specs.Prelude.{Bool, true, cond, ◌&&◌, List, ℕ, eqb, Float, Result, Ok, Err}
 use Rattle.std.specs.Float.Ieee.{le}
 use Rattle.numbers.specs.Reals.{f0}
 use Rattle.plane.specs.declared.Best.{Best}
@@ -11,10 +11,10 @@ use Rattle.query.specs.declared.Patch.{Patch}
 use Rattle.query.specs.Asked.{is_marked}
 use Rattle.query.specs.Usable.{usable}
 use Rattle.query.specs.Looked.{within}
-use Rattle.ask.specs.declared.Answer.{Answer}
-use Rattle.ask.specs.declared.Finding.{Finding}
-use Rattle.ask.specs.declared.Finding.TheVariants.{Neither, Clear, Blocked}
-use Rattle.ask.specs.declared.Ruling.{Ruling}
+use Rattle.refusals.specs.declared.Refusal.{Refusal}
+use Rattle.refusals.specs.Numbers.{number_of}
+use Rattle.ask.specs.declared.Answer as found
+use Rattle.ask.specs.declared.Ruling as judged
 
 -- A corner radius from 0 to r: no for a NaN.
 unfoldable pub is_corner : Float → Float → Bool
@@ -41,6 +41,17 @@ begun marks stamp v = record { marks = ready_marks marks stamp; count = 0; value
 
 -- ---- a height question
 
+-- A height question's answer, as document 01 has it: its refusal or 0, the height, how many triangles were looked at, and the stamp; then the triangle that
+-- last raised the height and what of it is touched, its kind and which of three, all 0 for the floor.
+pub record Answer : Type 0 where
+  pub refusal : ℕ
+  pub height : Float
+  pub count : ℕ
+  pub stamp : ℕ
+  pub triangle : ℕ
+  pub kind : ℕ
+  pub which : ℕ
+
 -- What it leaves: its answer, and the marks.
 pub record Outcome (A : Type 0) : Type 0 where
   pub answer : A
@@ -52,6 +63,12 @@ ended a m = record { answer = a; marks = m }
 -- Refused by k: zero height, zero count, the stamp as handed; nothing is named.
 abbrev pub refused_by : ℕ → ℕ → Answer
 refused_by k stamp = record { refusal = k; height = f0; count = 0; stamp = stamp; triangle = 0; kind = 0; which = 0 }
+
+-- What a question answers as document 01 has it; a refusal tells the stamp as handed.
+abbrev pub answer_told : Result found.Answer Refusal → ℕ → Answer
+answer_told (Ok a) stamp =
+    record { refusal = 0; height = a.height; count = a.count; stamp = a.stamp; triangle = a.triangle; kind = a.kind; which = a.which }
+answer_told (Err r) stamp = refused_by (number_of r) stamp
 
 -- Accepted: the height that the walk w found, how many triangles it looked at, its stamp, and the triangle and the touch that last raised the height.
 abbrev pub answered_by : Walk Best → ℕ → Answer
@@ -76,6 +93,23 @@ asked_height numbers tool step ix marks stamp p =
 
 -- ---- a chord question
 
+-- A chord question's verdict: none where it is refused.
+pub data Finding : Type 0 where
+  Neither : Finding
+  Clear : Finding
+  Blocked : Finding
+
+-- A chord question's answer, as document 01 has it: its refusal or 0, the verdict, how many triangles were looked at, and the stamp.
+pub record Ruling : Type 0 where
+  pub refusal : ℕ
+  pub finding : Finding
+  pub count : ℕ
+  pub stamp : ℕ
+
+-- The verdict of a question that is not refused.
+abbrev pub finding_of : Bool → Finding
+finding_of clear = cond clear Clear Blocked
+
 -- The numbers of a verdict: 0 none, 1 clear, 2 blocked.
 unfoldable pub finding_number : Finding → ℕ
 finding_number Neither = 0
@@ -85,6 +119,14 @@ finding_number Blocked = 2
 -- Refused by k: no verdict, zero count, the stamp as handed.
 abbrev pub refused_chord : ℕ → ℕ → Ruling
 refused_chord k stamp = record { refusal = k; finding = Neither; count = 0; stamp = stamp }
+
+-- The verdict of a question that is not refused, and what a question answers, as document 01 has them; a refusal tells the stamp as handed.
+abbrev pub ruled : judged.Ruling → Ruling
+ruled r = record { refusal = 0; finding = finding_of r.clear; count = r.count; stamp = r.stamp }
+
+abbrev pub ruling_told : Result judged.Ruling Refusal → ℕ → Ruling
+ruling_told (Ok r) stamp = ruled r
+ruling_told (Err r) stamp = refused_chord (number_of r) stamp
 
 -- Blocked before any walk: count 0, the stamp as handed.
 abbrev pub blocked_early : ℕ → Ruling

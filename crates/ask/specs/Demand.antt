@@ -5,7 +5,7 @@ use Rattle.grid.specs.Index.{Index, BuiltFrom}
 use Rattle.query.specs.declared.Patch.{Patch}
 use Rattle.query.specs.Asked.{NoneAbove}
 use Rattle.query.specs.Looked.{LooksOnce, looked_in}
-use Rattle.ask.specs.declared.Answer.{Answer}
+use Rattle.ask.specs.Ask.{Answer}
 
 -- A good question: a mark for each triangle, none above the stamp, and its numbers and its tool in their ranges.
 pub record GoodQuestion (numbers tool : Bool) (ix : Index) (marks : List ℕ) (stamp : ℕ) : Type 0 where

@@ -1,4 +1,5 @@
 -- The cutter's height over its tip is nowhere below its base, so a vertex gives no tip above its height less the base.
+use Rattle.std.specs.Prelude.{None, Option}
 use mathlib.Core.Bool.{true, false}
 use mathlib.Core.Path.{◌≡◌, refl, sym, ◌∙◌, subst}
 use Prim.Native.Nat.{ℕ}
@@ -11,8 +12,7 @@ use Rattle.roots.specs.Root.{root_of}
 use Rattle.roots.specs.Hypot.{hypot_of}
 use Rattle.rules.proofs.Branches.{either, by_test, both_true, no, holds}
 use Rattle.plane.specs.declared.Contact.{Contact}
-use Rattle.plane.specs.declared.Contact.TheVariants.{Nothing, Height}
-use Rattle.plane.specs.Contacts.{corner}
+use Rattle.plane.specs.Contacts.{corner, at_height}
 use Rattle.above.specs.Above.{offer_of}
 use Rattle.above.specs.Inside.{limit_of}
 use Rattle.above.proofs.Above.{stays_under}
@@ -114,7 +114,7 @@ module _ (k : Bull) (v : Based k) where
       ))
 
 -- ---- a vertex
-pub vertex_stays : (k : Bull) (base : Float) (n : ℕ) (x y z : Float) (c : Contact) → base ≡ base_of k → low_vertex base z (x ⊖ k.x) (y ⊖ k.y) (limit_of c) ≡ true
+pub vertex_stays : (k : Bull) (base : Float) (n : ℕ) (x y z : Float) (c : Option Contact) → base ≡ base_of k → low_vertex base z (x ⊖ k.x) (y ⊖ k.y) (limit_of c) ≡ true
     → c ≡ offer_of c (bull_vertex k n x y z)
 unfolding low_vertex bull_vertex bull_over offer_of
 vertex_stays k base n x y z c q h =
@@ -124,7 +124,7 @@ vertex_stays k base n x y z c q h =
     let v = based k (by_test (is_nan (base_of k)) (λ e. absurd (drop_nan z (base_of k) (limit_of c) e g)) (λ e. e)) in
     let d = hypot_of (x ⊖ k.x) (y ⊖ k.y) in
     let s = small_distance (x ⊖ k.x) (y ⊖ k.y) (small _ b.0) (small _ b.1) in
-    either (λ w. c ≡ offer_of c w) (le d k.r) (Height (z ⊖ bull_profile d k.r k.rc) (corner n)) Nothing
+    either (λ w. c ≡ offer_of c w) (le d k.r) (at_height (z ⊖ bull_profile d k.r k.rc) (corner n)) None
     (λ e.
     let l = base_low k v d s.0 (le_trans d k.r M (holds _ e) v.r₁) in
     sym (stays_under c (z ⊖ bull_profile d k.r k.rc) (corner n)

@@ -1,5 +1,6 @@
 -- No place of an edge from lo to hi gives a tip above the cap. So an edge whose cap is at most the best so far does not change it, and where the cap is at most
 -- the larger of the two ends' values the search finds that.
+use Rattle.std.specs.Prelude.{Option}
 use mathlib.Core.Bool.{true, false}
 use mathlib.Core.Path.{◌≡◌, sym, subst}
 use Prim.Native.Nat.{ℕ}
@@ -133,7 +134,7 @@ module _ (k : Bull) (e : Edge) (lo hi b : Float) (f : T (fits binary64 lo)) (g :
 
 -- ---- as the code has it
 module _ (k : Bull) (e : Edge) (cap lo hi : Float) (f : T (fits binary64 lo)) (g : T (fits binary64 hi)) (q : cap ≡ cap_of k (base_of k) e lo hi) where
-  pub cap_stays : (c : Contact) (t : Touch) (n : ℕ) → le cap (limit_of c) ≡ true → c ≡ take_of c (golden_max (bull_at k e) lo hi n) t
+  pub cap_stays : (c : Option Contact) (t : Touch) (n : ℕ) → le cap (limit_of c) ≡ true → c ≡ take_of c (golden_max (bull_at k e) lo hi n) t
   cap_stays c t n h = sym (stays_under c _ t (largest_under k e lo hi (limit_of c) f g (subst (λ (w : Float). le w (limit_of c) ≡ true) q h) n))
 
   pub cap_ends : (n : ℕ) → le cap (max_of (bull_at k e lo) (bull_at k e hi)) ≡ true → max_of (bull_at k e lo) (bull_at k e hi) ≡ golden_max (bull_at k e) lo hi n

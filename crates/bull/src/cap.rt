@@ -6,6 +6,7 @@ use crate::Bull;
 use cutters::Edge;
 
 // A number that the cutter's height over its tip is nowhere below.
+#[tactic(auto, unfolding(crate::specs::Inside::base_of))]
 pub fn base_of(k: Bull) -> f64
     ensures { result ≡ base_of k }
 {
@@ -21,6 +22,7 @@ pub fn base_of(k: Bull) -> f64
 }
 
 // Whether the tip over a vertex at the height z is at most b.
+#[tactic(auto, unfolding(crate::specs::Inside::low_vertex))]
 pub fn low_vertex(base: f64, z: f64, dx: f64, dy: f64, b: f64) -> bool
     ensures { result ≡ low_vertex base z dx dy b }
 {
@@ -28,6 +30,7 @@ pub fn low_vertex(base: f64, z: f64, dx: f64, dy: f64, b: f64) -> bool
 }
 
 // What the tip's height over an edge from lo to hi is at most.
+#[tactic(auto, unfolding(crate::specs::Inside::cap_of))]
 pub fn cap_on(k: Bull, base: f64, e: Edge, lo: f64, hi: f64) -> f64
     ensures { result ≡ cap_of k base e lo hi }
 {
@@ -47,6 +50,7 @@ pub fn cap_on(k: Bull, base: f64, e: Edge, lo: f64, hi: f64) -> f64
 }
 
 // The height z less the profile at the distance d, or less the least of all within the flat part.
+#[tactic(auto, unfolding(crate::specs::Inside::over_of))]
 fn over(k: Bull, base: f64, z: f64, d: f64) -> f64
     ensures { result ≡ over_of k base z d }
 {

@@ -13,7 +13,7 @@ ghost use Rattle.bull.specs.Inside.{way_of, way_at, base_of, cap_of, FlatTo, Beg
 ghost use Rattle.bull.specs.Bull.{bull_profile, bull_over, bull_vertex, bull_vertices, bull_at, bull_stretch, best_so_far, too_low, bull_edge};
 ghost use Rattle.bull.specs.Bull.{bull_edges, bull_sloped, bull_rest, bull_facet, bull_contact_above, bull_contact};
 
-use cutters::{Edge, Facing, Gradient, Rest, Stretch};
+use cutters::{Edge, Gradient, Rest, Stretch};
 use golden::Golden;
 use plane::{Contact, Touch, Triangle};
 
@@ -31,21 +31,21 @@ pub struct Bull {
 }
 
 // The tip's height where the cutter rests on the triangle.
-pub fn bull_contact(t: Triangle, k: Bull) -> Contact
+pub fn bull_contact(t: Triangle, k: Bull) -> Option<Contact>
     ensures { result ≡ bull_contact t k }
 {
     bull_contact_above(t, k, MINUS_ONE / 0.0)
 }
 
 // The same, without the edges that cannot exceed the floor.
-pub fn bull_contact_above(t: Triangle, k: Bull, floor: f64) -> Contact
+pub fn bull_contact_above(t: Triangle, k: Bull, floor: f64) -> Option<Contact>
     ensures { result ≡ bull_contact_above t k floor }
 {
-    contact_on(t, k, floor, Contact::Nothing)
+    contact_on(t, k, floor, None)
 }
 
 // The same on top of a best so far that is the floor: what cannot exceed it is left out.
-pub fn bull_contact_on(t: Triangle, k: Bull, floor: f64) -> Contact
+pub fn bull_contact_on(t: Triangle, k: Bull, floor: f64) -> Option<Contact>
     ensures { result ≡ offer_of (so_far floor) (bull_contact_above t k floor) }
 {
     let on = above::so_far(floor);
@@ -56,7 +56,7 @@ pub fn bull_contact_on(t: Triangle, k: Bull, floor: f64) -> Contact
 }
 
 // The candidates on top of the contact c.
-fn contact_on(t: Triangle, k: Bull, floor: f64, c: Contact) -> Contact
+fn contact_on(t: Triangle, k: Bull, floor: f64, c: Option<Contact>) -> Option<Contact>
     ensures { result ≡ offer_of (bull_edges k floor t (offer_of c (bull_vertices k t))) (bull_facet k t (facing_of t)) }
 {
     let base = cap::base_of(k);
@@ -66,6 +66,7 @@ fn contact_on(t: Triangle, k: Bull, floor: f64, c: Contact) -> Contact
 }
 
 // The cutter's height over its tip at the distance d from its axis.
+#[tactic(auto, unfolding(crate::specs::Bull::bull_profile))]
 pub fn bull_profile(d: f64, r: f64, rc: f64) -> f64
     ensures { result ≡ bull_profile d r rc }
 {
@@ -78,7 +79,7 @@ pub fn bull_profile(d: f64, r: f64, rc: f64) -> f64
 }
 
 // The contact c with the vertices' candidates.
-fn vertices(k: Bull, base: f64, far: f64, t: Triangle, c: Contact) -> Contact
+fn vertices(k: Bull, base: f64, far: f64, t: Triangle, c: Option<Contact>) -> Option<Contact>
     requires { (base ≡ base_of k) × Beyond k.r far }
     ensures { result ≡ offer_of c (bull_vertices k t) }
 {
@@ -88,7 +89,16 @@ fn vertices(k: Bull, base: f64, far: f64, t: Triangle, c: Contact) -> Contact
 }
 
 // The contact c with the candidate of vertex n, unless that cannot exceed c or the squares show that there is none.
-fn vertex(k: Bull, base: f64, far: f64, n: u32, x: f64, y: f64, z: f64, c: Contact) -> Contact
+fn vertex(
+    k: Bull,
+    base: f64,
+    far: f64,
+    n: u32,
+    x: f64,
+    y: f64,
+    z: f64,
+    c: Option<Contact>,
+) -> Option<Contact>
     requires { (base ≡ base_of k) × Beyond k.r far }
     ensures { result ≡ offer_of c (bull_vertex k n x y z) }
 {
@@ -104,24 +114,25 @@ fn vertex(k: Bull, base: f64, far: f64, n: u32, x: f64, y: f64, z: f64, c: Conta
 }
 
 // The candidate of corner n at the distance d from the axis.
-fn over(k: Bull, n: u32, z: f64, d: f64) -> Contact
+#[tactic(auto, unfolding(crate::specs::Bull::bull_over))]
+fn over(k: Bull, n: u32, z: f64, d: f64) -> Option<Contact>
     ensures { result ≡ bull_over k n z d }
 {
     if d <= k.r {
-        Contact::Height(
-            z - bull_profile(d, k.r, k.rc),
-            Touch {
+        Some(Contact {
+            height: z - bull_profile(d, k.r, k.rc),
+            touch: Touch {
                 kind: plane::CORNER,
                 which: n,
             },
-        )
+        })
     } else {
-        Contact::Nothing
+        None
     }
 }
 
 // The contact c with the edges' candidates.
-fn edges(k: Bull, base: f64, floor: f64, t: Triangle, c: Contact) -> Contact
+fn edges(k: Bull, base: f64, floor: f64, t: Triangle, c: Option<Contact>) -> Option<Contact>
     requires { base ≡ base_of k }
     ensures { result ≡ bull_edges k floor t c }
 {
@@ -131,7 +142,7 @@ fn edges(k: Bull, base: f64, floor: f64, t: Triangle, c: Contact) -> Contact
 }
 
 // The contact c with the candidate of an edge, unless the edge cannot exceed the floor or c.
-fn edge(k: Bull, base: f64, floor: f64, c: Contact, e: Edge) -> Contact
+fn edge(k: Bull, base: f64, floor: f64, c: Option<Contact>, e: Edge) -> Option<Contact>
     requires { base ≡ base_of k }
     ensures { result ≡ bull_edge k floor c e }
 {
@@ -142,35 +153,44 @@ fn edge(k: Bull, base: f64, floor: f64, c: Contact, e: Edge) -> Contact
 }
 
 // Whether an edge's higher end is not above the floor and the best so far.
-fn too_low(floor: f64, c: Contact, e: Edge) -> bool
+#[tactic(auto, unfolding(crate::specs::Bull::too_low))]
+fn too_low(floor: f64, c: Option<Contact>, e: Edge) -> bool
     ensures { result ≡ too_low floor c e }
 {
     numbers::max(e.az, e.bz) <= numbers::max(floor, best_so_far(c))
 }
 
 // The best height so far.
-fn best_so_far(c: Contact) -> f64
+#[tactic(auto, unfolding(crate::specs::Bull::best_so_far))]
+fn best_so_far(c: Option<Contact>) -> f64
     ensures { result ≡ best_so_far c }
 {
     match c {
-        Contact::Nothing => MINUS_ONE / 0.0,
-        Contact::Height(z, _) => z,
+        None => MINUS_ONE / 0.0,
+        Some(best) => best.height,
     }
 }
 
 // The contact c with the best of an edge's stretch.
-fn stretch_on(k: Bull, base: f64, e: Edge, c: Contact, s: Stretch) -> Contact
+#[tactic(auto, unfolding(above::specs::Above::offer_of, crate::specs::Bull::bull_stretch))]
+fn stretch_on(
+    k: Bull,
+    base: f64,
+    e: Edge,
+    c: Option<Contact>,
+    s: Option<Stretch>,
+) -> Option<Contact>
     requires { base ≡ base_of k }
     ensures { result ≡ offer_of c (bull_stretch k e s) }
 {
     match s {
-        Stretch::Nowhere => c,
-        Stretch::Between(t0, t1) => raised(k, base, e, c, t0, t1),
+        None => c,
+        Some(part) => raised(k, base, e, c, part.from, part.to),
     }
 }
 
 // The contact c with the largest tip's height between two places of an edge. Where no place there exceeds c there is no search.
-fn raised(k: Bull, base: f64, e: Edge, c: Contact, lo: f64, hi: f64) -> Contact
+fn raised(k: Bull, base: f64, e: Edge, c: Option<Contact>, lo: f64, hi: f64) -> Option<Contact>
     requires { base ≡ base_of k }
     ensures { result ≡ take_of c (golden_max (bull_at k e) lo hi 40) (edge e.which) }
 {
@@ -182,7 +202,15 @@ fn raised(k: Bull, base: f64, e: Edge, c: Contact, lo: f64, hi: f64) -> Contact
 }
 
 // The contact c with the height that the search finds.
-fn searched(k: Bull, base: f64, e: Edge, cap: f64, c: Contact, lo: f64, hi: f64) -> Contact
+fn searched(
+    k: Bull,
+    base: f64,
+    e: Edge,
+    cap: f64,
+    c: Option<Contact>,
+    lo: f64,
+    hi: f64,
+) -> Option<Contact>
     requires { (base ≡ base_of k) × (cap ≡ cap_of k (base_of k) e lo hi) }
     ensures { result ≡ take_of c (golden_max (bull_at k e) lo hi 40) (edge e.which) }
 {
@@ -279,6 +307,7 @@ fn search_on(
 }
 
 // Whether the search may be given up before step n: no place in the bracket that it has come to exceeds the bar.
+#[tactic(auto, unfolding(crate::specs::Inside::cap_of))]
 fn settled(k: Bull, base: f64, e: Edge, bar: f64, g: Golden, n: usize) -> bool
     ensures { result ≡ true → InnerOf g × (le (cap_of k base e g.a g.b) bar ≡ true) }
 {
@@ -334,16 +363,18 @@ fn at(k: Bull, w: Way, flat: f64, t: f64) -> f64
 }
 
 // The candidate of the facet.
-fn facet(k: Bull, t: Triangle, f: Facing) -> Contact
+#[tactic(auto, unfolding(crate::specs::Bull::bull_facet))]
+fn facet(k: Bull, t: Triangle, f: Option<Gradient>) -> Option<Contact>
     ensures { result ≡ bull_facet k t f }
 {
     match f {
-        Facing::Upright => Contact::Nothing,
-        Facing::Leaning(g) => cutters::facet_height(t, rest(k, g)),
+        None => None,
+        Some(g) => cutters::facet_height(t, rest(k, g)),
     }
 }
 
 // Where the cutter rests on a plane.
+#[tactic(auto, unfolding(crate::specs::Bull::bull_rest))]
 pub fn rest(k: Bull, g: Gradient) -> Rest
     ensures { result ≡ bull_rest k g }
 {
@@ -360,6 +391,7 @@ pub fn rest(k: Bull, g: Gradient) -> Rest
 }
 
 // Where the cutter rests on a plane that is not level; root is that of 1 and the slope's square.
+#[tactic(auto, unfolding(crate::specs::Bull::bull_sloped))]
 fn sloped(k: Bull, g: Gradient, root: f64) -> Rest
     ensures { result ≡ bull_sloped k g root }
 {

@@ -1,4 +1,5 @@
 -- The search of a bull-nose's gap that breaks off where the cutter surely passes, and does not begin where the triangle is out of reach.
+use Rattle.std.specs.Prelude.{None, Option}
 use mathlib.Core.Bool.{Bool, true, false, ◌&&◌}
 use mathlib.Core.Path.{◌≡◌, ap, sym, ◌∙◌}
 use Prim.Native.Nat.{ℕ, ◌≤◌}
@@ -15,13 +16,12 @@ use Rattle.caps.proofs.Boxes.{ordered}
 use Rattle.caps.proofs.Inside.{largest_in}
 use Rattle.caps.proofs.Narrow.{narrow_in}
 use Rattle.cutters.specs.declared.Stretch.{Stretch}
-use Rattle.cutters.specs.declared.Stretch.TheVariants.{Nowhere}
 use Rattle.reach.specs.declared.Chord.{Chord}
 use Rattle.bull_pass.specs.Inside.{passes_of}
 use Rattle.bull_pass.proofs.Passing.{never_above}
 use Rattle.bull_gap.specs.Blocks.{bull_gap, bull_searched}
 
-pub nowhere_blocks : (t : Triangle) (m : Chord) (r rc : Float) (s : Stretch) → s ≡ Nowhere → false ≡ bull_searched t m r rc s
+pub nowhere_blocks : (t : Triangle) (m : Chord) (r rc : Float) (s : Option Stretch) → s ≡ None → false ≡ bull_searched t m r rc s
 unfolding bull_searched
 nowhere_blocks t m r rc s e = rw e
 

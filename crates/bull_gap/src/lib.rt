@@ -32,12 +32,13 @@ pub fn bull_blocks(t: Triangle, top: f64, m: Chord, r: f64, rc: f64) -> bool
 }
 
 // Whether a contact on the stretch, lifted, stands above the tip.
-fn searched(t: Triangle, m: Chord, r: f64, rc: f64, s: Stretch) -> bool
+#[tactic(auto, unfolding(crate::specs::Blocks::bull_searched))]
+fn searched(t: Triangle, m: Chord, r: f64, rc: f64, s: Option<Stretch>) -> bool
     ensures { result ≡ bull_searched t m r rc s }
 {
     match s {
-        Stretch::Nowhere => false,
-        Stretch::Between(s0, s1) => stands(t, m, r, rc, s0, s1),
+        None => false,
+        Some(part) => stands(t, m, r, rc, part.from, part.to),
     }
 }
 

@@ -1,4 +1,5 @@
 -- Where a weight is below -1e-12 at all places of a box, none of them is on the triangle, so the facet has no candidate.
+use Rattle.std.specs.Prelude.{None}
 use mathlib.Core.Bool.{Bool, true, false, cond, ◌&&◌}
 use mathlib.Core.Logic.{◌⊎◌, inl, inr}
 use mathlib.Core.Path.{◌≡◌, refl, sym}
@@ -10,7 +11,6 @@ use Rattle.numbers.specs.Reals.{◌⊕◌, ◌⊖◌, ◌⊗◌, ◌⊘◌, f1, 
 use Rattle.roots.specs.Root.{root_of}
 use Rattle.rules.proofs.Branches.{both_true, no, by_test}
 use Rattle.plane.specs.declared.Triangle.{Triangle}
-use Rattle.plane.specs.declared.Contact.TheVariants.{Nothing}
 use Rattle.plane.specs.Distance.{bary_of, at_least}
 use Rattle.cutters.specs.declared.Gradient.{Gradient}
 use Rattle.cutters.specs.declared.Rest.{Rest}
@@ -291,11 +291,11 @@ module _ (t : Triangle) (p q : Rest) (miss : misses_of t p q ≡ true) where
           (product_left dx gx ex by fdx fgx fex (mul_parts dx by pw.2).1 ex_in.0 ex_in.1 pw.2 pw.3)
 
       none : (drop : Float) → weighed_of t drop
-          (record { u = f1 ⊖ (ex ⊗ cy ⊖ cx ⊗ ey) ⊘ det ⊖ (bx ⊗ ey ⊖ ex ⊗ by) ⊘ det; v = (ex ⊗ cy ⊖ cx ⊗ ey) ⊘ det; w = (bx ⊗ ey ⊖ ex ⊗ by) ⊘ det }) ≡ Nothing
+          (record { u = f1 ⊖ (ex ⊗ cy ⊖ cx ⊗ ey) ⊘ det ⊖ (bx ⊗ ey ⊖ ex ⊗ by) ⊘ det; v = (ex ⊗ cy ⊖ cx ⊗ ey) ⊘ det; w = (bx ⊗ ey ⊖ ex ⊗ by) ⊘ det }) ≡ None
       unfolding weighed_of at_least
       none drop = rw (none_of rv rw' _ _ third.0 third.1 lv_in lw_in third.2)
 
-    pub facet_none : (drop : Float) → spot_height t drop (bary_of t x y) ≡ Nothing
+    pub facet_none : (drop : Float) → spot_height t drop (bary_of t x y) ≡ None
     unfolding spot_height bary_of
     facet_none drop =
         by_test (lt (abs_of det) tiny)

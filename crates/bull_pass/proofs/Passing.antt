@@ -1,4 +1,6 @@
 -- Where the boxes say that the cutter passes, no contact on that part of the chord, lifted, stands above the tip.
+use Rattle.cutters.specs.declared.Gradient.{Gradient}
+use Rattle.std.specs.Prelude.{None, Option, Some}
 use mathlib.Core.Bool.{Bool, true, false, cond}
 use mathlib.Core.Path.{◌≡◌, refl, sym, ◌∙◌, subst}
 use Prim.Native.Nat.{ℕ, zero, suc}
@@ -13,15 +15,11 @@ use Rattle.rules.proofs.Branches.{either, left, no, both_true, by_test, holds}
 use Rattle.plane.specs.declared.Triangle.{Triangle}
 use Rattle.plane.specs.declared.Touch.{Touch}
 use Rattle.plane.specs.declared.Contact.{Contact}
-use Rattle.plane.specs.declared.Contact.TheVariants.{Nothing, Height}
-use Rattle.plane.specs.Contacts.{exceeds_of, take_of}
+use Rattle.plane.specs.Contacts.{exceeds_of, take_of, at_height}
 use Rattle.golden.specs.Upper.{minus_infinity}
 use Rattle.cutters.specs.declared.Edge.{Edge}
-use Rattle.cutters.specs.declared.Stretch.TheVariants.{Nowhere, Between as Part}
-use Rattle.cutters.specs.declared.Facing.{Facing}
-use Rattle.cutters.specs.declared.Facing.TheVariants.{Upright, Leaning}
 use Rattle.above.specs.Above.{offer_of}
-use Rattle.cutters.specs.Touch.{edge_ab, edge_bc, edge_ca, along, distance_at, length2, crossed_of, reached_of, facing_of, facet_height}
+use Rattle.cutters.specs.Touch.{edge_ab, edge_bc, edge_ca, along, distance_at, length2, crossed_of, reached_of, facing_of, facet_height, from_to}
 use Rattle.order.proofs.Ranges.{sub_mono}
 use Rattle.order.proofs.Extremes.{either_of, le_self, not_below_lem, min_either, lt_le, not_above, le_not_nan}
 use Rattle.order.proofs.Order.{O, le_trans, sub_turns, add_left}
@@ -48,19 +46,19 @@ next true b e f = absurd (no (sym f))
 next false b e f = e
 
 -- a contact that is not above h
-unfoldable pub Low : Float → Contact → Type 0
-Low h Nothing = T true
-Low h (Height z t) = lt h z ≡ false
+unfoldable pub Low : Float → Option Contact → Type 0
+Low h None = T true
+Low h (Some m) = lt h m.height ≡ false
 
-low_take : (h : Float) (c : Contact) (z : Float) (t : Touch) → Low h c → lt h z ≡ false → Low h (take_of c z t)
+low_take : (h : Float) (c : Option Contact) (z : Float) (t : Touch) → Low h c → lt h z ≡ false → Low h (take_of c z t)
 unfolding Low take_of
-low_take h Nothing z t a b = b
-low_take h (Height y s) z t a b = either (Low h) (exceeds_of z y) (Height z t) (Height y s) (λ e. b) (λ e. a)
+low_take h None z t a b = b
+low_take h (Some m) z t a b = either (Low h) (exceeds_of z m.height) (at_height z t) (at_height m.height m.touch) (λ e. b) (λ e. a)
 
-low_offer : (h : Float) (c d : Contact) → Low h c → Low h d → Low h (offer_of c d)
+low_offer : (h : Float) (c d : Option Contact) → Low h c → Low h d → Low h (offer_of c d)
 unfolding Low offer_of
-low_offer h c Nothing a b = a
-low_offer h c (Height z t) a b = low_take h c z t a b
+low_offer h c None a b = a
+low_offer h c (Some m) a b = low_take h c m.height m.touch a b
 
 -- ---- the order where there is no NaN
 not_less : (x y : Float) → is_nan x ≡ false → is_nan y ≡ false → lt x y ≡ false → T (le y x)
@@ -153,16 +151,16 @@ module _ (k : Strip) (cut : cutter_fair k.r k.rc ≡ true) (x y : Float) (on : O
   unfolding bull_vertex bull_over Low
   corner_low n vx vy vz u =
       let d = hypot_of (vx ⊖ x) (vy ⊖ y) in
-      either (Low k.high) (le d k.r) (Height (vz ⊖ bull_profile d k.r k.rc) _) Nothing
+      either (Low k.high) (le d k.r) (at_height (vz ⊖ bull_profile d k.r k.rc) _) None
       (λ e. not_above _ k.high (subst (λ (v : Float). T (le (vz ⊖ bull_profile v k.r k.rc) k.high)) (min_is d k.r (holds _ e))
       (block_under k (point_block vx vy vz) cut u x y vx vy vz on (point_in vx vy vz u))))
       (λ e. tt)
 
-  none_low : Low k.high Nothing
+  none_low : Low k.high None
   unfolding Low
   none_low = tt
 
-  nowhere_low : (e : Edge) → Low k.high (bull_stretch K e Nowhere)
+  nowhere_low : (e : Edge) → Low k.high (bull_stretch K e None)
   unfolding bull_stretch
   nowhere_low e = none_low
 
@@ -171,7 +169,7 @@ module _ (k : Strip) (cut : cutter_fair k.r k.rc ≡ true) (x y : Float) (on : O
   corners_low t e =
       let a = both_true _ _ e in
       let b = both_true _ _ a.1 in
-      low_offer _ _ _ (low_offer _ _ _ (low_offer _ Nothing _ none_low (corner_low 0 _ _ _ a.0)) (corner_low 1 _ _ _ b.0)) (corner_low 2 _ _ _ b.1)
+      low_offer _ _ _ (low_offer _ _ _ (low_offer _ None _ none_low (corner_low 0 _ _ _ a.0)) (corner_low 1 _ _ _ b.0)) (corner_low 2 _ _ _ b.1)
 
   -- ---- edges
   module _ (e : Edge) where
@@ -240,7 +238,7 @@ module _ (k : Strip) (cut : cutter_fair k.r k.rc ≡ true) (x y : Float) (on : O
         let t1 = min_of ((neg qb ⊕ root) ⊘ (f2 ⊗ qa)) f1 in
         let a = max_unit ((neg qb ⊖ root) ⊘ (f2 ⊗ qa)) (div-fits binary64 (neg qb ⊖ root) (f2 ⊗ qa)) in
         let b = min_unit ((neg qb ⊕ root) ⊘ (f2 ⊗ qa)) (div-fits binary64 (neg qb ⊕ root) (f2 ⊗ qa)) in
-        either (λ v. Low k.high (bull_stretch K e v)) (lt t1 t0) Nowhere (Part t0 t1) (λ l. tt)
+        either (λ v. Low k.high (bull_stretch K e v)) (lt t1 t0) None (from_to t0 t1) (λ l. tt)
         (λ l.
         let c = not_less t1 t0 (first_not_nan t1 I b.0) (le_not_nan O t0 a.0) l in
         max_under (bull_at K e) k.high t0 t1 40
@@ -259,16 +257,16 @@ module _ (k : Strip) (cut : cutter_fair k.r k.rc ≡ true) (x y : Float) (on : O
         let qb = f2 ⊗ (ex ⊗ wx ⊕ ey ⊗ wy) in
         let qc = wx ⊗ wx ⊕ wy ⊗ wy ⊖ k.r ⊗ k.r in
         let disc = qb ⊗ qb ⊖ f4 ⊗ qa ⊗ qc in
-        either (λ v. Low k.high (bull_stretch K e v)) (le qa f0) Nowhere (cond (lt disc f0) Nowhere (crossed_of qa qb (root_of disc))) (λ l. nowhere_low e)
-        (λ l. either (λ v. Low k.high (bull_stretch K e v)) (lt disc f0) Nowhere (crossed_of qa qb (root_of disc)) (λ p. nowhere_low e)
+        either (λ v. Low k.high (bull_stretch K e v)) (le qa f0) None (cond (lt disc f0) None (crossed_of qa qb (root_of disc))) (λ l. nowhere_low e)
+        (λ l. either (λ v. Low k.high (bull_stretch K e v)) (lt disc f0) None (crossed_of qa qb (root_of disc)) (λ p. nowhere_low e)
         (λ p. crossed_low h qa qb (root_of disc)))
 
-    pub edge_offered : edge_passes k e ≡ true → (floor : Float) (c : Contact) → Low k.high c → Low k.high (bull_edge K floor c e)
+    pub edge_offered : edge_passes k e ≡ true → (floor : Float) (c : Option Contact) → Low k.high c → Low k.high (bull_edge K floor c e)
     unfolding bull_edge
     edge_offered h floor c l =
         either (Low k.high) (too_low floor c e) c (offer_of c (bull_stretch K e (reached_of e x y k.r))) (λ p. l) (λ p. low_offer _ _ _ l (stretch_low h))
 
-  edges_low : (t : Triangle) (floor : Float) (c : Contact) → edges_pass k t ≡ true → Low k.high c → Low k.high (bull_edges K floor t c)
+  edges_low : (t : Triangle) (floor : Float) (c : Option Contact) → edges_pass k t ≡ true → Low k.high c → Low k.high (bull_edges K floor t c)
   unfolding edges_pass bull_edges
   edges_low t floor c h l =
       let a = both_true _ _ h in
@@ -278,10 +276,10 @@ module _ (k : Strip) (cut : cutter_fair k.r k.rc ≡ true) (x y : Float) (on : O
   -- ---- the facet
   module _ (fx : T (finite x)) (fy : T (finite y)) (hx : T (finite k.high_x)) (hy : T (finite k.high_y)) (lx : T (finite k.low_x))
       (ly : T (finite k.low_y)) where
-    facet_low : (t : Triangle) (f : Facing) → facet_passes k t f ≡ true → Low k.high (bull_facet K t f)
+    facet_low : (t : Triangle) (f : Option Gradient) → facet_passes k t f ≡ true → Low k.high (bull_facet K t f)
     unfolding facet_passes rests_miss bull_facet facet_height
-    facet_low t Upright h = none_low
-    facet_low t (Leaning g) h =
+    facet_low t None h = none_low
+    facet_low t (Some g) h =
         let p = bull_rest (record { x = k.low_x; y = k.low_y; r = k.r; rc = k.rc }) g in
         let q = bull_rest (record { x = k.high_x; y = k.high_y; r = k.r; rc = k.rc }) g in
         let m = missed_fine t p q h in
@@ -299,11 +297,11 @@ module _ (k : Strip) (cut : cutter_fair k.r k.rc ≡ true) (x y : Float) (on : O
     contact_low t a b c = low_offer _ _ _ (edges_low t minus_infinity _ c (corners_low t a)) (facet_low t (facing_of t) b)
 
 -- ---- the whole
-gap_none : (h : Float) (m : Chord) (s low : Float) (c : Contact) → T (finite h) → T (finite m.lift) → T (finite (along m.az m.bz s)) → T (finite low)
+gap_none : (h : Float) (m : Chord) (s low : Float) (c : Option Contact) → T (finite h) → T (finite m.lift) → T (finite (along m.az m.bz s)) → T (finite low)
     → T (finite (h ⊕ m.lift)) → T (le low (along m.az m.bz s)) → T (le (h ⊕ m.lift ⊖ low) f0) → Low h c → lt f0 (gap_of m s c) ≡ false
 unfolding Low gap_of above_of
-gap_none h m s low Nothing a b c d e p q l = unfold of_bits div lt in refl
-gap_none h m s low (Height z t) a b c d e p q l = gap_low z h m.lift (along m.az m.bz s) low a b c d e p q l
+gap_none h m s low None a b c d e p q l = unfold of_bits div lt in refl
+gap_none h m s low (Some n) a b c d e p q l = gap_low n.height h m.lift (along m.az m.bz s) low a b c d e p q l
 
 module _ (t : Triangle) (m : Chord) (r rc lo hi : Float) (pass : passes_of t m r rc lo hi ≡ true) where
   abbrev k : Strip

@@ -1,6 +1,6 @@
 -- When a bull-nose cutter surely passes over a triangle on a part of a chord. No answer is defined here: where this says so, no contact there, lifted, stands
 -- above the tip, which proofs/Passing shows; where it does not, the search decides.
-use Rattle.std.specs.Prelude.{Bool, true, false, cond, ◌&&◌, ℕ, zero, suc, Float}
+use Rattle.std.specs.Prelude.{Bool, true, false, cond, ◌&&◌, ℕ, zero, suc, Float, None, Option, Some}
 use Rattle.std.specs.Float.Ieee.{lt, le}
 use Rattle.numbers.specs.Reals.{◌⊕◌, ◌⊖◌, ◌⊗◌, ◌⊘◌, f0, f1, f2, minus_slack, max_of, min_of}
 use Rattle.roots.specs.Root.{root_of}
@@ -8,8 +8,6 @@ use Rattle.roots.specs.Hypot.{hypot_of}
 use Rattle.plane.specs.declared.Triangle.{Triangle}
 use Rattle.cutters.specs.declared.Edge.{Edge}
 use Rattle.cutters.specs.declared.Gradient.{Gradient}
-use Rattle.cutters.specs.declared.Facing.{Facing}
-use Rattle.cutters.specs.declared.Facing.TheVariants.{Upright, Leaning}
 use Rattle.cutters.specs.declared.Rest.{Rest}
 use Rattle.cutters.specs.Touch.{edge_ab, edge_bc, edge_ca, along, facing_of}
 use Rattle.plane.specs.Ranges.{is_coordinate, is_radius}
@@ -174,9 +172,9 @@ rests_miss k t g =
     misses_of t (bull_rest (record { x = k.low_x; y = k.low_y; r = k.r; rc = k.rc }) g)
     (bull_rest (record { x = k.high_x; y = k.high_y; r = k.r; rc = k.rc }) g)
 
-unfoldable pub facet_passes : Strip → Triangle → Facing → Bool
-facet_passes k t Upright = true
-facet_passes k t (Leaning g) = rests_miss k t g
+unfoldable pub facet_passes : Strip → Triangle → Option Gradient → Bool
+facet_passes k t None = true
+facet_passes k t (Some g) = rests_miss k t g
 
 -- All of it.
 unfoldable pub passes_of : Triangle → Chord → Float → Float → Float → Float → Bool

@@ -12,7 +12,7 @@ ghost use Rattle.bull_pass.specs.Inside.{edge_passes, edges_pass, range_of, weig
 ghost use Rattle.bull_pass.specs.Inside.{products_miss, misses_of, rests_miss, facet_passes, passes_of};
 
 use bull::Bull;
-use cutters::{Edge, Facing, Gradient, Rest};
+use cutters::{Edge, Gradient, Rest};
 use plane::Triangle;
 use reach::Chord;
 
@@ -412,12 +412,12 @@ pub fn misses(t: Triangle, p: Rest, q: Rest) -> bool
 }
 
 // Whether the cutter's places of rest miss the facet.
-fn facet_passes(k: Strip, t: Triangle, f: Facing) -> bool
+fn facet_passes(k: Strip, t: Triangle, f: Option<Gradient>) -> bool
     ensures { result ≡ facet_passes k t f }
 {
     match f {
-        Facing::Upright => true,
-        Facing::Leaning(g) => rests_miss(k, t, g),
+        None => true,
+        Some(g) => rests_miss(k, t, g),
     }
 }
 

@@ -1,4 +1,5 @@
 -- A search given up beside a contact: where no value that it can still find is taken there, the larger end's value is as good as what it would have found.
+use Rattle.std.specs.Prelude.{None, Option, Some}
 use mathlib.Core.Bool.{true, false}
 use mathlib.Core.Path.{◌≡◌, refl, ap, sym, ◌∙◌, subst}
 use Prim.Native.Nat.{ℕ, ◌≤◌}
@@ -8,7 +9,6 @@ use Rattle.numbers.specs.Reals.{◌⊕◌, max_of}
 use Rattle.rules.proofs.Branches.{no, holds}
 use Rattle.plane.specs.declared.Touch.{Touch}
 use Rattle.plane.specs.declared.Contact.{Contact}
-use Rattle.plane.specs.declared.Contact.TheVariants.{Nothing, Height}
 use Rattle.plane.specs.Contacts.{exceeds_of, take_of}
 use Rattle.above.specs.Inside.{limit_of}
 use Rattle.above.proofs.Above.{waits}
@@ -84,10 +84,10 @@ none_le (inf s) h = h
 none_le (fin s m e) h = h
 
 -- ---- and is not taken, beside a limit that a number is at most
-not_taken : (c : Contact) (y w : Float) (t : Touch) → T (le y (limit_of c)) → lt (limit_of c) w ≡ false → take_of c w t ≡ c
+not_taken : (c : Option Contact) (y w : Float) (t : Touch) → T (le y (limit_of c)) → lt (limit_of c) w ≡ false → take_of c w t ≡ c
 unfolding limit_of
-not_taken Nothing y w t h e = absurd (none_le y (unfold of_bits div in h))
-not_taken (Height b s) y w t h e = waits b w s t (unfold exceeds_of in rw (le_not_nan y b h, e))
+not_taken None y w t h e = absurd (none_le y (unfold of_bits div in h))
+not_taken (Some m) y w t h e = waits m.height w m.touch t (unfold exceeds_of in rw (le_not_nan y m.height h, e))
 
 -- the same height is as good
 pub same_beside : (b r z : Float) → r ≡ z → Alike b r z

@@ -1,4 +1,5 @@
 -- Where a search looks: a stretch of an edge is none, or lies from 0 to 1.
+use Rattle.std.specs.Prelude.{None, Option}
 use mathlib.Core.Bool.{true, false, cond}
 use mathlib.Core.Path.{◌≡◌, refl, sym}
 use lib.Dec.{T}
@@ -8,8 +9,7 @@ use Rattle.numbers.specs.Reals.{◌⊕◌, ◌⊖◌, ◌⊗◌, ◌⊘◌, f0, 
 use Rattle.rules.proofs.Branches.{either, no}
 use Rattle.cutters.specs.declared.Edge.{Edge}
 use Rattle.cutters.specs.declared.Stretch.{Stretch}
-use Rattle.cutters.specs.declared.Stretch.TheVariants.{Nowhere, Between}
-use Rattle.cutters.specs.Touch.{length2, crossed_of, reached_of}
+use Rattle.cutters.specs.Touch.{length2, crossed_of, reached_of, from_to}
 use Rattle.order.proofs.Extremes.{either_of, not_below_lem}
 use Rattle.order.proofs.Order.{O, le_trans}
 use Rattle.bound.proofs.Unit.{I, Unit}
@@ -73,7 +73,7 @@ module _ (p q : Float) (f : T (fits binary64 p)) (g : T (fits binary64 q)) (h : 
   high_unit : Unit (min_of q f1)
   high_unit = record { low = le_trans O (max_of p f0) (min_of q f1) (max_zero p) in_order; high = min_one q; fit = min_fits q g }
 
-module _ (P : Stretch → Type 0) (none : P Nowhere) (some : (lo hi : Float) → Unit lo → Unit hi → T (le lo hi) → P (Between lo hi)) where
+module _ (P : Option Stretch → Type 0) (none : P None) (some : (lo hi : Float) → Unit lo → Unit hi → T (le lo hi) → P (from_to lo hi)) where
   crossed_all : (qa qb root : Float) → P (crossed_of qa qb root)
   unfolding crossed_of
   crossed_all qa qb root =
@@ -81,12 +81,12 @@ module _ (P : Stretch → Type 0) (none : P Nowhere) (some : (lo hi : Float) →
       let q = (neg qb ⊕ root) ⊘ (f2 ⊗ qa) in
       let f = div-fits binary64 (neg qb ⊖ root) (f2 ⊗ qa) in
       let g = div-fits binary64 (neg qb ⊕ root) (f2 ⊗ qa) in
-      either P (lt (min_of q f1) (max_of p f0)) Nowhere (Between (max_of p f0) (min_of q f1)) (λ e. none)
+      either P (lt (min_of q f1) (max_of p f0)) None (from_to (max_of p f0) (min_of q f1)) (λ e. none)
       (λ e. some (max_of p f0) (min_of q f1) (low_unit p q f g e) (high_unit p q f g e) (in_order p q f g e))
 
   -- a stretch is none, or lies from 0 to 1
   pub reached_all : (e : Edge) (x y r : Float) → P (reached_of e x y r)
   unfolding reached_of
   reached_all e x y r =
-      either P (le (length2 e) f0) Nowhere _ (λ k. none)
-      (λ k. either P (lt _ f0) Nowhere (crossed_of _ _ _) (λ l. none) (λ l. crossed_all _ _ _))
+      either P (le (length2 e) f0) None _ (λ k. none)
+      (λ k. either P (lt _ f0) None (crossed_of _ _ _) (λ l. none) (λ l. crossed_all _ _ _))

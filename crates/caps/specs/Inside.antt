@@ -1,5 +1,5 @@
 -- What bounds the tip's height over an edge; no answer is defined here.
-use Rattle.std.specs.Prelude.{Bool, true, cond, ◌&&◌, ◌≡◌, T, Float}
+use Rattle.std.specs.Prelude.{Bool, true, cond, ◌&&◌, ◌≡◌, T, Float, Option}
 use Rattle.std.specs.Float.{binary64}
 use Rattle.std.specs.Float.Ieee.{of_bits, le, fits}
 use Rattle.numbers.specs.Reals.{◌⊖◌, f0, f1, min_of, max_of}
@@ -83,4 +83,4 @@ InnerOf g = Inner g.a g.b g.x1 g.x2
 
 -- Two heights that are as good as each other beside a contact with the limit b.
 abbrev pub Alike : Float → Float → Float → Type 0
-Alike b r z = (c : Contact) (t : Touch) → limit_of c ≡ b → take_of c r t ≡ take_of c z t
+Alike b r z = (c : Option Contact) (t : Touch) → limit_of c ≡ b → take_of c r t ≡ take_of c z t

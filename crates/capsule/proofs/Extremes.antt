@@ -1,4 +1,5 @@
 -- The extreme points of the capsule, one by one, and the point of a triangle over each.
+use Rattle.std.specs.Prelude.{None, Option, Some}
 use mathlib.Core.Bool.{Bool, true, false, cond}
 use mathlib.Core.List.{[], ◌++◌}
 use mathlib.Core.Path.{◌≡◌, refl, sym, ap, ◌∙◌}
@@ -10,7 +11,6 @@ use Rattle.numbers.specs.Reals.{f0, tiny, minus_slack, abs_of}
 use Rattle.plane.specs.declared.Triangle.{Triangle}
 use Rattle.plane.specs.declared.Weights.{Weights}
 use Rattle.plane.specs.declared.Contact.{Contact}
-use Rattle.plane.specs.declared.Spot.TheVariants.{Nowhere, At}
 use Rattle.plane.specs.Distance.{bary_of, at_least}
 use Rattle.capsule.specs.declared.Capsule.{Capsule}
 use Rattle.capsule.specs.declared.Place.{Place}
@@ -61,22 +61,22 @@ module _ (k : Capsule) (h : Rise) (i : ℕ) (r : Place) where
   at_flank_level e l p = back (ends k) (flanks k) i r l p ∙ ap (λ ps. get_or ps i r) (sym (level k h e))
 
 -- over a place that has no weights, over one beside the triangle, and over one on it
-module _ (k : Capsule) (c : Contact) (t : Triangle) (p : Place) where
-  pub none_over : bary_of t p.x p.y ≡ Nowhere → c ≡ offered_all k c (plane_over t p)
+module _ (k : Capsule) (c : Option Contact) (t : Triangle) (p : Place) where
+  pub none_over : bary_of t p.x p.y ≡ None → c ≡ offered_all k c (plane_over t p)
   unfolding plane_over raised offered_all
   none_over e = rw e
 
-  pub beside : (w : Weights) → bary_of t p.x p.y ≡ At w → at_least w minus_slack ≡ false → c ≡ offered_all k c (plane_over t p)
+  pub beside : (w : Weights) → bary_of t p.x p.y ≡ Some w → at_least w minus_slack ≡ false → c ≡ offered_all k c (plane_over t p)
   unfolding plane_over raised offered_all
   beside w e h = rw (e, h)
 
-  pub on_it : (r : Contact) (w : Weights) →
-      bary_of t p.x p.y ≡ At w → at_least w minus_slack ≡ true → r ≡ offer_of k c (point_over t p w) → r ≡ offered_all k c (plane_over t p)
+  pub on_it : (r : Option Contact) (w : Weights) →
+      bary_of t p.x p.y ≡ Some w → at_least w minus_slack ≡ true → r ≡ offer_of k c (point_over t p w) → r ≡ offered_all k c (plane_over t p)
   unfolding plane_over raised offered_all
   on_it r w e h q = rw (e, h) q
 
 -- the inner points of a triangle that rises by h
-pub rising : (k : Capsule) (r c : Contact) (t : Triangle) (h : Rise) →
+pub rising : (k : Capsule) (r c : Option Contact) (t : Triangle) (h : Rise) →
     lt tiny (abs_of (determinant_of t)) ≡ true →
     h ≡ rise_of t k.r →
     r ≡ offered_all k c (each (plane_over t) (places k h)) →

@@ -1,4 +1,6 @@
 -- Candidates that change nothing: what is not higher than the best so far, a point offered before, a way of no length.
+use Rattle.plane.specs.Contacts.{at_height}
+use Rattle.std.specs.Prelude.{None, Option}
 use mathlib.Core.Bool.{Bool, true, false, cond, ◌||◌, beq}
 use mathlib.Core.List.{List, [], ◌∷◌, ◌++◌}
 use mathlib.Core.Path.{◌≡◌, refl, sym, ap, ◌∙◌, subst}
@@ -22,7 +24,6 @@ use Rattle.bound.proofs.Along.{add_parts, mul_part}
 use Rattle.plane.specs.declared.Touch.{Touch}
 use Rattle.plane.specs.declared.Triangle.{Triangle}
 use Rattle.plane.specs.declared.Contact.{Contact}
-use Rattle.plane.specs.declared.Contact.TheVariants.{Nothing, Height}
 use Rattle.above.specs.Above as above
 use Rattle.above.specs.Inside.{limit_of}
 use Rattle.above.proofs.Above.{goes_on, stays_under}
@@ -41,21 +42,21 @@ use Rattle.capsule.proofs.Again.{Held, held_on, held_now, held_same}
 
 -- ---- candidates on top of a best so far give what their contact gives on top of it
 module _ (k : Capsule) where
-  top_one : (c d : Contact) (v : Point) → above.offer_of c (offer_of k d v) ≡ offer_of k (above.offer_of c d) v
+  top_one : (c d : Option Contact) (v : Point) → above.offer_of c (offer_of k d v) ≡ offer_of k (above.offer_of c d) v
   unfolding offer_of
   top_one c d v = by_test (in_capsule k v.x v.y) (λ e. rw e (goes_on c d v.z v.touch)) (λ e. rw e)
 
-  top_all : (c d : Contact) (vs : List Point) → above.offer_of c (offered_all k d vs) ≡ offered_all k (above.offer_of c d) vs
+  top_all : (c d : Option Contact) (vs : List Point) → above.offer_of c (offered_all k d vs) ≡ offered_all k (above.offer_of c d) vs
   unfolding offered_all
   top_all c d [] = refl
   top_all c d (v ∷ vs) = top_all c (offer_of k d v) vs ∙ ap (λ b. offered_all k b vs) (top_one c d v)
 
 pub topped : (k : Capsule) (t : Triangle) (z : Float) → offered_all k (above.so_far z) (candidates k t) ≡ on_top z (highest_in k t)
 unfolding highest_in above.offer_of
-topped k t z = sym (top_all k (above.so_far z) Nothing (candidates k t))
+topped k t z = sym (top_all k (above.so_far z) None (candidates k t))
 
 -- ---- one candidate
-module _ (k : Capsule) (c : Contact) (v : Point) where
+module _ (k : Capsule) (c : Option Contact) (v : Point) where
   pub lower_stays : (r : Bool) → Higher c v.z r → r ≡ false → c ≡ offer_of k c v
   unfolding offer_of
   lower_stays r h e = by_test (in_capsule k v.x v.y) (λ i. rw i (sym (h v.touch ∙ rw e))) (λ i. rw i)
@@ -64,7 +65,7 @@ module _ (k : Capsule) (c : Contact) (v : Point) where
   unfolding offer_of
   outside_stays i = rw i
 
-  pub higher_takes : (r : Bool) → Higher c v.z r → r ≡ true → in_capsule k v.x v.y ≡ true → Height v.z v.touch ≡ offer_of k c v
+  pub higher_takes : (r : Bool) → Higher c v.z r → r ≡ true → in_capsule k v.x v.y ≡ true → at_height v.z v.touch ≡ offer_of k c v
   unfolding offer_of
   higher_takes r h e i = rw i (sym (h v.touch ∙ rw e))
 
@@ -106,10 +107,10 @@ module _ (z d b : Float) (P : T (finite (z ⊕ O ⊗ d))) (Q : T (finite (z ⊕ 
       le_trans _ _ b (add_right binary64 (s ⊗ d) (I ⊗ d) z f f_i fz q) (le_trans _ _ b (max_least (z ⊕ O ⊗ d) (z ⊕ I ⊗ d) P Q) h))
 
 pub edge_under : (b : Float) (g : Touch) (e : Edge) → Ordinary (e.z ⊕ f0 ⊗ e.dz) (e.z ⊕ f1 ⊗ e.dz)
-    → le (max_of (e.z ⊕ f0 ⊗ e.dz) (e.z ⊕ f1 ⊗ e.dz)) b ≡ true → NotAbove (Height b g) e
+    → le (max_of (e.z ⊕ f0 ⊗ e.dz) (e.z ⊕ f1 ⊗ e.dz)) b ≡ true → NotAbove (at_height b g) e
 unfolding of_bits limit_of
 edge_under b g e o h s lo hi t =
-    stays_under (Height b g) (e.z ⊕ s ⊗ e.dz) t
+    stays_under (at_height b g) (e.z ⊕ s ⊗ e.dz) t
     (is_true _ (point_under e.z e.dz b o.0 o.1 (subst T (sym h) tt) s (subst T (sym lo) tt) (subst T (sym hi) tt)))
 
 -- a place on an edge lies from 0 to 1 once its slack is cut off
@@ -123,18 +124,18 @@ clamped t h =
     (λ g. rw (e, g) (is_true _ (not_below_lem t f0 f tt e), is_true _ (not_below_lem f1 t tt f g))))
 
 -- the same lists change nothing that none of an edge's points changes
-abbrev Kept : Capsule → Contact → Edge → Type 0
+abbrev Kept : Capsule → Option Contact → Edge → Type 0
 Kept k c e = (s : Float) → le f0 s ≡ true → le s f1 ≡ true → offer_of k c (point_on e s) ≡ c
 
-low_kept : (k : Capsule) (c : Contact) (e : Edge) → NotAbove c e → Kept k c e
+low_kept : (k : Capsule) (c : Option Contact) (e : Edge) → NotAbove c e → Kept k c e
 unfolding offer_of point_on
 low_kept k c e u s lo hi = by_test (in_capsule k (e.x ⊕ s ⊗ e.dx) (e.y ⊕ s ⊗ e.dy)) (λ i. rw i (u s lo hi _)) (λ i. rw i)
 
-far_kept : (k : Capsule) (c : Contact) (e : Edge) → Outside k e → Kept k c e
+far_kept : (k : Capsule) (c : Option Contact) (e : Edge) → Outside k e → Kept k c e
 unfolding offer_of point_on
 far_kept k c e u s lo hi = rw (u s lo hi)
 
-module _ (k : Capsule) (e : Edge) (c : Contact) (point-same : Kept k c e) where
+module _ (k : Capsule) (e : Edge) (c : Option Contact) (point-same : Kept k c e) where
   reached_same : (t : Float) → offered_all k c (reached e t) ≡ c
   unfolding reached offered_all
   reached_same t = by_test (on_edge t) (λ i. let p = clamped t i in rw i (point-same (clamp_unit t) p.0 p.1)) (λ i. rw i)
@@ -179,7 +180,7 @@ module _ (k : Capsule) (e : Edge) (c : Contact) (point-same : Kept k c e) where
       (both_same (each (circled k e) (ends k)) (cond (lt f0 k.len) (each (sided k e) sides) []) (each_same (circled k e) circled_same (ends k))
       (if-same (lt f0 k.len) (each (sided k e) sides) (each_same (sided k e) sided_same sides)))
 
-pub crossed_same : (k : Capsule) (e : Edge) (c : Contact) → NotAbove c e → offered_all k c (crossed k e) ≡ c
+pub crossed_same : (k : Capsule) (e : Edge) (c : Option Contact) → NotAbove c e → offered_all k c (crossed k e) ≡ c
 crossed_same k e c u = crossed_kept k e c (low_kept k c e u)
 
 -- ---- a triangle whose corners and edges lie outside the capsule
@@ -208,11 +209,11 @@ module _ (k : Capsule) (t : Triangle) where
         ca = λ s l h. (u.ca s l h _ _ _).1;
       }
 
-  pub away_corners : (c : Contact) → Away k t → c ≡ offered_all k c (corners t)
+  pub away_corners : (c : Option Contact) → Away k t → c ≡ offered_all k c (corners t)
   unfolding offered_all offer_of corners corner_a corner_b corner_c
   away_corners c u = rw (u.a, u.b, u.c)
 
-  pub away_edges : (c : Contact) → Away k t → c ≡ offered_all k c (each (crossed k) (edges t))
+  pub away_edges : (c : Option Contact) → Away k t → c ≡ offered_all k c (each (crossed k) (edges t))
   unfolding each edges offered_all
   away_edges c u =
       let e = edge_of 0 (corner_a t) (corner_b t) in
@@ -226,20 +227,20 @@ module _ (k : Capsule) (t : Triangle) where
 
 -- ---- the extreme points of a single point: the same place changes nothing
 module _ (k : Capsule) (f : Place → List Point) where
-  takes_on : (c : Contact) (x : Place) (xs : List Place) → offered_all k c (each f (x ∷ xs)) ≡ offered_all k (offered_all k c (f x)) (each f xs)
+  takes_on : (c : Option Contact) (x : Place) (xs : List Place) → offered_all k c (each f (x ∷ xs)) ≡ offered_all k (offered_all k c (f x)) (each f xs)
   unfolding each
   takes_on c x xs = offered_all_append k c (f x) (each f xs)
 
-  goes_past : (c : Contact) (x : Place) (xs : List Place) → Held k c (f x) → offered_all k c (each f (x ∷ xs)) ≡ offered_all k c (each f xs)
+  goes_past : (c : Option Contact) (x : Place) (xs : List Place) → Held k c (f x) → offered_all k c (each f (x ∷ xs)) ≡ offered_all k c (each f xs)
   goes_past c x xs h = takes_on c x xs ∙ ap (λ d. offered_all k d (each f xs)) (held_same k c (f x) h)
 
-  four_past : (c : Contact) (x : Place) → Held k c (f x) → offered_all k c (each f (x ∷ x ∷ x ∷ x ∷ [])) ≡ c
+  four_past : (c : Option Contact) (x : Place) → Held k c (f x) → offered_all k c (each f (x ∷ x ∷ x ∷ x ∷ [])) ≡ c
   unfolding each offered_all
   four_past c x h =
       goes_past c x (x ∷ x ∷ x ∷ []) h ∙ (goes_past c x (x ∷ x ∷ []) h ∙ (goes_past c x (x ∷ []) h ∙ goes_past c x [] h))
 
   -- p twice, q twice, p four times more; and without q
-  steep_past : (c : Contact) (p q : Place) → offered_all k c (each f (p ∷ p ∷ q ∷ q ∷ p ∷ p ∷ p ∷ p ∷ [])) ≡ offered_all k c (each f (p ∷ q ∷ []))
+  steep_past : (c : Option Contact) (p q : Place) → offered_all k c (each f (p ∷ p ∷ q ∷ q ∷ p ∷ p ∷ p ∷ p ∷ [])) ≡ offered_all k c (each f (p ∷ q ∷ []))
   unfolding each offered_all
   steep_past c p q =
       let a = offered_all k c (f p) in
@@ -248,7 +249,7 @@ module _ (k : Capsule) (f : Place → List Point) where
       takes_on c p (p ∷ q ∷ q ∷ more) ∙ (goes_past a p (q ∷ q ∷ more) (held_now k c (f p)) ∙ (takes_on a q (q ∷ more) ∙ (goes_past b q more (held_now k a (f q))
       ∙ (four_past b p (held_on k a (f p) (f q) (held_now k c (f p))) ∙ sym (takes_on c p (q ∷ []) ∙ takes_on a q [])))))
 
-  level_past : (c : Contact) (p : Place) → offered_all k c (each f (p ∷ p ∷ p ∷ p ∷ p ∷ p ∷ [])) ≡ offered_all k c (each f (p ∷ []))
+  level_past : (c : Option Contact) (p : Place) → offered_all k c (each f (p ∷ p ∷ p ∷ p ∷ p ∷ p ∷ [])) ≡ offered_all k c (each f (p ∷ []))
   unfolding each offered_all
   level_past c p =
       let a = offered_all k c (f p) in
@@ -271,7 +272,7 @@ module _ (k : Capsule) (h : Rise) (u : Single k) where
   unfolding flanks flank
   flanks_one = rw (← u.x, ← u.y, ← u.right, ← u.left)
 
-  pub single_places : (f : Place → List Point) (c r : Contact) → r ≡ offered_all k c (each f (firsts k h)) → r ≡ offered_all k c (each f (places k h))
+  pub single_places : (f : Place → List Point) (c r : Option Contact) → r ≡ offered_all k c (each f (firsts k h)) → r ≡ offered_all k c (each f (places k h))
   unfolding firsts places
   single_places f c r e =
       by_test (lt f0 h.g)
@@ -279,7 +280,7 @@ module _ (k : Capsule) (h : Rise) (u : Single k) where
       (λ g. (rw g at e) ∙ (sym (level_past k f c (centre k)) ∙ (rw (g, ends_one, flanks_one))))
 
 -- the places that are left, one after the other
-module _ (k : Capsule) (h : Rise) (f : Place → List Point) (c m : Contact) (p : Place) (e : p ≡ centre k) (q : m ≡ offered_all k c (f p)) where
+module _ (k : Capsule) (h : Rise) (f : Place → List Point) (c m : Option Contact) (p : Place) (e : p ≡ centre k) (q : m ≡ offered_all k c (f p)) where
   centre_taken : m ≡ offered_all k c (f (centre k))
   centre_taken = q ∙ ap (λ x. offered_all k c (f x)) e
 
@@ -287,7 +288,7 @@ module _ (k : Capsule) (h : Rise) (f : Place → List Point) (c m : Contact) (p 
   unfolding firsts each offered_all
   first_alone g = rw g (centre_taken ∙ sym (takes_on k f c (centre k) []))
 
-  pub first_two : (r : Contact) (t : Place) → lt f0 h.g ≡ true → t ≡ record { x = k.px ⊕ h.x; y = k.py ⊕ h.y } → r ≡ offered_all k m (f t)
+  pub first_two : (r : Option Contact) (t : Place) → lt f0 h.g ≡ true → t ≡ record { x = k.px ⊕ h.x; y = k.py ⊕ h.y } → r ≡ offered_all k m (f t)
       → r ≡ offered_all k c (each f (firsts k h))
   unfolding firsts each offered_all
   first_two r t g i j =
@@ -297,12 +298,12 @@ module _ (k : Capsule) (h : Rise) (f : Place → List Point) (c m : Contact) (p 
       ∙ takes_on k f (offered_all k c (f (centre k))) (record { x = k.px ⊕ h.x; y = k.py ⊕ h.y }) []))))
 
 -- ---- a way of no length
-record None (x : Float) : Type 0 where
+record Naught (x : Float) : Type 0 where
   count : count_of x ≡ 0
   bounded : infinite x ≡ false
   number : is_nan x ≡ false
 
-none : (x : Float) → ne x f0 ≡ false → None x
+none : (x : Float) → ne x f0 ≡ false → Naught x
 unfolding ne eq of_bits count_of infinite is_nan
 none nan h = absurd (no (sym h))
 none (inf s) h = absurd (no (sym h))

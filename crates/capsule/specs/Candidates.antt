@@ -1,17 +1,14 @@
 -- Document 01, the row of `max_in_capsule`: the points of a triangle where its height can peak in the capsule. The height is linear, so it peaks at a corner,
 -- where an edge crosses the capsule's boundary, or inside the triangle at an extreme point of the capsule. In the order of the Rust. Each carries what it
 -- touches: a corner its number, a crossing its edge's, and all inner points the face.
-use Rattle.std.specs.Prelude.{Bool, cond, ◌&&◌, List, [], ◌∷◌, ◌++◌, ℕ, Float}
+use Rattle.std.specs.Prelude.{Bool, cond, ◌&&◌, List, [], ◌∷◌, ◌++◌, ℕ, Float, None, Option, Some}
 use Rattle.std.specs.Float.Ieee.{lt, le, ne, neg}
 use Rattle.numbers.specs.Reals.{◌⊕◌, ◌⊖◌, ◌⊗◌, ◌⊘◌, f0, f1, f2, f4, minus1, tiny, minus_slack, past_one, clamp_unit, abs_of}
 use Rattle.roots.specs.Root.{root_of}
 use Rattle.roots.specs.Hypot.{hypot_of}
 use Rattle.plane.specs.declared.Triangle.{Triangle}
 use Rattle.plane.specs.declared.Weights.{Weights}
-use Rattle.plane.specs.declared.Spot.{Spot}
-use Rattle.plane.specs.declared.Spot.TheVariants.{Nowhere, At}
 use Rattle.plane.specs.declared.Contact.{Contact}
-use Rattle.plane.specs.declared.Contact.TheVariants.{Nothing}
 use Rattle.plane.specs.Contacts.{corner, edge, face}
 use Rattle.plane.specs.Distance.{bary_of, at_least}
 use Rattle.capsule.specs.declared.Capsule.{Capsule}
@@ -137,9 +134,9 @@ unfoldable pub point_over : Triangle → Place → Weights → Point
 point_over t p w = record { x = p.x; y = p.y; z = w.u ⊗ t.az ⊕ w.v ⊗ t.bz ⊕ w.w ⊗ t.cz; touch = face }
 
 -- the same if no weight is below -1e-12
-unfoldable pub raised : Triangle → Place → Spot → List Point
-raised t p Nowhere = []
-raised t p (At w) = cond (at_least w minus_slack) (point_over t p w ∷ []) []
+unfoldable pub raised : Triangle → Place → Option Weights → List Point
+raised t p None = []
+raised t p (Some w) = cond (at_least w minus_slack) (point_over t p w ∷ []) []
 
 -- the point of a triangle over a place, if it lies on the triangle
 unfoldable pub plane_over : Triangle → Place → List Point
@@ -154,9 +151,9 @@ unfoldable pub candidates : Capsule → Triangle → List Point
 candidates k t = corners t ++ (each (crossed k) (edges t) ++ inner k t)
 
 -- the highest point of a triangle in a capsule: of the candidates in it, the highest
-unfoldable pub highest_in : Capsule → Triangle → Contact
-highest_in k t = offered_all k Nothing (candidates k t)
+unfoldable pub highest_in : Capsule → Triangle → Option Contact
+highest_in k t = offered_all k None (candidates k t)
 
 -- the highest point of a triangle in the capsule of radius r around p-q
-unfoldable pub max_in_capsule : Triangle → Float → Float → Float → Float → Float → Float → Contact
+unfoldable pub max_in_capsule : Triangle → Float → Float → Float → Float → Float → Float → Option Contact
 max_in_capsule t px py qx qy r eps = highest_in (capsule_of px py qx qy r eps) t

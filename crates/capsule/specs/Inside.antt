@@ -1,13 +1,12 @@
 -- What the parts of the search promise each other, so that a candidate is left out where it changes nothing; no answer is defined here.
-use Rattle.std.specs.Prelude.{Bool, true, false, cond, List, [], ◌∷◌, ◌≡◌, T, Float}
+use Rattle.std.specs.Prelude.{Bool, true, false, cond, List, [], ◌∷◌, ◌≡◌, T, Float, Option}
 use Rattle.std.specs.Float.Ieee.{lt, le}
 use Rattle.std.specs.Float.Ieee.Scale.{finite}
 use Rattle.numbers.specs.Reals.{◌⊕◌, ◌⊗◌, f0, f1, minus1}
 use Rattle.plane.specs.declared.Touch.{Touch}
 use Rattle.plane.specs.declared.Triangle.{Triangle}
 use Rattle.plane.specs.declared.Contact.{Contact}
-use Rattle.plane.specs.declared.Contact.TheVariants.{Height}
-use Rattle.plane.specs.Contacts.{take_of}
+use Rattle.plane.specs.Contacts.{take_of, at_height}
 use Rattle.above.specs.Above.{offer_of, so_far}
 use Rattle.capsule.specs.declared.Capsule.{Capsule}
 use Rattle.capsule.specs.declared.Place.{Place}
@@ -17,15 +16,15 @@ use Rattle.capsule.specs.Candidates.{corner_a, corner_b, corner_c, edge_of, flan
 use Rattle.capsule.specs.Region.{in_capsule}
 
 -- A contact on top of a best so far of the height z.
-abbrev pub on_top : Float → Contact → Contact
+abbrev pub on_top : Float → Option Contact → Option Contact
 on_top z c = offer_of (so_far z) c
 
 -- r says whether the height z takes the place of a contact, whatever it touches.
-abbrev pub Higher : Contact → Float → Bool → Type 0
-Higher c z r = (t : Touch) → take_of c z t ≡ cond r (Height z t) c
+abbrev pub Higher : Option Contact → Float → Bool → Type 0
+Higher c z r = (t : Touch) → take_of c z t ≡ cond r (at_height z t) c
 
 -- No point of an edge, from 0 to 1 along it, takes the place of a contact.
-abbrev pub NotAbove : Contact → Edge → Type 0
+abbrev pub NotAbove : Option Contact → Edge → Type 0
 NotAbove c e = (s : Float) → le f0 s ≡ true → le s f1 ≡ true → (t : Touch) → take_of c (e.z ⊕ s ⊗ e.dz) t ≡ c
 
 -- No point of an edge, from 0 to 1 along it, lies in the capsule.

@@ -12,7 +12,7 @@ ghost use Rattle.capsule.specs.Inside.{on_top, Higher, NotAbove, Away, Ordinary,
 ghost use Rattle.capsule.specs.Candidates.{each, corners, edge_of, edges, ends, on_edge, reached, circled, sided, sides, crossed, rise_of};
 ghost use Rattle.capsule.specs.Candidates.{tangents, flank, flanks, places, plane_over, inner, candidates, highest_in, max_in_capsule};
 
-use plane::{Contact, Spot, Touch, Triangle};
+use plane::{Contact, Touch, Triangle};
 
 const MINUS_ONE: f64 = -1.0;
 
@@ -79,7 +79,15 @@ pub struct Best {
 }
 
 // The highest point of a triangle in the capsule of radius r around p-q.
-pub fn max_in_capsule(t: Triangle, px: f64, py: f64, qx: f64, qy: f64, r: f64, eps: f64) -> Contact
+pub fn max_in_capsule(
+    t: Triangle,
+    px: f64,
+    py: f64,
+    qx: f64,
+    qy: f64,
+    r: f64,
+    eps: f64,
+) -> Option<Contact>
     ensures { result ≡ max_in_capsule t px py qx qy r eps }
 {
     highest_in(capsule_of(px, py, qx, qy, r, eps), t)
@@ -134,14 +142,14 @@ fn normal_of(dx: f64, dy: f64, len: f64) -> Place
 }
 
 // The highest point of a triangle in a capsule.
-pub fn highest_in(k: Capsule, t: Triangle) -> Contact
+pub fn highest_in(k: Capsule, t: Triangle) -> Option<Contact>
     ensures { result ≡ highest_in k t }
 {
     contact_of(found_in(k, t))
 }
 
 // The same on top of a best so far of the height z: what is not higher is left out as soon as that is known.
-pub fn highest_above(k: Capsule, t: Triangle, z: f64) -> Contact
+pub fn highest_above(k: Capsule, t: Triangle, z: f64) -> Option<Contact>
     ensures { result ≡ on_top z (highest_in k t) }
 {
     let touch = Touch { kind: 0, which: 0 };
@@ -187,14 +195,14 @@ fn away(k: Capsule, t: Triangle) -> bool
 }
 
 // The contact that was found.
-fn contact_of(b: Best) -> Contact
+fn contact_of(b: Best) -> Option<Contact>
     ensures { result ≡ contact_of b }
 {
     let touch = b.touch;
     if b.found == 0 {
-        Contact::Nothing
+        None
     } else {
-        Contact::Height(b.z, touch)
+        Some(Contact { height: b.z, touch })
     }
 }
 
@@ -634,8 +642,8 @@ fn offer_over(k: Capsule, best: Best, t: Triangle, p: Place) -> Best
     ensures { contact_of result ≡ offered_all k (contact_of best) (plane_over t p) }
 {
     match plane::bary(t, p.x, p.y) {
-        Spot::Nowhere => best,
-        Spot::At(w) => {
+        None => best,
+        Some(w) => {
             if plane::at_least(w, MINUS_SLACK) {
                 offer(
                     k,

@@ -10,6 +10,9 @@ use lib.Ieee.{Float, nan, eq, ne}
 use lib.Ieee.Compare.{differs_from_itself}
 use lib.ListN.{length}
 use lib.Seq.{ext_get_or}
+use Rattle.std.specs.Prelude.{Result, Ok, Err, is_err}
+use Rattle.refusals.specs.declared.Refusal.{Refusal}
+use Rattle.refusals.specs.Numbers.{code_of}
 use Rattle.numbers.specs.Reals.{num}
 use Rattle.rules.proofs.Branches.{no}
 use Rattle.plane.specs.declared.Bounds.{Bounds}
@@ -22,6 +25,7 @@ use Rattle.grid.specs.declared.Grid.{Grid}
 use Rattle.grid.specs.declared.Header.{Header}
 use Rattle.grid.specs.Header.{header_of}
 use Rattle.grid.specs.Boxes.{box_at, boxes_of}
+use Rattle.refusals.proofs.Named.{not_zero}
 use Rattle.grid.proofs.Boxing.{boxes_length, boxes_at}
 use Rattle.checked.specs.Inside.{Tells, cells_under}
 
@@ -43,6 +47,17 @@ tells_as b f g t = (λ e. f (t.0 e), λ q. t.1 (g q))
 -- ---- all below a bound, one more
 pub all_more : (P : ℕ → Type 0) (k : ℕ) → ((i : ℕ) → i < k → P i) → P k → (i : ℕ) → i < k + 1 → P i
 all_more P k h p i l = by_lt i k (h i) (λ q. subst P (omega arith) p)
+
+-- ---- whether a call was refused
+pub was_refused : {A : Type 0} (q : Result A Refusal) (k : ℕ) → code_of q ≡ k → is_err q ≡ true → k ≡ 0 → ⊥
+unfolding code_of
+was_refused (Ok a) k e t z = no t
+was_refused (Err r) k e t z = not_zero r (e ∙ z)
+
+pub was_passed : {A : Type 0} (q : Result A Refusal) (k : ℕ) → code_of q ≡ k → is_err q ≡ false → k ≡ 0
+unfolding code_of
+was_passed (Ok a) k e t = sym e
+was_passed (Err r) k e t = absurd (no (sym t))
 
 -- ---- numbers
 pub both_nan : (x y : Float) → ne x x ≡ true → ne y y ≡ true → x ≡ y

@@ -5,6 +5,7 @@
 ghost use Rattle.std.specs.Prelude.{true, ◌&&◌, ◌≡◌, ℕ, ◌+◌, ◌*◌, ◌<◌, ◌≤◌, length};
 ghost use Rattle.spans.specs.Inside.{AllGood};
 ghost use Rattle.rules.specs.Every.{is_from};
+ghost use Rattle.refusals.specs.Numbers.{number_of, code_of};
 ghost use Rattle.grid.specs.Grid.{cells_in, cover_of};
 ghost use Rattle.grid.specs.Boxes.{box_at, boxes_of};
 ghost use Rattle.grid.specs.Header.{header_of};
@@ -16,33 +17,39 @@ ghost use Rattle.checked.specs.Inside.{Tells, told_as, cells_under, box_covers, 
 
 use grid::{Grid, Header};
 use plane::Bounds;
+use refusals::Refusal;
 
-// 0 exactly if header and tables are the index of this mesh; else 1, 23 or 7.
-pub fn check_index(mesh: &[f64], h: Header, starts: &[u32], members: &[u32], boxes: &[f64]) -> u32
-    ensures { CheckPromise (index_of mesh.now h starts.now members.now boxes.now) result }
+// Nothing exactly if header and tables are the index of this mesh; else refusal 1, 23 or 7.
+pub fn check_index(
+    mesh: &[f64],
+    h: Header,
+    starts: &[u32],
+    members: &[u32],
+    boxes: &[f64],
+) -> Result<(), Refusal>
+    ensures { CheckPromise (index_of mesh.now h starts.now members.now boxes.now) (code_of result) }
 {
-    let w = grid::refusal_of_mesh(mesh, h.floor, h.r, boxes);
-    let k = w.refusal;
-    if k != 0 {
-        return told(k);
+    match grid::refusal_of_mesh(mesh, h.floor, h.r, boxes) {
+        Err(r) => Err(told(r)),
+        Ok(()) => {
+            if is_index(mesh, h, starts, members, boxes) {
+                return Ok(());
+            }
+            Err(Refusal::Index)
+        }
     }
-    if is_index(mesh, h, starts, members, boxes) {
-        return 0;
-    }
-    7
 }
 
 // How a refusal of the builder is told: 1 and 23 as they are, any other as 7.
-fn told(k: u32) -> u32
-    ensures { result ≡ told_as k }
+#[tactic(auto, unfolding(crate::specs::Inside::told_as, refusals::specs::Numbers::number_of))]
+fn told(r: Refusal) -> Refusal
+    ensures { number_of result ≡ told_as (number_of r) }
 {
-    if k == 1 {
-        return 1;
+    match r {
+        Refusal::Length => Refusal::Length,
+        Refusal::Boxes => Refusal::Boxes,
+        _ => Refusal::Index,
     }
-    if k == 23 {
-        return 23;
-    }
-    7
 }
 
 // Whether header and tables are the index of a mesh that the builder passes.
@@ -69,7 +76,7 @@ fn is_index_under(
     requires gridded { refusal_of_grid g.columns g.rows (length starts.now) ≡ 0 → Gridded mesh.now n g }
     ensures { Tells result (SameIndex n g (index_of mesh.now h starts.now members.now boxes.now)) }
 {
-    if grid::refusal_of_grid(g.columns, g.rows, starts.len()) != 0 {
+    if grid::refusal_of_grid(g.columns, g.rows, starts.len()).is_err() {
         return false;
     }
     if !is_header(mesh, n, g, h) {
@@ -149,6 +156,7 @@ fn are_boxes(mesh: &[f64], n: usize, boxes: &[f64]) -> bool
     requires { (n * 9 ≤ length mesh.now) × (length boxes.now ≡ n * 5) × AllGood mesh.now }
     ensures { Tells result (boxes.now ≡ boxes_of mesh.now n) }
 {
+    // by index: triangle i is nine numbers of one table and five of the other
     for i in 0..n {
         if !same_box(grid::box_at(boxes, i), spans::box_of(mesh, i)) {
             return false;
@@ -171,7 +179,7 @@ fn are_tables(
     ensures { Tells result (SameTables (cover_of mesh.now g) n (cells_in g) starts.now members.now) }
 {
     let t = grid::total(mesh, n, g);
-    if grid::refusal_of_members(t, members.len()) != 0 {
+    if grid::refusal_of_members(t, members.len()).is_err() {
         return false;
     }
     if starts[0] != 0 {
@@ -190,6 +198,7 @@ fn cells_hold(n: usize, g: Grid, starts: &[u32], members: &[u32], boxes: &[f64])
     ensures { Tells result ((c : ℕ) → c < cells_in g
         → cell_holds (box_covers boxes.now g) n starts.now members.now c ≡ true) }
 {
+    // by index: a cell lies between two starts, and its number tells column and row
     for c in 0..g.rows * g.columns {
         if !cell_holds(n, g, starts, members, boxes, c) {
             return false;
@@ -223,8 +232,8 @@ fn rises(n: usize, g: Grid, part: &[u32], boxes: &[f64], c: usize) -> bool
     let x = c % g.columns;
     let y = c / g.columns;
     let mut low: usize = 0;
-    for j in 0..part.len() {
-        let i = part[j] as usize;
+    for member in part {
+        let i = *member as usize;
         if i < low {
             return false;
         }

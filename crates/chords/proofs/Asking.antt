@@ -21,9 +21,9 @@ use Rattle.query.proofs.Using.{walkable, usable_head}
 use Rattle.ask.proofs.Narrowing.{Narrow}
 use Rattle.ask.proofs.Answers.{passed, marks_all}
 use Rattle.reach.specs.declared.Chord.{Chord}
-use Rattle.ask.specs.declared.Ruling.{Ruling}
-use Rattle.ask.specs.declared.Finding.{Finding}
-use Rattle.ask.specs.declared.Finding.TheVariants.{Clear, Blocked}
+use Rattle.ask.specs.Ask.{Ruling}
+use Rattle.ask.specs.Ask.{Finding}
+use Rattle.ask.specs.Ask.{Clear, Blocked}
 use Rattle.ask.specs.Ask.{is_corner, refusal_of, begun, Outcome, ended, blocked_early, ruled_by, ruling_of, asked_chord}
 use Rattle.tool.specs.Tool.{sections_in, is_tool, widest_of, lowest_of}
 use Rattle.chords.proofs.Ruling.{chord_demand, chord_told}

@@ -15,9 +15,9 @@ use Rattle.query.specs.declared.Patch.{Patch}
 use Rattle.query.specs.Looked.{within, looked_in}
 use Rattle.query.specs.Patch.{patch_of}
 use Rattle.query.proofs.Patches.{patch_inside}
-use Rattle.ask.specs.declared.Ruling.{Ruling}
-use Rattle.ask.specs.declared.Finding.{Finding}
-use Rattle.ask.specs.declared.Finding.TheVariants.{Clear, Blocked}
+use Rattle.ask.specs.Ask.{Ruling}
+use Rattle.ask.specs.Ask.{Finding}
+use Rattle.ask.specs.Ask.{Clear, Blocked}
 use Rattle.ask.specs.Ask.{refusal_of, begun, Outcome, ended, refused_chord, blocked_early, ruled_by, ruling_of, asked_chord}
 use Rattle.ask.specs.Demand.{LookedAll}
 use Rattle.ask.proofs.Demands.{good_is_accepted, counted}

@@ -11,7 +11,7 @@ use Rattle.grid.specs.Index.{Index}
 use Rattle.query.specs.Patch.{patch_of}
 use Rattle.reach.specs.declared.Chord.{Chord}
 use Rattle.bull_gap.specs.Blocks.{bull_blocks}
-use Rattle.ask.specs.declared.Ruling.{Ruling}
+use Rattle.ask.specs.Ask.{Ruling}
 use Rattle.ask.specs.Ask.{is_corner, Outcome, asked_chord}
 use Rattle.tool.specs.Tool.{sections_in, is_tool, widest_of, lowest_of, passes_all}
 use Rattle.chords.specs.Demand.{ChordPromise}

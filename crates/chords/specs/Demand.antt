@@ -5,8 +5,8 @@ use Rattle.walk.specs.Walk.{up_to}
 use Rattle.grid.specs.Index.{Index, BuiltFrom}
 use Rattle.query.specs.declared.Patch.{Patch}
 use Rattle.query.specs.Looked.{looked_in}
-use Rattle.ask.specs.declared.Ruling.{Ruling}
-use Rattle.ask.specs.declared.Finding.TheVariants.{Clear, Blocked}
+use Rattle.ask.specs.Ask.{Ruling}
+use Rattle.ask.specs.Ask.{Clear, Blocked}
 use Rattle.ask.specs.Demand.{GoodAccepted, LookedAll}
 
 -- A verdict a of a walk over the list `is`, which ends at its first blocker: where it is clear, the walked part is the

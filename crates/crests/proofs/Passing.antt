@@ -14,9 +14,8 @@ use Rattle.plane.specs.declared.Best.{Best}
 use Rattle.capsule.specs.declared.Capsule.{Capsule}
 use Rattle.walk.specs.Walk.{Walk, over, cell, row, block, fold, next_stamp, ready_marks}
 use Rattle.walk.specs.Inside.{seen, look, Below, Room, Walkable}
-use Rattle.walk.proofs.Rings.{Kept, kept_same, kept_trans, fold_append, unmarked_length}
+use Rattle.walk.proofs.Rings.{Kept, cell_keeps, kept_same, kept_trans, fold_append, unmarked_length}
 use Rattle.walk.proofs.Marks.{ready_length}
-use Rattle.ask.proofs.Answers.{cell_keeps}
 use Rattle.height.specs.Sweep.{disk_step}
 use Rattle.crests.specs.Inside.{CapsAll, NoneAbove, Fair, Goes, Passed}
 use Rattle.crests.proofs.Settling.{fold_fair, fold_low}

@@ -1,5 +1,6 @@
 -- Looking at a triangle a second time changes nothing, so a walk's best is that of its list taken one after the other, marks or not; and triangles whose tops
 -- are not above the best change nothing.
+use Rattle.std.specs.Prelude.{None, Option, Some}
 use mathlib.Core.Bool.{true, false}
 use mathlib.Core.List.{List, [], ◌∷◌}
 use mathlib.Core.Logic.{◌⊎◌, inl, inr, ⊎_elim}
@@ -18,8 +19,7 @@ use Rattle.order.proofs.Extremes.{lt_le}
 use Rattle.plane.specs.declared.Touch.{Touch}
 use Rattle.plane.specs.declared.Best.{Best}
 use Rattle.plane.specs.declared.Contact.{Contact}
-use Rattle.plane.specs.declared.Contact.TheVariants.{Nothing, Height}
-use Rattle.plane.specs.Contacts.{exceeds_of, raised_to, raised_by}
+use Rattle.plane.specs.Contacts.{exceeds_of, raised_to, raised_by, at_height}
 use Rattle.plane.proofs.Higher.{same_waits, still_waits}
 use Rattle.capsule.specs.declared.Capsule.{Capsule}
 use Rattle.walk.specs.Walk.{Walk, fold}
@@ -58,10 +58,10 @@ module _ (mesh boxes : List Float) (q : Capsule) where
   step_takes b i e = rw e
 
   -- a contact taken twice
-  raised_again : (k : Contact) (i : ℕ) (b : Best) → raised_by k i (raised_by k i b) ≡ raised_by k i b
+  raised_again : (k : Option Contact) (i : ℕ) (b : Best) → raised_by k i (raised_by k i b) ≡ raised_by k i b
   unfolding raised_by raised_to
-  raised_again Nothing i b = refl
-  raised_again (Height z t) i b = by_test (exceeds_of z b.height) (λ e. rw (e, same_waits z)) (λ e. rw (e, e))
+  raised_again None i b = refl
+  raised_again (Some m) i b = by_test (exceeds_of m.height b.height) (λ e. rw (e, same_waits m.height)) (λ e. rw (e, e))
 
   step_again : (b : Best) (i : ℕ) → step (step b i) i ≡ step b i
   step_again b i =
@@ -75,10 +75,10 @@ module _ (mesh boxes : List Float) (q : Capsule) where
       ap (λ (v : Best). step v i) s ∙ (d ∙ sym s))
 
   -- ---- a best that is left by one triangle is left by it after another
-  raised_rises : (k : Contact) (i : ℕ) (b : Best) → (raised_by k i b ≡ b) ⊎ (exceeds_of (raised_by k i b).height b.height ≡ true)
+  raised_rises : (k : Option Contact) (i : ℕ) (b : Best) → (raised_by k i b ≡ b) ⊎ (exceeds_of (raised_by k i b).height b.height ≡ true)
   unfolding raised_by raised_to
-  raised_rises Nothing i b = inl refl
-  raised_rises (Height z t) i b = by_test (exceeds_of z b.height) (λ e. inr (rw e e)) (λ e. inl (rw e))
+  raised_rises None i b = inl refl
+  raised_rises (Some m) i b = by_test (exceeds_of m.height b.height) (λ e. inr (rw e e)) (λ e. inl (rw e))
 
   step_rises : (b : Best) (i : ℕ) → (step b i ≡ b) ⊎ (exceeds_of (step b i).height b.height ≡ true)
   step_rises b i =
@@ -86,7 +86,7 @@ module _ (mesh boxes : List Float) (q : Capsule) where
       (λ e. inl (step_low b i e))
       (λ e. rw (step_takes b i e) (raised_rises (height_of mesh q i) i b))
 
-  left_waits : (z : Float) (t : Touch) (j : ℕ) (b : Best) → raised_by (Height z t) j b ≡ b → exceeds_of z b.height ≡ false
+  left_waits : (z : Float) (t : Touch) (j : ℕ) (b : Best) → raised_by (at_height z t) j b ≡ b → exceeds_of z b.height ≡ false
   unfolding raised_by raised_to
   left_waits z t j b p =
       by_test (exceeds_of z b.height)
@@ -95,11 +95,11 @@ module _ (mesh boxes : List Float) (q : Capsule) where
       rw h (same_waits b.height))
       (λ e. e)
 
-  raised_left_lem : (k : Contact) (j : ℕ) (b c : Best) → raised_by k j b ≡ b → exceeds_of c.height b.height ≡ true → raised_by k j c ≡ c
+  raised_left_lem : (k : Option Contact) (j : ℕ) (b c : Best) → raised_by k j b ≡ b → exceeds_of c.height b.height ≡ true → raised_by k j c ≡ c
   unfolding raised_by
-  raised_left_lem Nothing j b c p l = refl
-  raised_left_lem (Height z t) j b c p l =
-      unfold raised_to in rw (still_waits b.height z c.height (left_waits z t j b p) l)
+  raised_left_lem None j b c p l = refl
+  raised_left_lem (Some m) j b c p l =
+      unfold raised_to in rw (still_waits b.height m.height c.height (left_waits m.height m.touch j b p) l)
 
   higher_left : (j : ℕ) (b c : Best) → step b j ≡ b → exceeds_of c.height b.height ≡ true → step c j ≡ c
   higher_left j b c p l =

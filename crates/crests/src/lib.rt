@@ -16,7 +16,7 @@ ghost use Rattle.crests.specs.Inside.{place_of, Caps, CapsAll, Boxed, CapsOld, N
 
 use capsule::Capsule;
 use grid::Header;
-use height::Swept;
+use height::{Disk, Swept};
 use plane::Best;
 use query::Patch;
 use walk::Seen;
@@ -50,8 +50,8 @@ fn crest_of(boxes: &[f64], part: &[u32], crest: f64) -> f64
     ensures { Caps result crest × CapsAll boxes.now result part.now }
 {
     let mut highest = crest;
-    for j in 0..part.len() {
-        let b = grid::box_at(boxes, part[j] as usize);
+    for i in part {
+        let b = grid::box_at(boxes, *i as usize);
         highest = higher(highest, b.top);
     }
     highest
@@ -104,8 +104,8 @@ fn pass_cell(
     x: usize,
     y: usize,
     q: Capsule,
-    s: Seen,
-) -> Seen
+    s: Seen<Best>,
+) -> Seen<Best>
     requires { (length mesh.now ≡ length marks.old * 9) × (length boxes.now ≡ length marks.old * 5) × (length crests.now ≡ 8192)
         × Walkable starts.now members.now (length marks.old) columns x (x + 1) y (y + 1) × (x + 1 < 2 ^ 64) × (y + 1 < 2 ^ 64)
         × CapsAll boxes.now (num crests.now (place_of (y * columns + x))) (cell starts.now members.now (y * columns + x))
@@ -114,16 +114,24 @@ fn pass_cell(
         (cell starts.now members.now (y * columns + x)) (seen marks.new result) }
 {
     let best = s.best;
-    if is_low(crests, y * columns + x, best.height) {
+    let c = y * columns + x;
+    if is_low(crests, c, best.height) {
         return s;
     }
-    let p = Patch {
-        x0: x,
-        x1: x + 1,
-        y0: y,
-        y1: y + 1,
-    };
-    height::visit(mesh, starts, members, boxes, marks, stamp, columns, p, q, s)
+    let disk = Disk { mesh, boxes, q };
+    walk::visit(
+        &disk,
+        starts,
+        members,
+        marks,
+        stamp,
+        columns,
+        x,
+        x + 1,
+        y,
+        y + 1,
+        s,
+    )
 }
 
 // The cells of a patch walked, or passed over where they are low. No row is begun with a best above the limit.
@@ -139,9 +147,9 @@ fn pass(
     rows: usize,
     p: Patch,
     q: Capsule,
-    s: Seen,
+    s: Seen<Best>,
     limit: f64,
-) -> Seen
+) -> Seen<Best>
     requires { (length mesh.now ≡ length marks.old * 9) × (length boxes.now ≡ length marks.old * 5)
         × Walkable starts.now members.now (length marks.old) columns p.x0 p.x1 p.y0 p.y1
         × Crested starts.now members.now boxes.now columns rows crests.now × (p.x1 ≤ columns) × (p.y1 ≤ rows)

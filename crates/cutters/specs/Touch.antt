@@ -1,24 +1,18 @@
 -- Document 01, rows `bull_contact` and `section_contact`: what the contacts of round cutters share. A round cutter that stands over a triangle rests on a
 -- vertex, on an edge or on the facet; each is a candidate, none or a height with its touch, and the candidates are taken in this order.
-use Rattle.std.specs.Prelude.{cond, Float}
+use Rattle.std.specs.Prelude.{cond, Float, None, Option, Some}
 use Rattle.std.specs.Float.Ieee.{lt, le, neg}
 use Rattle.numbers.specs.Reals.{◌⊕◌, ◌⊖◌, ◌⊗◌, ◌⊘◌, f0, f1, f2, f4, tiny, minus_slack, max_of, min_of, abs_of}
 use Rattle.roots.specs.Root.{root_of}
 use Rattle.roots.specs.Hypot.{hypot_of}
 use Rattle.plane.specs.declared.Triangle.{Triangle}
 use Rattle.plane.specs.declared.Contact.{Contact}
-use Rattle.plane.specs.declared.Contact.TheVariants.{Nothing, Height}
-use Rattle.plane.specs.declared.Spot.{Spot}
-use Rattle.plane.specs.declared.Spot.TheVariants.{Nowhere, At}
 use Rattle.plane.specs.declared.Weights.{Weights}
-use Rattle.plane.specs.Contacts.{face}
+use Rattle.plane.specs.Contacts.{face, at_height}
 use Rattle.plane.specs.Distance.{bary_of, at_least}
 use Rattle.cutters.specs.declared.Edge.{Edge}
 use Rattle.cutters.specs.declared.Stretch.{Stretch}
-use Rattle.cutters.specs.declared.Stretch.TheVariants.{Nowhere, Between}
 use Rattle.cutters.specs.declared.Gradient.{Gradient}
-use Rattle.cutters.specs.declared.Facing.{Facing}
-use Rattle.cutters.specs.declared.Facing.TheVariants.{Upright, Leaning}
 use Rattle.cutters.specs.declared.Rest.{Rest}
 
 -- The three edges, each from one vertex to the next, with its number.
@@ -43,15 +37,19 @@ distance_at e x y t = hypot_of (along e.ax e.bx t ⊖ x) (along e.ay e.by t ⊖ 
 abbrev pub length2 : Edge → Float
 length2 e = (e.bx ⊖ e.ax) ⊗ (e.bx ⊖ e.ax) ⊕ (e.by ⊖ e.ay) ⊗ (e.by ⊖ e.ay)
 
+-- The stretch from a to b.
+abbrev pub from_to : Float → Float → Option Stretch
+from_to a b = Some (record { from = a; to = b })
+
 -- Where qa t² + qb t + qc is not above 0, between 0 and 1; root is that of the discriminant.
-unfoldable pub crossed_of : Float → Float → Float → Stretch
+unfoldable pub crossed_of : Float → Float → Float → Option Stretch
 crossed_of qa qb root =
     let t0 = max_of ((neg qb ⊖ root) ⊘ (f2 ⊗ qa)) f0 in
     let t1 = min_of ((neg qb ⊕ root) ⊘ (f2 ⊗ qa)) f1 in
-    cond (lt t1 t0) Nowhere (Between t0 t1)
+    cond (lt t1 t0) None (from_to t0 t1)
 
 -- The stretch of an edge within r of the axis (x, y): none on an edge of no length in plan, and none where the discriminant is below 0.
-unfoldable pub reached_of : Edge → Float → Float → Float → Stretch
+unfoldable pub reached_of : Edge → Float → Float → Float → Option Stretch
 reached_of e x y r =
     let ex = e.bx ⊖ e.ax in
     let ey = e.by ⊖ e.ay in
@@ -61,7 +59,7 @@ reached_of e x y r =
     let qb = f2 ⊗ (ex ⊗ wx ⊕ ey ⊗ wy) in
     let qc = wx ⊗ wx ⊕ wy ⊗ wy ⊖ r ⊗ r in
     let disc = qb ⊗ qb ⊖ f4 ⊗ qa ⊗ qc in
-    cond (le qa f0) Nowhere (cond (lt disc f0) Nowhere (crossed_of qa qb (root_of disc)))
+    cond (le qa f0) None (cond (lt disc f0) None (crossed_of qa qb (root_of disc)))
 
 -- The plane's slopes in x and y and the steepest slope, from the determinant.
 unfoldable pub gradient_of : Triangle → Float → Gradient
@@ -77,14 +75,14 @@ gradient_of t det =
     record { x = gx; y = gy; steep = hypot_of gx gy }
 
 -- Which way a triangle leans: none when the determinant's magnitude is not above 1e-300.
-unfoldable pub facing_of : Triangle → Facing
+unfoldable pub facing_of : Triangle → Option Gradient
 facing_of t =
     let bx = t.bx ⊖ t.ax in
     let by = t.by ⊖ t.ay in
     let cx = t.cx ⊖ t.ax in
     let cy = t.cy ⊖ t.ay in
     let det = bx ⊗ cy ⊖ cx ⊗ by in
-    cond (lt tiny (abs_of det)) (Leaning (gradient_of t det)) Upright
+    cond (lt tiny (abs_of det)) (Some (gradient_of t det)) None
 
 -- The place at `reach` from the axis (x, y) up the slope, where the cutter lies `drop` over its tip.
 unfoldable pub rest_of : Gradient → Float → Float → Float → Float → Rest
@@ -92,13 +90,13 @@ rest_of g x y reach drop =
     record { x = x ⊕ g.x ⊘ g.steep ⊗ reach; y = y ⊕ g.y ⊘ g.steep ⊗ reach; drop = drop }
 
 -- The tip's height where the cutter rests on the facet, at a place of the weights p: none where that place is not on the triangle, to within 1e-12.
-unfoldable pub weighed_of : Triangle → Float → Weights → Contact
+unfoldable pub weighed_of : Triangle → Float → Weights → Option Contact
 weighed_of t drop p =
-    cond (at_least p minus_slack) (Height (p.u ⊗ t.az ⊕ p.v ⊗ t.bz ⊕ p.w ⊗ t.cz ⊖ drop) face) Nothing
+    cond (at_least p minus_slack) (at_height (p.u ⊗ t.az ⊕ p.v ⊗ t.bz ⊕ p.w ⊗ t.cz ⊖ drop) face) None
 
-unfoldable pub spot_height : Triangle → Float → Spot → Contact
-spot_height t drop Nowhere = Nothing
-spot_height t drop (At p) = weighed_of t drop p
+unfoldable pub spot_height : Triangle → Float → Option Weights → Option Contact
+spot_height t drop None = None
+spot_height t drop (Some p) = weighed_of t drop p
 
-unfoldable pub facet_height : Triangle → Rest → Contact
+unfoldable pub facet_height : Triangle → Rest → Option Contact
 facet_height t p = spot_height t p.drop (bary_of t p.x p.y)

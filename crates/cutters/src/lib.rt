@@ -4,7 +4,7 @@
 ghost use Rattle.std.specs.Prelude.{◌≡◌};
 ghost use Rattle.cutters.specs.Touch.{edge_ab, edge_bc, edge_ca, crossed_of, reached_of, gradient_of, facing_of, rest_of, weighed_of, spot_height, facet_height};
 
-use plane::{Contact, Spot, Touch, Triangle, Weights};
+use plane::{Contact, Touch, Triangle, Weights};
 
 // An edge from a to b, and which of the three it is; the numbers of the plan stand side by side, as a search reads them.
 #[derive(Clone, Copy)]
@@ -18,11 +18,11 @@ pub struct Edge {
     pub which: u32,
 }
 
-// A stretch of an edge: none, or from one place to another, each between 0 and 1.
+// A stretch of an edge from one place to another, each between 0 and 1.
 #[derive(Clone, Copy)]
-pub enum Stretch {
-    Nowhere,
-    Between(f64, f64),
+pub struct Stretch {
+    pub from: f64,
+    pub to: f64,
 }
 
 // A plane's slopes in x and y, and its steepest slope.
@@ -31,13 +31,6 @@ pub struct Gradient {
     pub x: f64,
     pub y: f64,
     pub steep: f64,
-}
-
-// Which way a triangle leans: none where it stands upright.
-#[derive(Clone, Copy)]
-pub enum Facing {
-    Upright,
-    Leaning(Gradient),
 }
 
 // A place in plan where a cutter rests, and the cutter's height there over its tip.
@@ -94,7 +87,8 @@ pub fn edge_ca(t: Triangle) -> Edge
 }
 
 // The stretch of an edge within r of the axis (x, y).
-pub fn reached(e: Edge, x: f64, y: f64, r: f64) -> Stretch
+#[tactic(auto, unfolding(crate::specs::Touch::reached_of))]
+pub fn reached(e: Edge, x: f64, y: f64, r: f64) -> Option<Stretch>
     ensures { result ≡ reached_of e x y r }
 {
     let ex = e.bx - e.ax;
@@ -105,30 +99,32 @@ pub fn reached(e: Edge, x: f64, y: f64, r: f64) -> Stretch
     let qb = 2.0 * (ex * wx + ey * wy);
     let qc = wx * wx + wy * wy - r * r;
     if qa <= 0.0 {
-        return Stretch::Nowhere;
+        return None;
     }
     let disc = qb * qb - 4.0 * qa * qc;
     if disc < 0.0 {
-        return Stretch::Nowhere;
+        return None;
     }
     crossed(qa, qb, roots::root(disc))
 }
 
 // The stretch between 0 and 1 of the roots of a quadratic, whose discriminant has the root given.
-fn crossed(qa: f64, qb: f64, root: f64) -> Stretch
+#[tactic(auto, unfolding(crate::specs::Touch::crossed_of))]
+fn crossed(qa: f64, qb: f64, root: f64) -> Option<Stretch>
     ensures { result ≡ crossed_of qa qb root }
 {
     let t0 = numbers::max((-qb - root) / (2.0 * qa), 0.0);
     let t1 = numbers::min((-qb + root) / (2.0 * qa), 1.0);
     if t0 > t1 {
-        Stretch::Nowhere
+        None
     } else {
-        Stretch::Between(t0, t1)
+        Some(Stretch { from: t0, to: t1 })
     }
 }
 
-// Which way a triangle leans.
-pub fn facing_of(t: Triangle) -> Facing
+// Which way a triangle leans: none where it stands upright.
+#[tactic(auto, unfolding(crate::specs::Touch::facing_of))]
+pub fn facing_of(t: Triangle) -> Option<Gradient>
     ensures { result ≡ facing_of t }
 {
     let bx = t.bx - t.ax;
@@ -137,13 +133,14 @@ pub fn facing_of(t: Triangle) -> Facing
     let cy = t.cy - t.ay;
     let det = bx * cy - cx * by;
     if numbers::abs(det) > 1e-300 {
-        Facing::Leaning(gradient_of(t, det))
+        Some(gradient_of(t, det))
     } else {
-        Facing::Upright
+        None
     }
 }
 
 // A triangle's slopes, from its determinant.
+#[tactic(auto, unfolding(crate::specs::Touch::gradient_of))]
 fn gradient_of(t: Triangle, det: f64) -> Gradient
     ensures { result ≡ gradient_of t det }
 {
@@ -163,6 +160,7 @@ fn gradient_of(t: Triangle, det: f64) -> Gradient
 }
 
 // The place at `reach` from the axis (x, y) up the slope.
+#[tactic(auto, unfolding(crate::specs::Touch::rest_of))]
 pub fn rest_at(g: Gradient, x: f64, y: f64, reach: f64, drop: f64) -> Rest
     ensures { result ≡ rest_of g x y reach drop }
 {
@@ -176,7 +174,8 @@ pub fn rest_at(g: Gradient, x: f64, y: f64, reach: f64, drop: f64) -> Rest
 const LEAST: f64 = -1e-12;
 
 // The tip's height where a cutter rests on a triangle's facet.
-pub fn facet_height(t: Triangle, p: Rest) -> Contact
+#[tactic(auto, unfolding(crate::specs::Touch::facet_height))]
+pub fn facet_height(t: Triangle, p: Rest) -> Option<Contact>
     ensures { result ≡ facet_height t p }
 {
     let drop = p.drop;
@@ -184,29 +183,31 @@ pub fn facet_height(t: Triangle, p: Rest) -> Contact
 }
 
 // The same, from the place's weights: none on an upright triangle.
-fn spot_height(t: Triangle, drop: f64, s: Spot) -> Contact
+#[tactic(auto, unfolding(crate::specs::Touch::spot_height))]
+fn spot_height(t: Triangle, drop: f64, s: Option<Weights>) -> Option<Contact>
     ensures { result ≡ spot_height t drop s }
 {
     match s {
-        Spot::Nowhere => Contact::Nothing,
-        Spot::At(p) => weighed(t, drop, p),
+        None => None,
+        Some(p) => weighed(t, drop, p),
     }
 }
 
 // The tip's height at a place of the weights p.
-fn weighed(t: Triangle, drop: f64, p: Weights) -> Contact
+#[tactic(auto, unfolding(crate::specs::Touch::weighed_of))]
+fn weighed(t: Triangle, drop: f64, p: Weights) -> Option<Contact>
     ensures { result ≡ weighed_of t drop p }
 {
     let z = p.u * t.az + p.v * t.bz + p.w * t.cz - drop;
     if plane::at_least(p, LEAST) {
-        Contact::Height(
-            z,
-            Touch {
+        Some(Contact {
+            height: z,
+            touch: Touch {
                 kind: plane::FACE,
                 which: 0,
             },
-        )
+        })
     } else {
-        Contact::Nothing
+        None
     }
 }

@@ -1,7 +1,7 @@
 -- What the builder leaves, refused and accepted; and that a header in its ranges fits the arrays of C.
 use mathlib.Core.Bool.{Bool, true, ◌&&◌}
 use mathlib.Core.List.{List, [], ◌∷◌}
-use mathlib.Core.Path.{◌≡◌, refl}
+use mathlib.Core.Path.{◌≡◌, refl, sym, ap, ◌∙◌}
 use Prim.Native.Nat.{ℕ, ◌*◌, ◌^◌, ◌<◌}
 use native.Mathlib.Omega.{arith}
 use borrow.Author.Tests.{eq-eqb, ne_eqb}
@@ -13,7 +13,12 @@ use Rattle.rules.specs.Every.{is_from}
 use Rattle.plane.specs.Ranges.{is_coordinate, is_radius}
 use Rattle.grid.specs.declared.Header.{Header}
 use Rattle.grid.specs.Header.{in_ranges}
-use Rattle.grid.specs.Build.{Outcome}
+use Rattle.std.specs.Prelude.{Result, Ok, Err, ◌/◌, ◌%◌}
+use Rattle.refusals.specs.declared.Refusal.{Refusal}
+use Rattle.refusals.specs.Numbers.{number_of, told_of}
+use Rattle.refusals.proofs.Named.{not_zero}
+use Rattle.grid.specs.Index.{Index, index_of, BuildPromise}
+use Rattle.grid.specs.Build.{Outcome, outcome, told, refused_by, accepted_with}
 use Rattle.header.proofs.Ands.{from_is}
 use Rattle.handed.specs.Handed.{measures_of, sizes_of}
 use Rattle.desk.specs.Doors.{BuiltLeft, built_left, built_left_by}
@@ -57,3 +62,23 @@ refused_left o some = left (eqb o.built.refusal 0) (zeros o) (header o) (zeros o
 pub accepted_left : (o : Outcome) → o.built.refusal ≡ 0 → header o ≡ built_left_by o
 unfolding built_left_by
 accepted_left o none = taken (eqb o.built.refusal 0) (header o) (header o) (zeros o) (eq-eqb _ 0 none) refl
+
+-- the same, by the library's answer
+module _ (s m : List ℕ) (x : List Float) (o : Outcome) where
+  pub err_left : (e : Refusal) → outcome (told (Err e)) s m x ≡ o → (k t : ℕ) → k ≡ number_of e → t ≡ told_of e
+      → built_left k s m x (f0 ∷ f0 ∷ f0 ∷ f0 ∷ f0 ∷ f0 ∷ []) (0 ∷ 0 ∷ 0 ∷ []) (t / 9 ∷ t % 9 ∷ []) ≡ built_left_by o
+  unfolding told refused_by
+  err_left e l k t u v = rw (u, v) (refused_left (outcome (told (Err e)) s m x) (not_zero e) ∙ ap built_left_by l)
+
+  pub ok_left : (h : Header) → outcome (told (Ok h)) s m x ≡ o → built_left 0 s m x (measures_of h) (sizes_of h) (0 ∷ 0 ∷ []) ≡ built_left_by o
+  unfolding told accepted_with
+  ok_left h l = accepted_left (outcome (told (Ok h)) s m x) refl ∙ ap built_left_by l
+
+pub err_promise : (ix : Index) (e : Refusal) (k : ℕ) → k ≡ number_of e → BuildPromise ix k
+err_promise ix e k u = record { sound = λ z. absurd (not_zero e (sym u ∙ z)); built = λ z. absurd (not_zero e (sym u ∙ z)) }
+
+-- a header without a refusal fits the arrays of C
+pub fitting : (mesh : List Float) (h : Header) (s m : List ℕ) (x : List Float)
+    → BuildPromise (index_of mesh (told (Ok h)).header s m x) (told (Ok h)).refusal → Narrow h
+unfolding told accepted_with
+fitting mesh h s m x p = narrow h (p.sound refl).ranges

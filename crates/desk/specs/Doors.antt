@@ -1,9 +1,9 @@
 -- What a C function leaves behind: its answer, the lent tables, and the fixed arrays with the rest of the library's answer.
-use Rattle.std.specs.Prelude.{cond, List, [], ◌∷◌, ℕ, eqb, Float, get_or}
+use Rattle.std.specs.Prelude.{cond, List, [], ◌∷◌, ◌≡◌, ℕ, eqb, Float, get_or}
 use Rattle.numbers.specs.Reals.{f0, num}
 use Rattle.grid.specs.Build.{Outcome}
 use Rattle.handed.specs.Handed.{measures_of, sizes_of}
-use Rattle.ask.specs.declared.Answer.{Answer}
+use Rattle.ask.specs.Ask.{Answer}
 use Rattle.ask.specs.Ask as asked
 
 -- An index built: the refusal, the three tables, measures and sizes, and which number was bad; a refusal leaves zeros in measures and sizes, and any outcome
@@ -57,3 +57,8 @@ answer_from k fs ns ts =
       kind = get_or ts 1 0;
       which = get_or ts 2 0;
     }
+
+-- What C's arrays hold where the answer a was laid into them, and the refusal beside them.
+abbrev pub Laid : ℕ → List Float → List ℕ → List ℕ → Answer → Type 0
+Laid k fs ns ts a =
+    (k ≡ a.refusal) × (fs ≡ (a.height ∷ [])) × (ns ≡ (a.count ∷ a.stamp ∷ [])) × (ts ≡ (a.triangle ∷ a.kind ∷ a.which ∷ []))

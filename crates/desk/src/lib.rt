@@ -4,13 +4,17 @@
 
 ghost use Rattle.std.specs.Prelude.{◌≡◌};
 ghost use Rattle.handed.specs.Handed.{index_from};
-ghost use Rattle.desk.specs.Doors.{built_left, built_left_by, height_left, height_left_by, answer_from};
+ghost use Rattle.desk.specs.Doors.{built_left, built_left_by, height_left, height_left_by, answer_from, Laid};
+ghost use Rattle.ask.specs.Ask.{answer_told};
 ghost use Rattle.grid.specs.Build.{build_of};
 ghost use Rattle.grid.specs.Index.{BuildPromise};
 ghost use Rattle.height.specs.Height.{max_height_of};
 ghost use Rattle.height.specs.Sweep.{sweep};
 ghost use Rattle.height.specs.Demand.{DiskPromise};
 ghost use Rattle.tips.specs.Contact.{max_bull_of, BullPromise, max_sections_of, SectionsPromise};
+
+use ask::Answer;
+use refusals::Refusal;
 
 // The index of a mesh: starts, members and boxes get its tables, measures and sizes its header; after 4 bad holds the triangle and which of its nine numbers
 // came first, else 0 and 0.
@@ -31,20 +35,21 @@ pub extern "C" fn mandrikelo_build(
     ensures build_promise { BuildPromise
         (index_from mesh.now measures.new sizes.new starts.new members.new boxes.new) result }
 {
-    let b = grid::build(mesh, floor, r, starts, members, boxes);
-    let k = b.refusal;
-    let triangle = b.triangle;
-    let number = b.number;
-    *bad = [triangle, number];
-    if k != 0 {
-        *measures = [0.0, 0.0, 0.0, 0.0, 0.0, 0.0];
-        *sizes = [0, 0, 0];
-        return k;
+    match grid::build(mesh, floor, r, starts, members, boxes) {
+        Ok(h) => {
+            *measures = [h.origin_x, h.origin_y, h.cell, h.floor, h.eps, h.r];
+            *sizes = [h.n as u32, h.columns as u32, h.rows as u32];
+            *bad = [0, 0];
+            0
+        }
+        Err(refusal) => {
+            let place = refusal.told();
+            *measures = [0.0, 0.0, 0.0, 0.0, 0.0, 0.0];
+            *sizes = [0, 0, 0];
+            *bad = [place / 9, place % 9];
+            refusal.number()
+        }
     }
-    let h = b.header;
-    *measures = [h.origin_x, h.origin_y, h.cell, h.floor, h.eps, h.r];
-    *sizes = [h.n as u32, h.columns as u32, h.rows as u32];
-    k
 }
 
 // The highest part point under the disk of radius r swept from (px, py) to (qx, qy).
@@ -92,17 +97,7 @@ pub extern "C" fn mandrikelo_max_height(
         qy,
         r,
     );
-    let k = a.refusal;
-    let z = a.height;
-    let count = a.count;
-    let next = a.stamp;
-    let triangle = a.triangle;
-    let kind = a.kind;
-    let which = a.which;
-    *found = [z];
-    *counts = [count, next];
-    *touched = [triangle, kind, which];
-    k
+    lay(a, stamp, found, counts, touched)
 }
 
 // The highest tip of a bull-nose cutter over (px, py).
@@ -148,17 +143,7 @@ pub extern "C" fn mandrikelo_max_bull(
         r,
         rc,
     );
-    let k = a.refusal;
-    let z = a.height;
-    let count = a.count;
-    let next = a.stamp;
-    let triangle = a.triangle;
-    let kind = a.kind;
-    let which = a.which;
-    *found = [z];
-    *counts = [count, next];
-    *touched = [triangle, kind, which];
-    k
+    lay(a, stamp, found, counts, touched)
 }
 
 // The highest tip of a tool over (px, py), its sections four numbers each.
@@ -202,15 +187,31 @@ pub extern "C" fn mandrikelo_max_sections(
         py,
         sections,
     );
-    let k = a.refusal;
-    let z = a.height;
-    let count = a.count;
-    let next = a.stamp;
-    let triangle = a.triangle;
-    let kind = a.kind;
-    let which = a.which;
-    *found = [z];
-    *counts = [count, next];
-    *touched = [triangle, kind, which];
-    k
+    lay(a, stamp, found, counts, touched)
+}
+
+// Lays an answer into C's arrays: a refusal leaves zeros and the stamp as handed.
+fn lay(
+    a: Result<Answer, Refusal>,
+    stamp: u32,
+    found: &mut [f64; 1],
+    counts: &mut [u32; 2],
+    touched: &mut [u32; 3],
+) -> u32
+    ensures { Laid result found.new counts.new touched.new (answer_told a stamp) }
+{
+    match a {
+        Ok(a) => {
+            *found = [a.height];
+            *counts = [a.count, a.stamp];
+            *touched = [a.triangle, a.kind, a.which];
+            0
+        }
+        Err(refusal) => {
+            *found = [0.0];
+            *counts = [0, stamp];
+            *touched = [0, 0, 0];
+            refusal.number()
+        }
+    }
 }

@@ -5,9 +5,12 @@
 ghost use Rattle.std.specs.Prelude.{◌≡◌};
 ghost use Rattle.handed.specs.Handed.{index_from};
 ghost use Rattle.chords.specs.Chords.{bull_chord_of, BullChordPromise, sections_chord_of, SectionsChordPromise};
-ghost use Rattle.desk_chords.specs.Verdicts.{verdict_left, verdict_left_by, ruling_from};
+ghost use Rattle.desk_chords.specs.Verdicts.{verdict_left, verdict_left_by, ruling_from, Laid};
+ghost use Rattle.ask.specs.Ask.{ruling_told};
 
+use ask::Ruling;
 use reach::Chord;
+use refusals::Refusal;
 
 // Whether a bull-nose cutter, lifted, stays clear of the part from tip a to tip b.
 #[unsafe(no_mangle)]
@@ -63,13 +66,7 @@ pub extern "C" fn mandrikelo_bull_chord_clear(
         r,
         rc,
     );
-    let k = a.refusal;
-    let finding = a.finding;
-    let count = a.count;
-    let next = a.stamp;
-    let verdict = ask::finding_number(finding);
-    *counts = [verdict, count, next];
-    k
+    lay(a, stamp, counts)
 }
 
 // Whether a tool of sections, lifted, stays clear of the part from tip a to tip b.
@@ -124,11 +121,23 @@ pub extern "C" fn mandrikelo_sections_chord_clear(
         m,
         sections,
     );
-    let k = a.refusal;
-    let finding = a.finding;
-    let count = a.count;
-    let next = a.stamp;
-    let verdict = ask::finding_number(finding);
-    *counts = [verdict, count, next];
-    k
+    lay(a, stamp, counts)
+}
+
+// Lays a verdict into C's array: a refusal leaves none, no count, and the stamp as handed.
+#[tactic(auto, unfolding(ask::specs::Ask::finding_number))]
+fn lay(a: Result<Ruling, Refusal>, stamp: u32, counts: &mut [u32; 3]) -> u32
+    ensures { Laid result counts.new (ruling_told a stamp) }
+{
+    let finding = ask::finding_number(&a);
+    match a {
+        Ok(a) => {
+            *counts = [finding, a.count, a.stamp];
+            0
+        }
+        Err(refusal) => {
+            *counts = [finding, 0, stamp];
+            refusal.number()
+        }
+    }
 }

@@ -11,6 +11,7 @@ mod write;
 
 // Reads a job into the lent tables; measures get the floor and the radius, sizes the numbers of triangles and questions. After 19 the first of sizes
 // holds how many triangles stand whole before the cut.
+#[tactic(auto, unfolding(crate::specs::Jobs::job_left_by))]
 #[unsafe(no_mangle)]
 pub extern "C" fn mandrikelo_read_job(
     bytes: &[u8],
@@ -24,13 +25,16 @@ pub extern "C" fn mandrikelo_read_job(
     ensures sound_exactly { SoundExactly bytes.now (length mesh.old / 9) (length questions.old / 5) result }
     ensures never_taken_for_apart { result ≡ 0 → NeverTakenForAPart bytes.now mesh.old questions.old }
 {
-    let a = job::read_job(bytes, mesh, questions);
-    let refusal = a.refusal;
-    let n = a.n;
-    let m = a.m;
-    let floor = a.floor;
-    let radius = a.radius;
-    *measures = [floor, radius];
-    *sizes = [n, m];
-    refusal
+    match job::read_job(bytes, mesh, questions) {
+        Ok(read) => {
+            *measures = [read.floor, read.radius];
+            *sizes = [read.n, read.m];
+            0
+        }
+        Err(refusal) => {
+            *measures = [0.0, 0.0];
+            *sizes = [refusal.told(), 0];
+            refusal.number()
+        }
+    }
 }

@@ -5,6 +5,7 @@ ghost use Rattle.writer.specs.Back.{ReadsBack, WritesAgain};
 ghost use Rattle.desk_files.specs.Writes.{written_left, written_left_by, written_from};
 
 // Writes a job into the lent bytes; size gets the number of its bytes.
+#[tactic(auto, unfolding(crate::specs::Writes::written_left_by))]
 #[unsafe(no_mangle)]
 pub extern "C" fn mandrikelo_write_job(
     mesh: &[f64],
@@ -20,9 +21,14 @@ pub extern "C" fn mandrikelo_write_job(
     ensures writes_again { WritesAgain mesh.now floor radius questions.now (length bytes.old)
         (written_from result bytes.new size.new) }
 {
-    let a = writer::write_job(mesh, floor, radius, questions, bytes);
-    let refusal = a.refusal;
-    let length = a.length;
-    *size = [length];
-    refusal
+    match writer::write_job(mesh, floor, radius, questions, bytes) {
+        Ok(length) => {
+            *size = [length];
+            0
+        }
+        Err(refusal) => {
+            *size = [0];
+            refusal.number()
+        }
+    }
 }

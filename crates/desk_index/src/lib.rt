@@ -14,9 +14,16 @@ pub extern "C" fn mandrikelo_rooms(mesh: &[f64], floor: f64, r: f64, rooms: &mut
     ensures rooms_after { rooms_from result rooms.new ≡ rooms_of mesh.now floor r }
     ensures rooms_promise { RoomsPromise mesh.now floor r (rooms_from result rooms.new) }
 {
-    let q = rooms::needed(mesh, floor, r);
-    *rooms = [q.starts, q.members];
-    q.refusal
+    match rooms::needed(mesh, floor, r) {
+        Ok(q) => {
+            *rooms = [q.starts, q.members];
+            0
+        }
+        Err(refusal) => {
+            *rooms = [0, 0];
+            refusal.number()
+        }
+    }
 }
 
 // Whether header and tables are the index of this mesh.
@@ -32,11 +39,11 @@ pub extern "C" fn mandrikelo_check_index(
     ensures { CheckPromise (index_from mesh.now measures.now sizes.now
         starts.now members.now boxes.now) result }
 {
-    checked::check_index(
+    refusals::code_of(&checked::check_index(
         mesh,
         handed::header_from(measures, sizes),
         starts,
         members,
         boxes,
-    )
+    ))
 }

@@ -1,7 +1,7 @@
 -- What the C function that joins runs leaves behind: its refusal, the lent table, and the number of runs.
 use Rattle.std.specs.Prelude.{List, [], ◌∷◌, ℕ, Float, get_or}
 use Rattle.join.specs.Join as join
-use Rattle.join.specs.declared.Joined.{Joined}
+use Rattle.join.specs.Join.{Joined}
 
 -- Runs joined.
 pub record JoinLeft : Type 0 where

@@ -14,9 +14,9 @@ pub extern "C" fn mandrikelo_join(runs: &mut [f64], count: &mut [usize; 1]) -> u
     ensures handed_on { HandedOn runs.old (outcome (joined_from result count.new) runs.new) }
     ensures whenever_joined { WheneverJoined }
 {
-    let a = join::join(runs);
-    let refusal = a.refusal;
-    let n = a.count;
+    let joined = join::join(runs);
+    let n = joined.unwrap_or(0);
+    let refusal = refusals::code_of(&joined);
     *count = [n];
     refusal
 }

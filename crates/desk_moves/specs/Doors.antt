@@ -1,18 +1,16 @@
 -- The moves as C asks for them: heights, points and the state come as arrays of numbers, and the answers go back into arrays.
-use Rattle.std.specs.Prelude.{cond, List, [], ◌∷◌, ℕ, ◌%◌, eqb, ltb, Float, length, get_or}
+use Rattle.std.specs.Prelude.{cond, List, [], ◌∷◌, ℕ, ◌%◌, eqb, ltb, Float, length, get_or, Option, None, Some}
 use Rattle.numbers.specs.Reals.{f0, num}
 use Rattle.rules.specs.Ladder.{demand}
 use Rattle.moves.specs.declared.Point.{Point}
 use Rattle.moves.specs.declared.Heights.{Heights}
 use Rattle.moves.specs.declared.State.{State}
-use Rattle.moves.specs.declared.Begun.{Begun}
-use Rattle.moves.specs.declared.Step.{Step}
-use Rattle.moves.specs.declared.Step.TheVariants.{Nothing, Go}
-use Rattle.moves.specs.declared.Stepped.{Stepped}
+use Rattle.moves.specs.declared.Move.{Move}
 use Rattle.moves.specs.declared.Phase.{Phase}
 use Rattle.moves.specs.declared.Phase.TheVariants.{Lift, Approach, Descend, Plunge, Cut, Retract, Rise, Ended}
 use Rattle.moves.specs.Phases.{point, phase_number, kind_number}
-use Rattle.moves.specs.Next.{stepped, next_of}
+use Rattle.moves.specs.Begin.{Begun}
+use Rattle.moves.specs.Next.{Stepped, stepped, next_of}
 
 -- A point from its three numbers; the heights (clearance, retract, feed).
 abbrev pub point_from : List Float → Point
@@ -57,21 +55,21 @@ begun_left_by ps ns a = cond (eqb a.refusal 0) (begun_left 0 (point_left a.state
 -- One step from C's arrays: a phase number above 7 is 29, after 1.
 unfoldable pub next_from : List Float → List Float → List Float → List ℕ → Stepped
 next_from t hs ps ns =
-    cond (ltb 7 (get_or ns 0 0)) (stepped (demand (eqb (length t % 5) 0) 1 29) Nothing (state_from ps ns))
+    cond (ltb 7 (get_or ns 0 0)) (stepped (demand (eqb (length t % 5) 0) 1 29) None (state_from ps ns))
     (next_of t (heights_from hs) (state_from ps ns))
 
 -- A move's end, and its kind's number and id; zeros where there is none.
-unfoldable pub end_left : Step → Point
-end_left Nothing = point f0 f0 f0
-end_left (Go m) = m.end
+unfoldable pub end_left : Option Move → Point
+end_left None = point f0 f0 f0
+end_left (Some m) = m.end
 
-unfoldable pub kind_left : Step → ℕ
-kind_left Nothing = 0
-kind_left (Go m) = kind_number m.kind
+unfoldable pub kind_left : Option Move → ℕ
+kind_left None = 0
+kind_left (Some m) = kind_number m.kind
 
-unfoldable pub id_left : Step → ℕ
-id_left Nothing = 0
-id_left (Go m) = m.id
+unfoldable pub id_left : Option Move → ℕ
+id_left None = 0
+id_left (Some m) = m.id
 
 -- A step: the refusal, position and state, and the move; a refusal leaves position and state as they were.
 pub record NextLeft : Type 0 where

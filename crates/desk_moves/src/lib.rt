@@ -4,12 +4,15 @@
 
 ghost use Rattle.std.specs.Prelude.{◌≡◌, ◌%◌, eqb, length};
 ghost use Rattle.rules.specs.Ladder.{demand};
+ghost use Rattle.refusals.specs.Numbers.{number_of};
 ghost use Rattle.moves.specs.Begin.{begin_of};
+ghost use Rattle.moves.specs.Next.{told};
 ghost use Rattle.moves.specs.Laws.{Followed};
 ghost use Rattle.desk_moves.specs.Doors.{point_from, heights_from, early_phase, late_phase, phase_from, state_from, begun_left};
 ghost use Rattle.desk_moves.specs.Doors.{begun_left_by, next_from, end_left, kind_left, id_left, next_left, next_left_by};
 
-use moves::{Heights, Phase, Point, State, Step, Stepped};
+use moves::{Heights, Move, Phase, Point, State, Stepped};
+use refusals::Refusal;
 
 // The state before the first move.
 #[unsafe(no_mangle)]
@@ -27,17 +30,16 @@ pub extern "C" fn mandrikelo_moves_begin(
     ensures followed { Followed runs.now (heights_from heights.now) result (state_from position.new state.new) }
 {
     let a = moves::begin(runs, heights_from(heights), point_from(start), first_id);
-    let k = a.refusal;
-    if k != 0 {
-        return k;
+    match a {
+        Ok(s) => {
+            let p = s.position;
+            let number = moves::phase_number(s.phase);
+            *position = [p.x, p.y, p.z];
+            *state = [number, s.run as u64, s.next_id];
+            0
+        }
+        Err(refusal) => refusal.number(),
     }
-    let s = a.state;
-    let p = s.position;
-    let phase = s.phase;
-    let number = moves::phase_number(phase);
-    *position = [p.x, p.y, p.z];
-    *state = [number, s.run as u64, s.next_id];
-    k
 }
 
 // The next move, or the end.
@@ -55,23 +57,26 @@ pub extern "C" fn mandrikelo_moves_next(
         (next_from runs.now heights.now position.old state.old) }
 {
     let a = next_from(runs, heights, position, state);
-    let step = a.step;
-    let e = end_of(step);
-    let kind = kind_of(step);
-    let id = id_of(step);
-    *end = [e.x, e.y, e.z];
-    *go = [kind, id];
-    let k = a.refusal;
-    if k != 0 {
-        return k;
+    match a {
+        Ok(stepped) => {
+            let e = end_of(stepped.step);
+            let kind = kind_of(stepped.step);
+            let id = id_of(stepped.step);
+            let after = stepped.state;
+            let q = after.position;
+            let number = moves::phase_number(after.phase);
+            *end = [e.x, e.y, e.z];
+            *go = [kind, id];
+            *position = [q.x, q.y, q.z];
+            *state = [number, after.run as u64, after.next_id];
+            0
+        }
+        Err(refusal) => {
+            *end = [0.0, 0.0, 0.0];
+            *go = [0, 0];
+            refusal.number()
+        }
     }
-    let after = a.state;
-    let q = after.position;
-    let phase = after.phase;
-    let number = moves::phase_number(phase);
-    *position = [q.x, q.y, q.z];
-    *state = [number, after.run as u64, after.next_id];
-    k
 }
 
 // ---- from C's arrays
@@ -96,6 +101,7 @@ fn heights_from(xs: &[f64; 3]) -> Heights
     }
 }
 
+#[tactic(auto, unfolding(crate::specs::Doors::state_from))]
 fn state_from(position: &[f64; 3], state: &[u64; 3]) -> State
     ensures { result ≡ state_from position.now state.now }
 {
@@ -110,6 +116,7 @@ fn state_from(position: &[f64; 3], state: &[u64; 3]) -> State
 }
 
 // The phase of a number, 0 to 7.
+#[tactic(auto, unfolding(crate::specs::Doors::phase_from))]
 fn phase_from(n: u64) -> Phase
     ensures { result ≡ phase_from n }
 {
@@ -120,6 +127,7 @@ fn phase_from(n: u64) -> Phase
 }
 
 // The phases 0 to 3.
+#[tactic(auto, unfolding(crate::specs::Doors::early_phase))]
 fn early_phase(n: u64) -> Phase
     ensures { result ≡ early_phase n }
 {
@@ -136,6 +144,7 @@ fn early_phase(n: u64) -> Phase
 }
 
 // The phases 4 to 7.
+#[tactic(auto, unfolding(crate::specs::Doors::late_phase))]
 fn late_phase(n: u64) -> Phase
     ensures { result ≡ late_phase n }
 {
@@ -152,59 +161,65 @@ fn late_phase(n: u64) -> Phase
 }
 
 // One step; a phase number above 7 is refused.
-fn next_from(runs: &[f64], heights: &[f64; 3], position: &[f64; 3], state: &[u64; 3]) -> Stepped
-    ensures { result ≡ next_from runs.now heights.now position.now state.now }
+fn next_from(
+    runs: &[f64],
+    heights: &[f64; 3],
+    position: &[f64; 3],
+    state: &[u64; 3],
+) -> Result<Stepped, Refusal>
+    ensures { told (state_from position.now state.now) result ≡ next_from runs.now heights.now position.now state.now }
 {
     let s = state_from(position, state);
     if 7 < state[0] {
-        return Stepped {
-            refusal: refusal_of_phase(runs),
-            step: Step::Nothing,
-            state: s,
-        };
+        return Err(refusal_of_phase(runs));
     }
     moves::next(runs, heights_from(heights), s)
 }
 
 // Refusal 1 of the table, or 29.
-fn refusal_of_phase(runs: &[f64]) -> u32
-    ensures { result ≡ demand (eqb (length runs.now % 5) 0) 1 29 }
+#[tactic(auto, using(rules::proofs::Ladder::ladder), unfolding(refusals::specs::Numbers::number_of))]
+fn refusal_of_phase(runs: &[f64]) -> Refusal
+    ensures { number_of result ≡ demand (eqb (length runs.now % 5) 0) 1 29 }
 {
-    if runs.len() % 5 != 0 { 1 } else { 29 }
+    if runs.len() % 5 != 0 {
+        Refusal::Length
+    } else {
+        Refusal::State
+    }
 }
 
 // ---- a step's move, zeros where there is none
 
-fn end_of(s: Step) -> Point
+#[tactic(auto, unfolding(crate::specs::Doors::end_left))]
+fn end_of(s: Option<Move>) -> Point
     ensures { result ≡ end_left s }
 {
     match s {
-        Step::Nothing => Point {
+        None => Point {
             x: 0.0,
             y: 0.0,
             z: 0.0,
         },
-        Step::Go(m) => m.end,
+        Some(m) => m.end,
     }
 }
 
-fn kind_of(s: Step) -> u64
+#[tactic(auto, unfolding(crate::specs::Doors::kind_left))]
+fn kind_of(s: Option<Move>) -> u64
     ensures { result ≡ kind_left s }
 {
     match s {
-        Step::Nothing => 0,
-        Step::Go(m) => {
-            let kind = m.kind;
-            moves::kind_number(kind)
-        }
+        None => 0,
+        Some(m) => moves::kind_number(m.kind),
     }
 }
 
-fn id_of(s: Step) -> u64
+#[tactic(auto, unfolding(crate::specs::Doors::id_left))]
+fn id_of(s: Option<Move>) -> u64
     ensures { result ≡ id_left s }
 {
     match s {
-        Step::Nothing => 0,
-        Step::Go(m) => m.id,
+        None => 0,
+        Some(m) => m.id,
     }
 }

@@ -109,18 +109,18 @@ pub extern "C" fn mandrikelo_distance_xy(triangle: &[f64; 9], x: f64, y: f64) ->
 }
 
 // Lays a contact into a bool and two fixed arrays.
-fn lay(c: Contact, height: &mut [f64; 1], touched: &mut [u32; 2]) -> bool
+fn lay(c: Option<Contact>, height: &mut [f64; 1], touched: &mut [u32; 2]) -> bool
     ensures { contact_left result height.new touched.new ≡ contact_left_by c }
 {
     match c {
-        Contact::Nothing => {
+        None => {
             *height = [0.0];
             *touched = [0, 0];
             false
         }
-        Contact::Height(z, t) => {
-            *height = [z];
-            *touched = [t.kind, t.which];
+        Some(met) => {
+            *height = [met.height];
+            *touched = [met.touch.kind, met.touch.which];
             true
         }
     }

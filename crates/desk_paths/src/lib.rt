@@ -7,6 +7,8 @@ ghost use Rattle.look_over.specs.Verdict.{look_over_of};
 ghost use Rattle.handed.specs.Handed.{index_from};
 ghost use Rattle.desk_paths.specs.Paths.{looked_left, looked_left_by, Told};
 
+use look_over::Verdict;
+
 // Whether a list of moves passes, or its first bad move with the reason.
 #[unsafe(no_mangle)]
 pub extern "C" fn mandrikelo_look_over(
@@ -41,11 +43,10 @@ pub extern "C" fn mandrikelo_look_over(
         sections,
         tolerance,
     );
-    let k = a.refusal;
-    let v = a.verdict;
+    let v = a.unwrap_or(Verdict::Unsaid);
     let verdict = look_over::verdict_number(v);
     let bad = look_over::bad_number(v);
     let reason = look_over::reason_number(v);
     *finding = [verdict, bad, reason];
-    k
+    refusals::code_of(&a)
 }

@@ -1,23 +1,25 @@
 -- The plan along an axis that C gives by its number, and how its answer is laid out.
+use Rattle.std.specs.Prelude.{Err}
 use mathlib.Core.Bool.{cond}
 use mathlib.Core.List.{List, [], ◌∷◌}
 use mathlib.Core.Path.{◌≡◌, ap, sym, ◌∙◌}
 use Prim.Native.Nat.{ℕ}
 use native.Mathlib.Omega.{arith}
-use lib.Dec.{eqb, lit<}
+use lib.Dec.{eqb}
 use lib.Ieee.{Float}
 use borrow.Author.Tests.{eq-eqb, ne_eqb}
 use Rattle.rules.proofs.Branches.{taken, left}
 use Rattle.grid.specs.Index.{Index, BuiltFrom}
 use Rattle.grid.specs.Boxes.{is_boxed}
 use Rattle.rules.specs.Ladder.{demand}
-use Rattle.rules.proofs.Ladder.{demanded}
 use Rattle.query.specs.Asked.{is_marked}
 use Rattle.rows.specs.declared.Axis.{Axis}
 use Rattle.rows.specs.declared.Axis.TheVariants.{X, Y}
 use Rattle.parameters.specs.declared.Parameters.{Parameters}
-use Rattle.plan.specs.declared.Planned.{Planned}
-use Rattle.plan.specs.Plan.{Outcome, outcome, refused_by, plan_of, NeverSeven}
+use Rattle.refusals.specs.declared.Refusal.{Refusal}
+use Rattle.refusals.specs.Numbers.{number_of}
+use Rattle.refusals.proofs.Named.{not_zero}
+use Rattle.plan.specs.Plan.{Planned, told, Outcome, outcome, refused_by, plan_of, NeverSeven}
 use Rattle.plan.proofs.Answering.{rung, either_way, planned_seven}
 use Rattle.plan.specs.Lost.{NothingLost}
 use Rattle.desk_plan.specs.Plans.{axis_from, plan_along, narrowed, plan_left, plan_left_by}
@@ -31,13 +33,13 @@ module _ (ix : Index) (marks : List ℕ) (levels runs : List Float) (p : Paramet
   unfolding plan_along
   along_y o n e q = left (eqb axis 0) _ _ _ (ne_eqb axis 0 n) (taken (eqb axis 1) _ _ _ (eq-eqb axis 1 e) q)
 
-  pub along_none : (a : Planned) (k : ℕ) → (axis ≡ 0 → ⊥) → (axis ≡ 1 → ⊥) → k ≡ demand (is_marked ix.mesh marks) 1
-      (demand (is_boxed ix.mesh ix.boxes) 23 9) → a ≡ refused_by k → outcome a levels runs marks ≡ plan_along ix marks levels runs p axis
-  unfolding plan_along
-  along_none a k n m e q =
+  pub along_none : (r : Refusal) → (axis ≡ 0 → ⊥) → (axis ≡ 1 → ⊥) → number_of r ≡ demand (is_marked ix.mesh marks) 1
+      (demand (is_boxed ix.mesh ix.boxes) 23 9) → outcome (told (Err r)) levels runs marks ≡ plan_along ix marks levels runs p axis
+  unfolding told plan_along
+  along_none r n m e =
       left (eqb axis 0) _ _ _ (ne_eqb axis 0 n)
       (left (eqb axis 1) _ _ _ (ne_eqb axis 1 m)
-      (ap (λ (a : Planned). outcome a levels runs marks) (q ∙ ap refused_by e)))
+      (ap (λ (k : ℕ). outcome (refused_by k) levels runs marks) e))
 
   -- never 7 over the index built from its mesh
   along_seven : BuiltFrom ix → (plan_along ix marks levels runs p axis).answer.refusal ≡ 7 → ⊥
@@ -61,12 +63,11 @@ module _ (ix : Index) (p : Parameters) (axis : ℕ) (a : Planned) where
   pub lost_y : axis ≡ 1 → (a.refusal ≡ 0 → NothingLost ix p Y a) → a.refusal ≡ 0 → NothingLost ix p (axis_from axis) a
   lost_y e f z = rw e (f z)
 
-module _ (ix : Index) (p : Parameters) (axis : Axis) (a : Planned) where
-  pub lost_none : (marks : List ℕ) (k : ℕ) → k ≡ demand (is_marked ix.mesh marks) 1 (demand (is_boxed ix.mesh ix.boxes) 23 9) → a ≡ refused_by k
-      → a.refusal ≡ 0 → NothingLost ix p axis a
-  lost_none marks k e q z = let n = (demanded _ 23 9 (lit< tt)
-      (demanded (is_marked ix.mesh marks) 1 _ (lit< tt) (sym e ∙ sym (ap (λ (x : Planned). x.refusal) q) ∙ z)).1).1 in absurd (omega arith)
+pub lost_none : (ix : Index) (p : Parameters) (axis : Axis) (r : Refusal) → (told (Err r)).refusal ≡ 0 → NothingLost ix p axis (told (Err r))
+unfolding told
+lost_none ix p axis r z = absurd (not_zero r z)
 
+module _ (ix : Index) (p : Parameters) (axis : Axis) (a : Planned) where
   -- only the refusal and the dropped length count
   pub lost_laid : (b : Planned) → a.refusal ≡ b.refusal → a.dropped ≡ b.dropped → (a.refusal ≡ 0 → NothingLost ix p axis a) → b.refusal ≡ 0
       → NothingLost ix p axis b

@@ -8,8 +8,7 @@ use Rattle.query.specs.Asked.{is_marked}
 use Rattle.rows.specs.declared.Axis.{Axis}
 use Rattle.rows.specs.declared.Axis.TheVariants.{X, Y}
 use Rattle.parameters.specs.declared.Parameters.{Parameters}
-use Rattle.plan.specs.declared.Planned.{Planned}
-use Rattle.plan.specs.Plan.{Outcome, outcome, refused_by, plan_of}
+use Rattle.plan.specs.Plan.{Planned, Outcome, outcome, refused_by, plan_of}
 
 -- The parameters from their seven numbers.
 unfoldable pub parameters_from : List Float → Parameters

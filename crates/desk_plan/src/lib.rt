@@ -8,16 +8,19 @@ ghost use Rattle.grid.specs.Boxes.{is_boxed};
 ghost use Rattle.grid.specs.Index.{index_of};
 ghost use Rattle.rules.specs.Ladder.{demand};
 ghost use Rattle.query.specs.Asked.{is_marked};
-ghost use Rattle.plan.specs.Plan.{outcome, refused_by, NeverSeven};
+ghost use Rattle.refusals.specs.Numbers.{number_of};
+ghost use Rattle.plan.specs.Plan.{told, outcome, NeverSeven};
 ghost use Rattle.plan.specs.Lost.{NothingLost};
 ghost use Rattle.desk_plan.specs.Plans.{parameters_from, axis_from, plan_along, narrowed, plan_left, plan_left_by, planned_from};
 
 use grid::Header;
 use parameters::Parameters;
 use plan::Planned;
+use refusals::Refusal;
 use rows::Axis;
 
 // The plan's parameters from their seven numbers.
+#[tactic(auto, unfolding(crate::specs::Plans::parameters_from))]
 fn parameters_from(numbers: &[f64; 7]) -> Parameters
     ensures { result ≡ parameters_from numbers.now }
 {
@@ -43,32 +46,19 @@ fn narrow(n: usize) -> u32
     }
 }
 
-// A refused plan: its number, zero counts and lengths.
-fn refused(k: u32) -> Planned
-    ensures { result ≡ refused_by k }
-{
-    Planned {
-        refusal: k,
-        levels: 0,
-        rows: 0,
-        runs: 0,
-        cut: 0.0,
-        dropped: 0.0,
-    }
-}
-
 // The refusal of an axis that is neither X nor Y: 9, unless 1 or 23 comes first.
-fn no_axis(mesh: &[f64], boxes: &[f64], marks: &[u32]) -> u32
-    ensures { result
+#[tactic(auto, using(rules::proofs::Ladder::ladder), unfolding(refusals::specs::Numbers::number_of))]
+fn no_axis(mesh: &[f64], boxes: &[f64], marks: &[u32]) -> Refusal
+    ensures { number_of result
         ≡ demand (is_marked mesh.now marks.now) 1 (demand (is_boxed mesh.now boxes.now) 23 9) }
 {
     if !query::is_marked(mesh, marks) {
-        return 1;
+        return Refusal::Length;
     }
     if !grid::is_boxed(mesh, boxes) {
-        return 23;
+        return Refusal::Boxes;
     }
-    9
+    Refusal::Parameter
 }
 
 // The plan along the axis of that number.
@@ -83,12 +73,12 @@ fn plan_along(
     runs: &mut [f64],
     p: Parameters,
     axis: u32,
-) -> Planned
-    ensures marks_after { outcome result levels.new runs.new marks.new
+) -> Result<Planned, Refusal>
+    ensures marks_after { outcome (told result) levels.new runs.new marks.new
         ≡ plan_along (index_of mesh.now h starts.now members.now boxes.now)
         marks.old levels.old runs.old p axis }
-    ensures nothing_lost { result.refusal ≡ 0 → NothingLost (index_of mesh.now h starts.now members.now boxes.now)
-        p (axis_from axis) result }
+    ensures nothing_lost { (told result).refusal ≡ 0 → NothingLost (index_of mesh.now h starts.now members.now boxes.now)
+        p (axis_from axis) (told result) }
 {
     if axis == 0 {
         return plan::plan(
@@ -118,7 +108,7 @@ fn plan_along(
             Axis::Y,
         );
     }
-    refused(no_axis(mesh, boxes, marks))
+    Err(no_axis(mesh, boxes, marks))
 }
 
 // The flat runs of a mesh: levels and runs get their tables, lengths the cut and the dropped length, counts the numbers of levels, rows
@@ -154,16 +144,22 @@ pub extern "C" fn mandrikelo_plan(
 {
     let h = handed::header_from(measures, sizes);
     let p = parameters_from(parameters);
-    let a = plan_along(
+    let planned = plan_along(
         mesh, h, starts, members, boxes, marks, levels, runs, p, axis,
     );
-    let k = a.refusal;
-    let cut = a.cut;
-    let dropped = a.dropped;
-    let level_count = narrow(a.levels);
-    let row_count = narrow(a.rows);
-    let run_count = narrow(a.runs);
-    *lengths = [cut, dropped];
-    *counts = [level_count, row_count, run_count];
-    k
+    match planned {
+        Ok(a) => {
+            let level_count = narrow(a.levels);
+            let row_count = narrow(a.rows);
+            let run_count = narrow(a.runs);
+            *lengths = [a.cut, a.dropped];
+            *counts = [level_count, row_count, run_count];
+            0
+        }
+        Err(refusal) => {
+            *lengths = [0.0, 0.0];
+            *counts = [0, 0, 0];
+            refusal.number()
+        }
+    }
 }

@@ -8,8 +8,11 @@ use lib.Ieee.{Float}
 use Rattle.numbers.specs.Reals.{f0}
 use Rattle.rules.proofs.Branches.{taken, left as passed-by, by_test}
 use Rattle.grid.specs.declared.Header.{Header}
-use Rattle.grid.specs.declared.Built.{Built}
-use Rattle.grid.specs.Build.{told_with, refused_by, accepted_with}
+use Rattle.std.specs.Prelude.{Result, Ok, Err, ◌/◌, ◌%◌}
+use Rattle.refusals.specs.declared.Refusal.{Refusal}
+use Rattle.refusals.specs.Numbers.{number_of, told_of}
+use Rattle.refusals.proofs.Named.{not_zero}
+use Rattle.grid.specs.Build.{Built, told, told_with, refused_by, accepted_with}
 use Rattle.raise.specs.Raise.{lifted, topped_of, raised_header, refusal_of, Raised, left, raise_of, RaisePromise}
 use Rattle.handed.specs.Handed.{measures_of, sizes_of, header_from}
 use Rattle.desk_raise.specs.Raising.{built_from, RaisedLeft, raised_left, raised_left_by}
@@ -66,3 +69,19 @@ module _ (mesh boxes : List Float) (a : Float) (h g : Header) (q : h ≡ g) (b :
       let n2 : s2 ≡ b.header.rows = u2 ∙ sym (ap (λ (w : Header). w.rows) i) in
       let p' : RaisePromise mesh boxes g m x b = rw (sym q) p in
       (rw (n0, n1, n2) (accepted_left (left b m x) none ∙ ap raised_left_by same), rw (n0, n1, n2) p')
+
+-- the same, by the library's answer
+module _ (mesh boxes : List Float) (a : Float) (h g : Header) (q : h ≡ g) (m x : List Float) where
+  pub err_door : (e : Refusal) → left (told (Err e)) m x ≡ raise_of mesh boxes h a → RaisePromise mesh boxes h m x (told (Err e))
+      → (k t : ℕ) → k ≡ number_of e → t ≡ told_of e
+      → (raised_left k m x (f0 ∷ f0 ∷ f0 ∷ f0 ∷ f0 ∷ f0 ∷ []) (0 ∷ 0 ∷ 0 ∷ []) (t / 9 ∷ t % 9 ∷ []) ≡ raised_left_by (raise_of mesh boxes g a))
+      × RaisePromise mesh boxes g m x (built_from k (f0 ∷ f0 ∷ f0 ∷ f0 ∷ f0 ∷ f0 ∷ []) (0 ∷ 0 ∷ 0 ∷ []) (t / 9 ∷ t % 9 ∷ []))
+  unfolding told refused_by
+  err_door e l p k t u v = rw (u, v) (refused_door mesh boxes a h g q (told (Err e)) m x l p (not_zero e) _ _)
+
+  pub ok_door : (b : Header) → left (told (Ok b)) m x ≡ raise_of mesh boxes h a → RaisePromise mesh boxes h m x (told (Ok b))
+      → (s0 s1 s2 : ℕ) → s0 ≡ g.n → s1 ≡ g.columns → s2 ≡ g.rows
+      → (raised_left 0 m x (measures_of b) (s0 ∷ s1 ∷ s2 ∷ []) (0 ∷ 0 ∷ []) ≡ raised_left_by (raise_of mesh boxes g a))
+      × RaisePromise mesh boxes g m x (built_from 0 (measures_of b) (s0 ∷ s1 ∷ s2 ∷ []) (0 ∷ 0 ∷ []))
+  unfolding told accepted_with
+  ok_door b l p = accepted_door mesh boxes a h g q (told (Ok b)) m x l p refl

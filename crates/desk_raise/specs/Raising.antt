@@ -1,7 +1,7 @@
 -- What the C function of request 4's raising leaves behind: its answer, the mesh and its boxes, the new header and which number was bad.
 use Rattle.std.specs.Prelude.{cond, List, [], ◌∷◌, ℕ, eqb, Float, get_or}
 use Rattle.numbers.specs.Reals.{f0}
-use Rattle.grid.specs.declared.Built.{Built}
+use Rattle.grid.specs.Build.{Built}
 use Rattle.handed.specs.Handed.{measures_of, sizes_of, header_from}
 use Rattle.raise.specs.Raise.{Raised}
 

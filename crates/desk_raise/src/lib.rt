@@ -25,18 +25,19 @@ pub extern "C" fn mandrikelo_raise(
     ensures raise_promise { RaisePromise mesh.old boxes.old (header_from measures.now sizes.now)
         mesh.new boxes.new (built_from result raised.new raised_sizes.new bad.new) }
 {
-    let b = raise::raise(mesh, boxes, handed::header_from(measures, sizes), amount);
-    let k = b.refusal;
-    let triangle = b.triangle;
-    let number = b.number;
-    *bad = [triangle, number];
-    if k != 0 {
-        *raised = [0.0, 0.0, 0.0, 0.0, 0.0, 0.0];
-        *raised_sizes = [0, 0, 0];
-        return k;
+    match raise::raise(mesh, boxes, handed::header_from(measures, sizes), amount) {
+        Ok(h) => {
+            *raised = [h.origin_x, h.origin_y, h.cell, h.floor, h.eps, h.r];
+            *raised_sizes = [sizes[0], sizes[1], sizes[2]];
+            *bad = [0, 0];
+            0
+        }
+        Err(refusal) => {
+            let place = refusal.told();
+            *raised = [0.0, 0.0, 0.0, 0.0, 0.0, 0.0];
+            *raised_sizes = [0, 0, 0];
+            *bad = [place / 9, place % 9];
+            refusal.number()
+        }
     }
-    let h = b.header;
-    *raised = [h.origin_x, h.origin_y, h.cell, h.floor, h.eps, h.r];
-    *raised_sizes = [sizes[0], sizes[1], sizes[2]];
-    k
 }

@@ -11,6 +11,7 @@ ghost use Rattle.desk_sheet.specs.Sheets.{sheet_left, sheet_left_by, sheet_from}
 use sheet::Sheet;
 
 // The sheet from its eight numbers.
+#[tactic(auto, unfolding(crate::specs::Sheets::sheet_from))]
 fn sheet_from(measures: &[f64; 8]) -> Sheet
     ensures { result ≡ sheet_from measures.now }
 {
@@ -51,8 +52,8 @@ pub extern "C" fn mandrikelo_sections_of(
         holders,
         sections,
     );
-    let k = a.refusal;
-    let n = a.count;
+    let n = a.unwrap_or(0);
+    let k = refusals::code_of(&a);
     *count = [n];
     k
 }

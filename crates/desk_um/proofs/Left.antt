@@ -1,7 +1,7 @@
 -- What the library leaves, laid out for C, and read off C's arrays again.
 use mathlib.Core.Bool.{Bool, true, ◌&&◌}
 use mathlib.Core.List.{List, [], ◌∷◌}
-use mathlib.Core.Path.{◌≡◌, refl, ap, ◌∙◌, subst}
+use mathlib.Core.Path.{◌≡◌, refl, sym, ap, ◌∙◌, subst}
 use Prim.Native.Nat.{ℕ, ◌*◌, ◌^◌, ◌≤◌, ◌<◌}
 use native.Mathlib.Omega.{arith}
 use borrow.Author.Tests.{eq-eqb, ne_eqb, eqb-true, leb-true, leb-false}
@@ -10,23 +10,26 @@ use lib.IntN.{ℤ, pos}
 use lib.Pow.{pow_mono}
 use Rattle.rules.proofs.Branches.{taken, left, by_test, both_true, no}
 use Rattle.fields.specs.Rows.{somewhere}
-use Rattle.fields.specs.declared.Place.{Place}
-use Rattle.fields.specs.declared.Place.TheVariants.{Nowhere, At}
+use Rattle.std.specs.Prelude.{Option, None, Some, Ok, Err, ◌/◌, ◌%◌}
+use Rattle.refusals.specs.declared.Refusal.{Refusal}
+use Rattle.refusals.specs.Numbers.{number_of as code, told_of}
+use Rattle.refusals.proofs.Named.{not_zero}
 use Rattle.rules.specs.Every.{is_from}
 use Rattle.ask.specs.Ask.{ended}
 use Rattle.micro.specs.Micro.{counted, number_of, is_coordinate, is_radius, first_where}
 use Rattle.job_um.specs.Reader as reader
-use Rattle.job_um.specs.declared.Read.{Read}
+use Rattle.job_um.specs.Reader.{Read}
 use Rattle.um.specs.declared.Header.{Header}
-use Rattle.um.specs.Build.{is_power, in_ranges, Outcome, build_of}
+use Rattle.um.specs.Build.{is_power, in_ranges, Outcome, outcome, told, refused_by, accepted_with, build_of}
 use Rattle.um.proofs.Places.{found}
 use Rattle.um.proofs.Extents.{coordinate_is}
 use Rattle.setup.proofs.Reaching.{radius_is}
 use Rattle.setup.proofs.Heads.{from_is}
-use Rattle.um.specs.Index.{index_of, BuildPromise}
+use Rattle.um.specs.Index.{Index, index_of, BuildPromise}
 use Rattle.setup.specs.declared.Question.{Question}
-use Rattle.setup.specs.declared.Answer.{Answer}
-use Rattle.setup.specs.Answer.{setup_height_of}
+use Rattle.setup.specs.declared.Answer.{Answer as Found}
+use Rattle.setup.specs.Answer as answer
+use Rattle.setup.specs.Answer.{Answer, setup_height_of}
 use Rattle.setup.specs.Demand.{SetupPromise}
 use Rattle.desk_um.specs.Doors.{job_left, job_left_by, BuiltLeft, built_left, measures_of, sizes_of, built_left_by}
 use Rattle.desk_um.specs.Doors.{header_from, index_from, question_from, height_left, height_left_by, answer_from}
@@ -100,10 +103,10 @@ pub record Narrow (h : Header) : Type 0 where
   pub rows : h.rows < 4294967296
   pub cell : h.cell < 4294967296
 
-power_at : (cell : ℕ) (p : Place) → first_where (λ k. eqb (2 ^ k) cell) 0 32 ≡ p → somewhere p ≡ true → cell < 4294967296
+power_at : (cell : ℕ) (p : Option ℕ) → first_where (λ k. eqb (2 ^ k) cell) 0 32 ≡ p → somewhere p ≡ true → cell < 4294967296
 unfolding somewhere
-power_at cell Nowhere q e = absurd (no e)
-power_at cell (At k) q e =
+power_at cell None q e = absurd (no e)
+power_at cell (Some k) q e =
     let f = found (λ k. eqb (2 ^ k) cell) 0 32 k q in
     let z = eqb-true (2 ^ k) cell f.passes in
     let m : 2 ^ k ≤ 2 ^ 31 = pow_mono {i = k} {j = 31} (omega (arith, f.past)) in
@@ -152,3 +155,45 @@ promise_left mesh s m k h x y f r a b c d w p =
           ∙ counted_number h.floor w.floor,
       ap counted d ∙ counted_number h.r w.r,
     ) p
+
+-- ---- the builder's answer, by its name
+module _ (mesh : List ℤ) (F R f r : ℕ) (p : f ≡ F) (q : r ≡ R) (s m s' m' : List ℕ) where
+  pub err_left : (e : Refusal) → outcome (told (Err e)) s' m' ≡ build_of mesh f r s m → (k t : ℕ) → k ≡ code e → t ≡ told_of e
+      → built_left k s' m' (pos 0 ∷ pos 0 ∷ pos 0 ∷ pos 0 ∷ []) (0 ∷ 0 ∷ 0 ∷ 0 ∷ []) (t / 9 ∷ t % 9 ∷ []) ≡ built_left_by (build_of mesh F R s m)
+  unfolding told refused_by
+  err_left e l k t u v = rw (u, v) (refused_left mesh s m F R f r p q (outcome (told (Err e)) s' m') l (not_zero e))
+
+  pub ok_left : (h : Header) → outcome (told (Ok h)) s' m' ≡ build_of mesh f r s m → (x y f' r' : ℤ) → x ≡ number_of h.x → y ≡ number_of h.y
+      → f' ≡ number_of h.floor → r' ≡ number_of h.r
+      → built_left 0 s' m' (x ∷ y ∷ f' ∷ r' ∷ []) (sizes_of h) (0 ∷ 0 ∷ []) ≡ built_left_by (build_of mesh F R s m)
+  unfolding told accepted_with
+  ok_left h l = accepted_left mesh s m F R f r p q (outcome (told (Ok h)) s' m') l refl
+
+pub err_promise : (ix : Index) (e : Refusal) (k : ℕ) → k ≡ code e → BuildPromise ix k
+err_promise ix e k u = record { sound = λ z. absurd (not_zero e (sym u ∙ z)); built = λ z. absurd (not_zero e (sym u ∙ z)) }
+
+module _ (mesh : List ℤ) (h : Header) (s m : List ℕ) (b : BuildPromise (index_of mesh (told (Ok h)).header s m) (told (Ok h)).refusal) where
+  -- a header without a refusal fits the arrays of C
+  pub fitting : Narrow h
+  unfolding told accepted_with
+  fitting = narrow h (b.sound refl).ranges
+
+  pub ok_promise : (x y f r : ℤ) → x ≡ number_of h.x → y ≡ number_of h.y → f ≡ number_of h.floor → r ≡ number_of h.r
+      → BuildPromise (index_from mesh (x ∷ y ∷ f ∷ r ∷ []) (sizes_of h) s m) 0
+  unfolding told accepted_with
+  ok_promise x y f r a c d e = promise_left mesh s m 0 h x y f r a c d e fitting b
+
+-- ---- the question's answer, by its name
+module _ (mesh : List ℤ) (starts members marks m : List ℕ) (stamp : ℕ) (h H : Header) (q Q : Question) (p : h ≡ H) (k : q ≡ Q) where
+  pub ok_told : (a : Found) → Tells mesh starts members marks m stamp (answer.told (Ok a) stamp) h q → (answer.told (Ok a) stamp).height < 4294967296
+      → (z : ℤ) → z ≡ number_of a.height
+      → (height_left 0 m (z ∷ []) (a.count ∷ a.stamp ∷ a.met ∷ []) ≡ height_left_by (setup_height_of (index_of mesh H starts members) marks stamp Q))
+      × SetupPromise (index_of mesh H starts members) marks stamp Q (answer_from 0 (z ∷ []) (a.count ∷ a.stamp ∷ a.met ∷ []))
+  unfolding answer.told
+  ok_told a t l z e = setup_told mesh starts members marks m stamp (answer.told (Ok a) stamp) h H q Q p k t l z e
+
+  pub err_told : (e : Refusal) → Tells mesh starts members marks m stamp (answer.told (Err e) stamp) h q → (n : ℕ) → n ≡ code e
+      → (height_left n m (pos 0 ∷ []) (0 ∷ stamp ∷ 0 ∷ []) ≡ height_left_by (setup_height_of (index_of mesh H starts members) marks stamp Q))
+      × SetupPromise (index_of mesh H starts members) marks stamp Q (answer_from n (pos 0 ∷ []) (0 ∷ stamp ∷ 0 ∷ []))
+  unfolding answer.told number_of
+  err_told e t n u = rw u (setup_told mesh starts members marks m stamp (answer.told (Err e) stamp) h H q Q p k t (omega arith) (pos 0) refl)

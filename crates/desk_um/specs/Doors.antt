@@ -7,7 +7,7 @@ use Rattle.um.specs.declared.Header.{Header}
 use Rattle.um.specs.Build as build
 use Rattle.um.specs.Index.{Index, index_of}
 use Rattle.setup.specs.declared.Question.{Question}
-use Rattle.setup.specs.declared.Answer.{Answer}
+use Rattle.setup.specs.Answer.{Answer}
 
 -- A job read: the refusal, both tables, floor and radius, the numbers of triangles and questions.
 pub record JobLeft : Type 0 where

@@ -17,6 +17,7 @@ use um::Header;
 
 // Reads a job of version 2 into the lent tables; measures get the floor and the radius, sizes the numbers of triangles and questions. After 19 the
 // first of sizes holds how many triangles stand whole before the cut.
+#[tactic(auto, using(micro::proofs::Signed::again), unfolding(crate::specs::Doors::job_left_by))]
 #[unsafe(no_mangle)]
 pub extern "C" fn mandrikelo_read_job_um(
     bytes: &[u8],
@@ -30,15 +31,18 @@ pub extern "C" fn mandrikelo_read_job_um(
     ensures sound_exactly { SoundExactly bytes.now (length mesh.old / 9) (length questions.old / 5) result }
     ensures accepted_promise { AcceptedPromise bytes.now mesh.old questions.old result }
 {
-    let a = job_um::read_job_um(bytes, mesh, questions);
-    let refusal = a.refusal;
-    let n = a.n;
-    let m = a.m;
-    let floor = a.floor;
-    let radius = a.radius;
-    *measures = [floor, radius];
-    *sizes = [n, m];
-    refusal
+    match job_um::read_job_um(bytes, mesh, questions) {
+        Ok(read) => {
+            *measures = [read.floor, read.radius];
+            *sizes = [read.n, read.m];
+            0
+        }
+        Err(refusal) => {
+            *measures = [0, 0];
+            *sizes = [refusal.told(), 0];
+            refusal.number()
+        }
+    }
 }
 
 // Builds the index of a mesh in starts and members; measures and sizes hold its header. After 4, bad holds the triangle and which of its nine numbers
@@ -59,24 +63,25 @@ pub extern "C" fn mandrikelo_build_um(
     ensures build_promise { BuildPromise
         (index_from mesh.now measures.new sizes.new starts.new members.new) result }
 {
-    let b = um::build_um(mesh, micro::count(floor), micro::count(r), starts, members);
-    let k = b.refusal;
-    let triangle = b.triangle;
-    let number = b.number;
-    *bad = [triangle, number];
-    if k != 0 {
-        *measures = [0, 0, 0, 0];
-        *sizes = [0, 0, 0, 0];
-        return k;
+    match um::build_um(mesh, micro::count(floor), micro::count(r), starts, members) {
+        Ok(h) => {
+            let x = micro::number(h.x);
+            let y = micro::number(h.y);
+            let f = micro::number(h.floor);
+            let q = micro::number(h.r);
+            *measures = [x, y, f, q];
+            *sizes = [h.n as u32, h.columns as u32, h.rows as u32, h.cell as u32];
+            *bad = [0, 0];
+            0
+        }
+        Err(refusal) => {
+            let place = refusal.told();
+            *measures = [0, 0, 0, 0];
+            *sizes = [0, 0, 0, 0];
+            *bad = [place / 9, place % 9];
+            refusal.number()
+        }
     }
-    let h = b.header;
-    let x = micro::number(h.x);
-    let y = micro::number(h.y);
-    let f = micro::number(h.floor);
-    let q = micro::number(h.r);
-    *measures = [x, y, f, q];
-    *sizes = [h.n as u32, h.columns as u32, h.rows as u32, h.cell as u32];
-    k
 }
 
 // The set-up height of a question from (px, py) to (qx, qy) with the radius r.
@@ -106,7 +111,7 @@ pub extern "C" fn mandrikelo_setup_height(
         marks.old stamp (question_from px py qx qy r)
         (answer_from result height.new counts.new) }
 {
-    let a = setup::setup_height(
+    let answer = setup::setup_height(
         mesh,
         header_from(measures, sizes),
         starts,
@@ -115,14 +120,19 @@ pub extern "C" fn mandrikelo_setup_height(
         stamp,
         question_from(px, py, qx, qy, r),
     );
-    let k = a.refusal;
-    let count = a.count;
-    let next = a.stamp;
-    let met = a.met;
-    let z = micro::number(a.height);
-    *height = [z];
-    *counts = [count, next, met];
-    k
+    match answer {
+        Ok(a) => {
+            let z = micro::number(a.height);
+            *height = [z];
+            *counts = [a.count, a.stamp, a.met];
+            0
+        }
+        Err(refusal) => {
+            *height = [0];
+            *counts = [0, stamp, 0];
+            refusal.number()
+        }
+    }
 }
 
 // A size from C, as the header has it.

@@ -18,6 +18,12 @@ few_bytes n size h l =
     let p : n * size ≤ n * 0xffff = mul-le-mul_left n (omega arith) in
     omega arith
 
+-- the count that a short file tells; d where none is told
+unfoldable count : ℕ → Length → ℕ
+count d (Short c) = c
+count d Surplus = d
+count d Exact = d
+
 -- ---- the whole entries before a cut
 module _ (s : Shape) (length : ℕ) where
   pub none_whole : length ≤ s.head → 0 ≡ whole_in s length
@@ -66,9 +72,6 @@ module _ (s : Shape) (length : ℕ) where
             rw (e, add-mul, one-mul) (omega (arith, div-add-mod' (length - s.head) s.size, mod-lt (length - s.head) {m = s.size} (omega arith)));
       }
 
-  pub with_whole : (c : ℕ) → c ≡ whole_in s length → (c ≡ whole_in s length) × (s.head ≤ length → 1 ≤ s.size → Whole s length c)
-  with_whole c e = (e, λ h l. rw e (whole_is h l))
-
   -- ---- what a refusal says of the length
   judge : (P : Length → Type 0) → (length < bytes_of s → P (Short (whole_in s length))) → (bytes_of s < length → P Surplus) → (length ≡ bytes_of s → P Exact)
       → P (length_rule s length)
@@ -98,6 +101,12 @@ module _ (s : Shape) (length : ℕ) where
       (λ h e. h)
       (λ h e. absurd (omega arith))
       (λ h e. absurd (n e))
+
+  pub short_tells : (c : ℕ) → Short c ≡ length_rule s length → c ≡ whole_in s length
+  unfolding count
+  short_tells c e =
+      let w = whole_in s length in
+      ap (count w) e ∙ judge (λ (r : Length). count w r ≡ w) (λ h. refl) (λ h. refl) (λ h. refl)
 
 -- ---- the rung of a ladder that the length decides
 module _ (s : Shape) (length next : ℕ) where

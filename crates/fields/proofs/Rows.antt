@@ -10,13 +10,12 @@ use lib.Ieee.{Float, nan}
 use lib.ListN.{length, drop, set}
 use lib.Seq.{drop-cons, set_at}
 use Rattle.fields.specs.Rows.{finite, row, first_bad, somewhere}
-use Rattle.fields.specs.declared.Place.{Place}
-use Rattle.fields.specs.declared.Place.TheVariants.{Nowhere, At}
+use Rattle.std.specs.Prelude.{Option, None, Some}
 
 module _ (f : ℕ → Float) where
   -- ---- the search for a number that is not finite, at number k of n
-  module _ (n k : ℕ) (p : Place) where
-    pub bad_stops : k < n → finite (f k) ≡ false → first_bad f k (n - k) ≡ p → At k ≡ p
+  module _ (n k : ℕ) (p : Option ℕ) where
+    pub bad_stops : k < n → finite (f k) ≡ false → first_bad f k (n - k) ≡ p → Some k ≡ p
     unfolding first_bad
     bad_stops h e i =
         let s : n - k ≡ suc (n - (k + 1)) = omega arith in
@@ -28,14 +27,14 @@ module _ (f : ℕ → Float) where
         let s : n - k ≡ suc (n - (k + 1)) = omega arith in
         rw (s, e) at i
 
-    pub bad_ends : n ≤ k → first_bad f k (n - k) ≡ p → Nowhere ≡ p
+    pub bad_ends : n ≤ k → first_bad f k (n - k) ≡ p → None ≡ p
     unfolding first_bad
     bad_ends h i =
         let s : n - k ≡ 0 = omega arith in
         rw s at i
 
   -- ---- what a search that found nothing passed
-  found_is : (b : Bool) (k : ℕ) (p : Place) → somewhere (cond b p (At k)) ≡ false → (b ≡ true) × (somewhere p ≡ false)
+  found_is : (b : Bool) (k : ℕ) (p : Option ℕ) → somewhere (cond b p (Some k)) ≡ false → (b ≡ true) × (somewhere p ≡ false)
   unfolding somewhere
   found_is true k p e = (refl, e)
   found_is false k p e = let z : ◌≡◌ {A = ℕ} 0 1 = cc in absurd (omega arith)

@@ -1,8 +1,6 @@
 -- Numbers of a file in a row: f k is number k.
-use Rattle.std.specs.Prelude.{Bool, true, false, cond, ◌&&◌, List, [], ◌∷◌, ℕ, zero, suc, ◌+◌, Float}
+use Rattle.std.specs.Prelude.{Bool, true, false, cond, ◌&&◌, List, [], ◌∷◌, ℕ, zero, suc, ◌+◌, Float, Option, None, Some}
 use Rattle.std.specs.Float.{nan, inf, fin}
-use Rattle.fields.specs.declared.Place.{Place}
-use Rattle.fields.specs.declared.Place.TheVariants.{Nowhere, At}
 
 -- neither an infinity nor a NaN
 unfoldable pub finite : Float → Bool
@@ -21,10 +19,10 @@ row f k zero = []
 row f k (suc c) = f k ∷ row f (k + 1) c
 
 -- the first of c numbers from number k on that is not finite
-unfoldable pub first_bad : (ℕ → Float) → ℕ → ℕ → Place
-first_bad f k zero = Nowhere
-first_bad f k (suc c) = cond (finite (f k)) (first_bad f (k + 1) c) (At k)
+unfoldable pub first_bad : (ℕ → Float) → ℕ → ℕ → Option ℕ
+first_bad f k zero = None
+first_bad f k (suc c) = cond (finite (f k)) (first_bad f (k + 1) c) (Some k)
 
-unfoldable pub somewhere : Place → Bool
-somewhere Nowhere = false
-somewhere (At k) = true
+unfoldable pub somewhere : Option ℕ → Bool
+somewhere None = false
+somewhere (Some k) = true

@@ -9,13 +9,6 @@ ghost use Rattle.fields.specs.Rows.{finite, all_finite};
 ghost use Rattle.fields.specs.Room.{too_many};
 ghost use Rattle.fields.specs.Length.{bytes_of, whole_in, length_rule, Whole};
 
-// Where a search found something.
-#[derive(Clone, Copy)]
-pub enum Place {
-    Nowhere,
-    At(usize),
-}
-
 // A file of a head, n entries of size bytes each, then m of other bytes each.
 #[derive(Clone, Copy)]
 pub struct Shape {
@@ -81,16 +74,15 @@ fn bytes_of(s: Shape) -> usize
 }
 
 // A count over 65,536 or over the lent room.
+#[tactic(auto, unfolding(crate::specs::Room::too_many))]
 pub fn too_many(count: u32, room: usize) -> bool
     ensures { result ≡ too_many count room }
 {
-    if count > MOST {
-        return true;
-    }
-    count as usize > room
+    count > MOST || count as usize > room
 }
 
 // Whether the exponent's field is not all ones.
+#[tactic(auto, using(crate::proofs::Finite::bits_finite))]
 pub fn is_finite(bits: u64) -> bool
     ensures { result ≡ finite (of_bits binary64 bits) }
 {
@@ -101,15 +93,11 @@ pub fn is_finite(bits: u64) -> bool
 pub fn all_finite(xs: &[f64]) -> bool
     ensures { result ≡ all_finite xs.now }
 {
-    for j in 0..xs.len() {
-        if !is_number(xs[j]) {
-            return false;
-        }
-    }
-    true
+    xs.iter().all(|&x| is_number(x))
 }
 
 // Whether x lies between the infinities.
+#[tactic(auto, using(crate::proofs::Tables::between))]
 pub fn is_number(x: f64) -> bool
     ensures { result ≡ finite x }
 {

@@ -23,7 +23,5 @@ pub fn put(table: &mut [f64], m: usize, a: f64, b: f64, c: f64, d: f64, e: f64)
 pub fn clear(table: &mut [f64])
     ensures { table.new ≡ zeroed table.old }
 {
-    for j in 0..table.len() {
-        table[j] = 0.0;
-    }
+    table.fill(0.0);
 }

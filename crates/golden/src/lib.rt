@@ -48,6 +48,7 @@ pub fn upper_point(a: f64, b: f64) -> f64
 }
 
 // The bracket lo..hi, with the values at its inner points.
+#[tactic(auto, unfolding(crate::specs::Search::start_of))]
 pub fn start(lo: f64, hi: f64, v1: f64, v2: f64) -> Golden
     ensures { result ≡ start_of lo hi v1 v2 }
 {
@@ -78,6 +79,7 @@ pub fn drops_high(g: Golden) -> bool
 }
 
 // The point that the next step looks at.
+#[tactic(auto, unfolding(crate::specs::Search::probe_of))]
 pub fn probe(left: bool, g: Golden) -> f64
     ensures { result ≡ probe_of left g }
 {
@@ -89,6 +91,7 @@ pub fn probe(left: bool, g: Golden) -> f64
 }
 
 // The bracket after a step that found the value v at the point p.
+#[tactic(auto, unfolding(crate::specs::Search::narrowed_of))]
 pub fn narrowed(left: bool, g: Golden, p: f64, v: f64) -> Golden
     ensures { result ≡ narrowed_of left g p v }
 {
@@ -114,6 +117,7 @@ pub fn narrowed(left: bool, g: Golden, p: f64, v: f64) -> Golden
 }
 
 // The best of four values.
+#[tactic(auto, unfolding(crate::specs::Search::best_of))]
 pub fn best(va: f64, vb: f64, v1: f64, v2: f64) -> f64
     ensures { result ≡ best_of va vb v1 v2 }
 {
@@ -121,6 +125,7 @@ pub fn best(va: f64, vb: f64, v1: f64, v2: f64) -> f64
 }
 
 // What 60 steps on lo..hi may have missed, added to the best value.
+#[tactic(auto, unfolding(crate::specs::Search::bound_of))]
 pub fn bound(best: f64, lo: f64, hi: f64, lipschitz: f64) -> f64
     ensures { result ≡ bound_of best lo hi lipschitz }
 {
@@ -128,6 +133,7 @@ pub fn bound(best: f64, lo: f64, hi: f64, lipschitz: f64) -> f64
 }
 
 // The bracket with its ends' values, once the search has gone on to g.
+#[tactic(auto, unfolding(crate::specs::Upper::held_of))]
 pub fn held(s: Bracket, g: Golden) -> Bracket
     ensures { result ≡ held_of s g }
 {
@@ -147,6 +153,7 @@ pub fn held(s: Bracket, g: Golden) -> Bracket
 }
 
 // An upper bound of a concave objective's maximum, from the last bracket of its search.
+#[tactic(auto, unfolding(crate::specs::Upper::upper_of))]
 pub fn upper_bound(s: Bracket) -> f64
     ensures { result ≡ upper_of s }
 {
@@ -155,6 +162,7 @@ pub fn upper_bound(s: Bracket) -> f64
 }
 
 // The same, beside the best value.
+#[tactic(auto, unfolding(crate::specs::Upper::upper_from))]
 fn upper_from(s: Bracket, best: f64) -> f64
     ensures { result ≡ upper_from s best }
 {
@@ -172,6 +180,7 @@ fn upper_from(s: Bracket, best: f64) -> f64
 }
 
 // Whether x is neither infinite nor a NaN.
+#[tactic(auto, unfolding(crate::specs::Upper::finite_of))]
 fn finite(x: f64) -> bool
     ensures { result ≡ finite_of x }
 {
@@ -179,6 +188,7 @@ fn finite(x: f64) -> bool
 }
 
 // Whether both are finite.
+#[tactic(auto, unfolding(crate::specs::Upper::finite_of))]
 fn both_finite(v1: f64, v2: f64) -> bool
     ensures { result ≡ (finite_of v1 && finite_of v2) }
 {
@@ -186,6 +196,7 @@ fn both_finite(v1: f64, v2: f64) -> bool
 }
 
 // Whether all three are minus infinity.
+#[tactic(auto, unfolding(crate::specs::Upper::all_low))]
 fn all_low(v1: f64, v2: f64, best: f64) -> bool
     ensures { result ≡ all_low v1 v2 best }
 {
@@ -194,6 +205,7 @@ fn all_low(v1: f64, v2: f64, best: f64) -> bool
 }
 
 // The largest of the best value and the bounds of the three stretches.
+#[tactic(auto, unfolding(crate::specs::Upper::secants_of))]
 fn secants(s: Bracket, best: f64) -> f64
     ensures { result ≡ secants_of s best }
 {
@@ -203,6 +215,7 @@ fn secants(s: Bracket, best: f64) -> f64
 }
 
 // The largest of the best value, the bound between a and x1, and the bound between x2 and b.
+#[tactic(auto, unfolding(crate::specs::Upper::outer_of))]
 fn outer(best: f64, g: Golden) -> f64
     ensures { result ≡ outer_of best g }
 {
@@ -217,6 +230,7 @@ fn outer(best: f64, g: Golden) -> f64
 }
 
 // The bound between x1 and x2 that the value at a gives.
+#[tactic(auto, unfolding(crate::specs::Upper::from_a))]
 fn from_a(fa: f64, g: Golden) -> f64
     ensures { result ≡ from_a fa g }
 {
@@ -230,6 +244,7 @@ fn from_a(fa: f64, g: Golden) -> f64
 }
 
 // The bound between x1 and x2 that the value at b gives.
+#[tactic(auto, unfolding(crate::specs::Upper::from_b))]
 fn from_b(fb: f64, g: Golden) -> f64
     ensures { result ≡ from_b fb g }
 {

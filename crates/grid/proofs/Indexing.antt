@@ -22,11 +22,10 @@ use Rattle.spans.proofs.Scales.{eps_above, eps_under}
 use Rattle.rules.specs.Every.{is_from}
 use Rattle.cells.specs.Cover.{starts_of, members_table}
 use Rattle.cells.proofs.Reading.{cell_is, starts_room, starts_rise, starts_within, once, member_of}
-use Rattle.grid.specs.declared.Built.{Built}
 use Rattle.grid.specs.Grid.{triangles_in, grid_of, cells_in, cells_of, cover_of}
 use Rattle.grid.specs.Header.{header_of, in_ranges}
 use Rattle.grid.specs.Boxes.{boxes_of}
-use Rattle.grid.specs.Build.{Outcome, outcome, refused_by, accepted_with, unless, filled_of, gridded, build_of}
+use Rattle.grid.specs.Build.{Built, Outcome, outcome, refused_by, accepted_with, unless, filled_of, gridded, build_of}
 use Rattle.grid.specs.Index.{Index, index_of, InGrid, BuiltFrom, SoundIndex, BuildPromise}
 use Rattle.grid.specs.Inside.{NearBox, Gridded}
 use Rattle.grid.proofs.Gridding.{within}

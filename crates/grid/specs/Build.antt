@@ -1,14 +1,13 @@
 -- Document 01, "Refusal numbers": refusals 1, 23, 3, 2, 4, 5 and 6 in this order, and what the builder answers and leaves in its three tables.
-use Rattle.std.specs.Prelude.{Bool, true, false, cond, List, ℕ, ◌+◌, ◌*◌, ◌/◌, ◌%◌, ltb, eqb, length, Float}
+use Rattle.std.specs.Prelude.{Bool, true, false, cond, List, ℕ, ◌+◌, ◌*◌, ◌/◌, ◌%◌, ltb, eqb, length, Float, Option, None, Some, Result, Ok, Err}
 use Rattle.numbers.specs.Reals.{f0}
 use Rattle.plane.specs.Ranges.{is_coordinate, is_radius}
 use Rattle.spans.specs.Mesh.{first_bad}
-use Rattle.spans.specs.declared.Place.{Place}
-use Rattle.spans.specs.declared.Place.TheVariants.{Nowhere, At}
 use Rattle.cells.specs.Cover.{start_of, starts_of, members_table}
 use Rattle.grid.specs.declared.Grid.{Grid}
 use Rattle.grid.specs.declared.Header.{Header}
-use Rattle.grid.specs.declared.Built.{Built}
+use Rattle.refusals.specs.declared.Refusal.{Refusal}
+use Rattle.refusals.specs.Numbers.{number_of, told_of}
 use Rattle.grid.specs.Grid.{triangles_in, grid_of, cells_in, cover_of}
 use Rattle.grid.specs.Boxes.{is_boxed, boxes_of}
 use Rattle.grid.specs.Header.{header_of}
@@ -16,14 +15,14 @@ use Rattle.rules.specs.Ladder.{refuse, demand}
 use Rattle.rules.specs.Limits.{most, most_cells}
 
 -- No place was found.
-unfoldable pub is_nowhere : Place → Bool
-is_nowhere Nowhere = true
-is_nowhere (At k) = false
+unfoldable pub is_nowhere : Option ℕ → Bool
+is_nowhere None = true
+is_nowhere (Some k) = false
 
 -- The number of a place, 0 where there is none.
-unfoldable pub place_of : Place → ℕ
-place_of Nowhere = 0
-place_of (At k) = k
+unfoldable pub place_of : Option ℕ → ℕ
+place_of None = 0
+place_of (Some k) = k
 
 -- Which number of the mesh is told with refusal k: with 4 the first that is no coordinate, in mesh order; any other outcome tells 0.
 unfoldable pub told_with : ℕ → List Float → ℕ
@@ -62,6 +61,14 @@ refusal_of_members k lent =
     (refuse (ltb lent k) 6
     0)
 
+-- The builder's answer as document 01 numbers it: refusal 0 and the header, or a refusal and a header all zero. Refusal 4 tells the triangle and which of its
+-- nine numbers came first; all else tells 0 and 0.
+pub record Built : Type 0 where
+  pub refusal : ℕ
+  pub triangle : ℕ
+  pub number : ℕ
+  pub header : Header
+
 -- What the builder leaves: its answer and the tables of starts, members and boxes.
 pub record Outcome : Type 0 where
   pub built : Built
@@ -86,6 +93,11 @@ refused_by k p =
 -- The answer of an accepted build.
 unfoldable pub accepted_with : Header → Built
 accepted_with h = record { refusal = 0; triangle = 0; number = 0; header = h }
+
+-- How the answer is told: the header, or the refusal's number and the number of the mesh that it tells.
+unfoldable pub told : Result Header Refusal → Built
+told (Ok h) = accepted_with h
+told (Err e) = refused_by (number_of e) (told_of e)
 
 -- Refused by k, telling number p, with all tables untouched; where k is 0, what comes next.
 unfoldable pub unless : ℕ → ℕ → List ℕ → List ℕ → List Float → Outcome → Outcome

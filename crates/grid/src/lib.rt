@@ -9,10 +9,13 @@ ghost use Rattle.cells.specs.Inside.{Room, CountedAll, Ready, Filled, Fits};
 ghost use Rattle.grid.specs.Grid.{triangles_in, grid_of, cells_in, cells_of, cover_of, total_of};
 ghost use Rattle.grid.specs.Header.{header_of};
 ghost use Rattle.grid.specs.Boxes.{box_at, is_boxed, boxes_of};
-ghost use Rattle.grid.specs.Build.{told_with, refusal_of_numbers, refusal_of_mesh, refusal_of_grid};
-ghost use Rattle.grid.specs.Build.{refusal_of_members, outcome, refused_by, filled_of, gridded, build_of};
+ghost use Rattle.refusals.specs.Numbers.{code_of, told_in};
+ghost use Rattle.grid.specs.Build.{told, told_with, refusal_of_numbers, refusal_of_mesh, refusal_of_grid};
+ghost use Rattle.grid.specs.Build.{refusal_of_members, outcome, filled_of, gridded, build_of};
 ghost use Rattle.grid.specs.Index.{index_of, BuildPromise};
 ghost use Rattle.grid.specs.Inside.{NearBox, Gridded};
+
+use refusals::Refusal;
 
 // Where a grid begins, how large its cells are, and how many there are.
 #[derive(Clone, Copy)]
@@ -38,24 +41,8 @@ pub struct Header {
     pub r: f64,
 }
 
-// The builder's answer: refusal 0 and the header, or a refusal and a header all zero. Refusal 4 tells the triangle and which of its nine numbers
-// came first; all else tells 0 and 0.
-#[derive(Clone, Copy)]
-pub struct Built {
-    pub refusal: u32,
-    pub triangle: u32,
-    pub number: u32,
-    pub header: Header,
-}
-
-// What refuses a mesh, 0 if nothing does, and which of its numbers is told.
-#[derive(Clone, Copy)]
-pub struct Reason {
-    pub refusal: u32,
-    pub place: u32,
-}
-
-// The index of a mesh: starts, members and boxes hold its tables, and entries that the first two do not need stay. A refused call changes none.
+// The index of a mesh: its header; starts, members and boxes hold its tables, and entries that the first two do not need stay. A refused call changes none; 4
+// tells which number of the mesh came first.
 pub fn build(
     mesh: &[f64],
     floor: f64,
@@ -63,42 +50,14 @@ pub fn build(
     starts: &mut [u32],
     members: &mut [u32],
     boxes: &mut [f64],
-) -> Built
-    ensures boxes_after { outcome result starts.new members.new boxes.new
+) -> Result<Header, Refusal>
+    ensures boxes_after { outcome (told result) starts.new members.new boxes.new
         ≡ build_of mesh.now floor r starts.old members.old boxes.old }
     ensures build_promise { BuildPromise
-        (index_of mesh.now result.header starts.new members.new boxes.new) result.refusal }
+        (index_of mesh.now (told result).header starts.new members.new boxes.new) (told result).refusal }
 {
-    let w = refusal_of_mesh(mesh, floor, r, boxes);
-    let k = w.refusal;
-    let place = w.place;
-    if k != 0 {
-        return refused(k, place);
-    }
+    refusal_of_mesh(mesh, floor, r, boxes)?;
     build_grid(mesh, floor, r, starts, members, boxes)
-}
-
-// The answer of a refused call that tells one number of the mesh.
-fn refused(k: u32, place: u32) -> Built
-    ensures { result ≡ refused_by k place }
-{
-    let header = Header {
-        n: 0,
-        origin_x: 0.0,
-        origin_y: 0.0,
-        cell: 0.0,
-        columns: 0,
-        rows: 0,
-        floor: 0.0,
-        eps: 0.0,
-        r: 0.0,
-    };
-    Built {
-        refusal: k,
-        triangle: place / 9,
-        number: place % 9,
-        header,
-    }
 }
 
 // The box of triangle i, as the table has it.
@@ -124,64 +83,43 @@ pub fn is_boxed(mesh: &[f64], boxes: &[f64]) -> bool
 }
 
 // Refusals 1, 23, 3, 2 and 4.
-pub fn refusal_of_mesh(mesh: &[f64], floor: f64, r: f64, boxes: &[f64]) -> Reason
-    ensures { (result.refusal ≡ refusal_of_mesh mesh.now floor r boxes.now)
-        × (result.place ≡ told_with result.refusal mesh.now) }
+#[tactic(auto, using(rules::proofs::Ladder::ladder), unfolding(crate::specs::Build::refusal_of_mesh, crate::specs::Build::told_with, refusals::specs::Numbers::code_of, refusals::specs::Numbers::told_in, refusals::specs::Numbers::number_of, refusals::specs::Numbers::told_of))]
+pub fn refusal_of_mesh(mesh: &[f64], floor: f64, r: f64, boxes: &[f64]) -> Result<(), Refusal>
+    ensures code { code_of result ≡ refusal_of_mesh mesh.now floor r boxes.now }
+    ensures place { told_in result ≡ told_with (code_of result) mesh.now }
 {
     if mesh.len() % 9 != 0 {
-        return Reason {
-            refusal: 1,
-            place: 0,
-        };
+        return Err(Refusal::Length);
     }
     let n = mesh.len() / 9;
     if rules::MOST < n {
-        return Reason {
-            refusal: 1,
-            place: 0,
-        };
+        return Err(Refusal::Length);
     }
     if !is_boxed(mesh, boxes) {
-        return Reason {
-            refusal: 23,
-            place: 0,
-        };
+        return Err(Refusal::Boxes);
     }
     if n == 0 {
-        return Reason {
-            refusal: 3,
-            place: 0,
-        };
+        return Err(Refusal::Empty);
     }
     refusal_of_numbers(mesh, floor, r)
 }
 
 // Refusals 2 and 4.
-pub fn refusal_of_numbers(mesh: &[f64], floor: f64, r: f64) -> Reason
+#[tactic(auto, using(rules::proofs::Ladder::ladder, crate::proofs::Accepting::place_fits), unfolding(crate::specs::Build::refusal_of_numbers, crate::specs::Build::told_with, crate::specs::Build::is_nowhere, crate::specs::Build::place_of, refusals::specs::Numbers::code_of, refusals::specs::Numbers::told_in, refusals::specs::Numbers::number_of, refusals::specs::Numbers::told_of))]
+pub fn refusal_of_numbers(mesh: &[f64], floor: f64, r: f64) -> Result<(), Refusal>
     requires { length mesh.now ≤ 589824 }
-    ensures { (result.refusal ≡ refusal_of_numbers mesh.now floor r) × (result.place ≡ told_with result.refusal mesh.now) }
+    ensures code { code_of result ≡ refusal_of_numbers mesh.now floor r }
+    ensures place { told_in result ≡ told_with (code_of result) mesh.now }
 {
     if !plane::is_coordinate(floor) {
-        return Reason {
-            refusal: 2,
-            place: 0,
-        };
+        return Err(Refusal::Number);
     }
     if !plane::is_radius(r) {
-        return Reason {
-            refusal: 2,
-            place: 0,
-        };
+        return Err(Refusal::Number);
     }
     match spans::first_bad(mesh) {
-        spans::Place::Nowhere => Reason {
-            refusal: 0,
-            place: 0,
-        },
-        spans::Place::At(k) => Reason {
-            refusal: 4,
-            place: k as u32,
-        },
+        None => Ok(()),
+        Some(k) => Err(Refusal::Coordinate(k as u32)),
     }
 }
 
@@ -206,36 +144,40 @@ pub fn grid_of(mesh: &[f64], n: usize, r: f64) -> Grid
 }
 
 // Refusal 5.
-pub fn refusal_of_grid(columns: usize, rows: usize, lent: usize) -> u32
-    ensures { result ≡ refusal_of_grid columns rows lent }
+#[tactic(auto, using(rules::proofs::Ladder::ladder), unfolding(crate::specs::Build::refusal_of_grid, refusals::specs::Numbers::code_of, refusals::specs::Numbers::told_in, refusals::specs::Numbers::number_of, refusals::specs::Numbers::told_of))]
+pub fn refusal_of_grid(columns: usize, rows: usize, lent: usize) -> Result<(), Refusal>
+    ensures code { code_of result ≡ refusal_of_grid columns rows lent }
+    ensures place { told_in result ≡ 0 }
 {
     if rules::MOST < columns {
-        return 5;
+        return Err(Refusal::Starts);
     }
     if rules::MOST < rows {
-        return 5;
+        return Err(Refusal::Starts);
     }
     let cells = rows * columns;
     if rules::MOST_CELLS < cells {
-        return 5;
+        return Err(Refusal::Starts);
     }
     if lent < cells + 1 {
-        return 5;
+        return Err(Refusal::Starts);
     }
-    0
+    Ok(())
 }
 
 // Refusal 6.
-pub fn refusal_of_members(k: usize, lent: usize) -> u32
-    ensures { result ≡ refusal_of_members k lent }
+#[tactic(auto, using(rules::proofs::Ladder::ladder), unfolding(crate::specs::Build::refusal_of_members, refusals::specs::Numbers::code_of, refusals::specs::Numbers::told_in, refusals::specs::Numbers::number_of, refusals::specs::Numbers::told_of))]
+pub fn refusal_of_members(k: usize, lent: usize) -> Result<(), Refusal>
+    ensures code { code_of result ≡ refusal_of_members k lent }
+    ensures place { told_in result ≡ 0 }
 {
     if 16777216 < k {
-        return 6;
+        return Err(Refusal::Members);
     }
     if lent < k {
-        return 6;
+        return Err(Refusal::Members);
     }
-    0
+    Ok(())
 }
 
 // The index of a mesh that refusals 1, 23, 3, 2 and 4 pass.
@@ -246,18 +188,15 @@ fn build_grid(
     starts: &mut [u32],
     members: &mut [u32],
     boxes: &mut [f64],
-) -> Built
+) -> Result<Header, Refusal>
     requires { refusal_of_mesh mesh.now floor r boxes.old ≡ 0 }
-    ensures { outcome result starts.new members.new boxes.new
+    ensures { outcome (told result) starts.new members.new boxes.new
         ≡ gridded mesh.now (triangles_in mesh.now) (grid_of mesh.now (triangles_in mesh.now) r) floor r
         starts.old members.old boxes.old }
 {
     let n = mesh.len() / 9;
     let g = grid_of(mesh, n, r);
-    let k = refusal_of_grid(g.columns, g.rows, starts.len());
-    if k != 0 {
-        return refused(k, 0);
-    }
+    refusal_of_grid(g.columns, g.rows, starts.len())?;
     fill_grid(mesh, n, g, floor, r, starts, members, boxes)
 }
 
@@ -271,25 +210,16 @@ fn fill_grid(
     starts: &mut [u32],
     members: &mut [u32],
     boxes: &mut [f64],
-) -> Built
+) -> Result<Header, Refusal>
     requires gridded { Gridded mesh.now n g }
     requires g_in_bounds { (cells_in g + 1 ≤ length starts.old) × (length boxes.old ≡ n * 5) }
-    ensures { outcome result starts.new members.new boxes.new
+    ensures { outcome (told result) starts.new members.new boxes.new
         ≡ filled_of mesh.now n g floor r starts.old members.old boxes.old }
 {
-    let k = refusal_of_members(total(mesh, n, g), members.len());
-    if k != 0 {
-        return refused(k, 0);
-    }
+    refusal_of_members(total(mesh, n, g), members.len())?;
     tables(mesh, n, g, starts, members);
     fill_boxes(mesh, n, boxes);
-    let header = header_of(mesh, n, g, floor, r);
-    Built {
-        refusal: 0,
-        triangle: 0,
-        number: 0,
-        header,
-    }
+    Ok(header_of(mesh, n, g, floor, r))
 }
 
 // The box of each of n triangles, put into the table.
@@ -297,6 +227,7 @@ fn fill_boxes(mesh: &[f64], n: usize, boxes: &mut [f64])
     requires { (n * 9 ≤ length mesh.now) × (length boxes.old ≡ n * 5) × AllGood mesh.now }
     ensures { boxes.new ≡ boxes_of mesh.now n }
 {
+    // by index: triangle i is nine numbers of one table and five of the other
     for i in 0..n {
         let b = spans::box_of(mesh, i);
         fives::put(boxes, i, b.low_x, b.low_y, b.high_x, b.high_y, b.top);
@@ -347,6 +278,7 @@ pub fn total(mesh: &[f64], n: usize, g: Grid) -> usize
     ensures { result ≡ total_of mesh.now g n }
 {
     let mut t: usize = 0;
+    // by index: triangle i is nine numbers of the mesh
     for i in 0..n {
         t += cells::area(cells_of(mesh, g, i));
     }
@@ -374,6 +306,7 @@ fn count_all(mesh: &[f64], n: usize, g: Grid, starts: &mut [u32])
     ensures { CountedAll (cover_of mesh.now g) n starts.old starts.new }
 {
     let columns = g.columns;
+    // by index: triangle i is nine numbers of the mesh
     for i in 0..n {
         cells::count_cells(starts, columns, cells_of(mesh, g, i));
     }
@@ -388,6 +321,7 @@ fn fill(mesh: &[f64], n: usize, g: Grid, cells: usize, starts: &mut [u32], membe
 {
     let columns = g.columns;
     let mut i = n;
+    // by index: from the last triangle back, and its number is what is put
     while 0 < i {
         i -= 1;
         cells::place_cells(starts, members, columns, cells_of(mesh, g, i), i as u32);

@@ -13,7 +13,7 @@ use Rattle.grid.specs.Index.{Index, index_of}
 use Rattle.query.specs.declared.Patch.{Patch}
 use Rattle.query.proofs.Using.{walkable, usable_head}
 use Rattle.capsule.specs.declared.Capsule.{Capsule}
-use Rattle.ask.specs.declared.Answer.{Answer}
+use Rattle.ask.specs.Ask.{Answer}
 use Rattle.ask.specs.Ask.{refusal_of, ended, refused_by, answered_by, answer_of, asked_height}
 use Rattle.ask.proofs.Narrowing.{Narrow}
 use Rattle.ask.proofs.Answers.{passed, marks_all, height_refused}

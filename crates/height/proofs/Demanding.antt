@@ -17,7 +17,7 @@ use Rattle.query.specs.Looked.{looked_in}
 use Rattle.query.proofs.Patches.{patch_inside}
 use Rattle.query.proofs.Using.{usable_head}
 use Rattle.query.proofs.Looks.{looks_shared}
-use Rattle.ask.specs.declared.Answer.{Answer}
+use Rattle.ask.specs.Ask.{Answer}
 use Rattle.ask.specs.Ask.{at_floor, Outcome, ended, told_by}
 use Rattle.ask.proofs.Answers.{passed}
 use Rattle.ask.proofs.Demands.{height_walked, height_promise}

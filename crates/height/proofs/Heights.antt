@@ -1,4 +1,6 @@
 -- The best of a walk: it rises from the floor, to the height of the triangle that it names, and past none that is left above it.
+use Rattle.std.proofs.lemmas.Option.{same_Some}
+use Rattle.std.specs.Prelude.{None, Option, Some}
 use mathlib.Core.Bool.{Bool, true, false}
 use mathlib.Core.List.{List, [], ◌∷◌}
 use mathlib.Core.Logic.{◌⊎◌, inl, inr, ⊎_elim}
@@ -15,8 +17,7 @@ use Rattle.plane.specs.Ranges.{is_coordinate}
 use Rattle.rules.specs.Every.{times}
 use Rattle.plane.specs.declared.Touch.{Touch}
 use Rattle.plane.specs.declared.Contact.{Contact}
-use Rattle.plane.specs.declared.Contact.TheVariants.{Nothing, Height}
-use Rattle.plane.specs.Contacts.{exceeds_of, raised_to, raised_by}
+use Rattle.plane.specs.Contacts.{exceeds_of, raised_to, raised_by, at_height}
 use Rattle.plane.specs.declared.Best.{Best}
 use Rattle.grid.specs.Boxes.{box_at}
 use Rattle.walk.specs.Walk.{fold}
@@ -42,8 +43,8 @@ under b a z r l = ⊎_elim (λ e. rw e at l) (λ m. lt_goes_on b.height a.height
 rises_trans : (x y z : Best) → Rises x y → Rises y z → Rises x z
 rises_trans x y z r s = ⊎_elim (λ e. rw e r) (λ m. inr (under x y z.height r m)) s
 
-height_is : (y z : Float) (s t : Touch) → ◌≡◌ {A = Contact} (Height y s) (Height z t) → y ≡ z
-height_is y z s t g = cc
+height_is : (y z : Float) (s t : Touch) → ◌≡◌ {A = Option Contact} (at_height y s) (at_height z t) → y ≡ z
+height_is y z s t g = ap (λ (c : Contact). c.height) (same_Some _ _ g)
 
 -- beside a number the order decides
 beside : (z : Float) (b : Best) (e : Bool) → Real b → lt b.height z ≡ e → exceeds_of z b.height ≡ e
@@ -54,25 +55,25 @@ module _ (mesh boxes : List Float) (q : Capsule) where
   -- a triangle that is skipped, or has no contact, or one that is not above, leaves the best; else the best is its contact, and names it
   record Skipped (b : Best) (i : ℕ) : Type 0 where
     same : disk_step mesh boxes q b i ≡ b
-    why : (z : Float) (t : Touch) → height_of mesh q i ≡ Height z t → (le (box_at boxes i).top b.height ≡ true) ⊎ (lt b.height z ≡ false)
+    why : (z : Float) (t : Touch) → height_of mesh q i ≡ at_height z t → (le (box_at boxes i).top b.height ≡ true) ⊎ (lt b.height z ≡ false)
 
   record Raised (b : Best) (i : ℕ) : Type 0 where
     height : Float
     touch : Touch
-    met : height_of mesh q i ≡ Height height touch
+    met : height_of mesh q i ≡ at_height height touch
     new : disk_step mesh boxes q b i ≡ record { height = height; triangle = i; kind = touch.kind; which = touch.which }
     above : lt b.height height ≡ true
 
-  by_contact : (b : Best) (i : ℕ) (k : Contact) → Real b → height_of mesh q i ≡ k → disk_step mesh boxes q b i ≡ raised_by k i b → Skipped b i ⊎ Raised b i
+  by_contact : (b : Best) (i : ℕ) (k : Option Contact) → Real b → height_of mesh q i ≡ k → disk_step mesh boxes q b i ≡ raised_by k i b → Skipped b i ⊎ Raised b i
   unfolding raised_by raised_to
-  by_contact b i Nothing n e f = inl (record { same = f; why = λ z t g. absurd (none z t (sym e ∙ g)) })
+  by_contact b i None n e f = inl (record { same = f; why = λ z t g. absurd (none z t (sym e ∙ g)) })
     where
-      none : (z : Float) (t : Touch) → ◌≡◌ {A = Contact} Nothing (Height z t) → ⊥
+      none : (z : Float) (t : Touch) → ◌≡◌ {A = Option Contact} None (at_height z t) → ⊥
       none z t g = let k : ◌≡◌ {A = ℕ} 0 1 = cc in omega arith
-  by_contact b i (Height z t) n e f =
-      by_test (lt b.height z)
-      (λ l. inr (record { height = z; touch = t; met = e; new = rw (beside z b true n l) at f; above = l }))
-      (λ l. inl (record { same = rw (beside z b false n l) at f; why = λ y s g. inr (rw (height_is y z s t (sym g ∙ e)) l) }))
+  by_contact b i (Some m) n e f =
+      by_test (lt b.height m.height)
+      (λ l. inr (record { height = m.height; touch = m.touch; met = e; new = rw (beside m.height b true n l) at f; above = l }))
+      (λ l. inl (record { same = rw (beside m.height b false n l) at f; why = λ y s g. inr (rw (height_is y m.height s m.touch (sym g ∙ e)) l) }))
 
   step_is : (b : Best) (i : ℕ) → Real b → Skipped b i ⊎ Raised b i
   unfolding disk_step
@@ -101,7 +102,7 @@ module _ (mesh boxes : List Float) (q : Capsule) where
   pub record One (is : List ℕ) (b v : Best) : Type 0 where
     pub above : lt b.height v.height ≡ true
     pub looked : 0 < times v.triangle is
-    pub computed : height_of mesh q v.triangle ≡ Height v.height (record { kind = v.kind; which = v.which })
+    pub computed : height_of mesh q v.triangle ≡ at_height v.height (record { kind = v.kind; which = v.which })
 
   one_of : (i : ℕ) (is : List ℕ) (b : Best) → Raised b i → (v : Best) → v ≡ disk_step mesh boxes q b i → One (i ∷ is) b v
   unfolding times
@@ -120,7 +121,7 @@ module _ (mesh boxes : List Float) (q : Capsule) where
       (fold_is is (disk_step mesh boxes q b i) r.1)
 
   -- the triangle that was just looked at: its top or its height is not above what the walk ends at
-  last_none : (is : List ℕ) (b : Best) → Real b → (i : ℕ) (z : Float) (t : Touch) → height_of mesh q i ≡ Height z t
+  last_none : (is : List ℕ) (b : Best) → Real b → (i : ℕ) (z : Float) (t : Touch) → height_of mesh q i ≡ at_height z t
       → lt (fold (disk_step mesh boxes q) (disk_step mesh boxes q b i) is).height (box_at boxes i).top ≡ true
       → lt (fold (disk_step mesh boxes q) (disk_step mesh boxes q b i) is).height z ≡ true → ⊥
   last_none is b n i z touch g above higher =
@@ -134,7 +135,7 @@ module _ (mesh boxes : List Float) (q : Capsule) where
       (λ s. lt_never_same z (rw (s.new, height_is _ z _ touch (sym s.met ∙ g)) at (under _ _ z f higher)))
       (step_is b i n)
 
-  pub fold_none : (is : List ℕ) (b : Best) → Real b → (i : ℕ) → 0 < times i is → (z : Float) (touch : Touch) → height_of mesh q i ≡ Height z touch
+  pub fold_none : (is : List ℕ) (b : Best) → Real b → (i : ℕ) → 0 < times i is → (z : Float) (touch : Touch) → height_of mesh q i ≡ at_height z touch
       → lt (fold (disk_step mesh boxes q) b is).height (box_at boxes i).top ≡ true → lt (fold (disk_step mesh boxes q) b is).height z ≡ true → ⊥
   unfolding fold times
   fold_none [] b n i t z touch g above higher = absurd (omega arith)

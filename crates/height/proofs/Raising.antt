@@ -1,4 +1,5 @@
 -- One triangle of the walk, arm by arm.
+use Rattle.std.specs.Prelude.{Option}
 use mathlib.Core.Bool.{true, false}
 use mathlib.Core.List.{List}
 use mathlib.Core.Path.{◌≡◌, refl, ap, sym, ◌∙◌}
@@ -26,9 +27,9 @@ module _ (mesh boxes : List Float) (q : Capsule) (best : Best) (i : ℕ) (b : Bo
   unfolding disk_step
   raise_skips e = taken _ _ _ _ (test_is ∙ e) refl
 
-  pub raise_takes : le b.top best.height ≡ false → (t : Triangle) (k : Contact) (v : Best) → t ≡ triangle_of mesh i
+  pub raise_takes : le b.top best.height ≡ false → (t : Triangle) (k : Option Contact) (v : Best) → t ≡ triangle_of mesh i
       → k ≡ on_top best.height (highest_in q t) → v ≡ raised_by k i best → v ≡ disk_step mesh boxes q best i
   unfolding disk_step height_of
   raise_takes e t k v f c d =
       left _ _ _ _ (test_is ∙ e)
-      (d ∙ (ap (λ (u : Contact). raised_by u i best) c ∙ (raised_beside (highest_in q t) i best ∙ ap (λ (u : Triangle). raised_by (highest_in q u) i best) f)))
+      (d ∙ (ap (λ (u : Option Contact). raised_by u i best) c ∙ (raised_beside (highest_in q t) i best ∙ ap (λ (u : Triangle). raised_by (highest_in q u) i best) f)))

@@ -2,7 +2,7 @@
 use Rattle.std.specs.Prelude.{Bool, true, ◌&&◌, List, ℕ, Float}
 use Rattle.plane.specs.Ranges.{is_radius, is_point}
 use Rattle.grid.specs.Index.{Index}
-use Rattle.ask.specs.declared.Answer.{Answer}
+use Rattle.ask.specs.Ask.{Answer}
 use Rattle.ask.specs.Ask.{Outcome, asked_height}
 use Rattle.height.specs.Sweep.{Sweep, patch_for, capsule_for, disk_step}
 

@@ -1,5 +1,5 @@
 -- Document 01, "Questions": the swept-disk height, from p to q with radius r, over the triangles that its walk looks at.
-use Rattle.std.specs.Prelude.{cond, List, ℕ, Float}
+use Rattle.std.specs.Prelude.{cond, List, ℕ, Float, Option}
 use Rattle.std.specs.Float.Ieee.{le}
 use Rattle.plane.specs.declared.Contact.{Contact}
 use Rattle.plane.specs.Mesh.{triangle_of}
@@ -37,7 +37,7 @@ abbrev pub capsule_for : Header → Sweep → Capsule
 capsule_for h s = capsule_of s.px s.py s.qx s.qy s.r h.eps
 
 -- The computed height of triangle i in a capsule: none, or a height.
-unfoldable pub height_of : List Float → Capsule → ℕ → Contact
+unfoldable pub height_of : List Float → Capsule → ℕ → Option Contact
 height_of mesh q i = highest_in q (triangle_of mesh i)
 
 -- One triangle of the walk: it counts only where its top, as the box table has it, is above the best so far.

@@ -1,11 +1,11 @@
 // The swept-disk height: the highest part point under a disk swept from p to q, at least the floor.
 #![tactic(auto)]
 
-ghost use Rattle.std.specs.Prelude.{◌≡◌, ◌+◌, ◌*◌, ◌≤◌, ◌<◌, length};
-ghost use Rattle.walk.specs.Walk.{block, fold, next_stamp};
-ghost use Rattle.walk.specs.Inside.{seen, look, Below, Room, Walkable};
+ghost use Rattle.std.specs.Prelude.{◌≡◌, ◌*◌, ◌≤◌, length, ⊤};
+ghost use Rattle.walk.specs.Walk.{next_stamp};
+ghost use Rattle.walk.specs.Inside.{Tabled};
 ghost use Rattle.grid.specs.Index.{index_of};
-ghost use Rattle.ask.specs.Ask.{ended};
+ghost use Rattle.ask.specs.Ask.{ended, answer_told};
 ghost use Rattle.height.specs.Demand.{DiskPromise};
 ghost use Rattle.height.specs.Sweep.{sweep, patch_for, disk_step, capsule_walk, sweep_walk};
 ghost use Rattle.height.specs.Inside.{walk_left, Sweepable};
@@ -16,7 +16,8 @@ use capsule::Capsule;
 use grid::Header;
 use plane::Best;
 use query::Patch;
-use walk::Seen;
+use refusals::Refusal;
+use walk::{Look, Seen};
 
 // What the walk of a sweep found, how many triangles it looked at, and its stamp.
 #[derive(Clone, Copy)]
@@ -40,33 +41,21 @@ pub fn max_height(
     qx: f64,
     qy: f64,
     r: f64,
-) -> Answer
-    ensures marks_after { ended result marks.new
+) -> Result<Answer, Refusal>
+    ensures marks_after { ended (answer_told result stamp) marks.new
         ≡ max_height_of (index_of mesh.now h starts.now members.now boxes.now) marks.old stamp
         (sweep px py qx qy r) }
     ensures disk_promise { DiskPromise (index_of mesh.now h starts.now members.now boxes.now)
-        marks.old stamp (sweep px py qx qy r) result }
+        marks.old stamp (sweep px py qx qy r) (answer_told result stamp) }
 {
     let p = query::patch_of(h, px, py, qx, qy, r);
     let asked = is_sweep(px, py, qx, qy, r);
     let mut list = [0u32; 2048];
-    let heard = ask::refusal(
+    let count = ask::refusal(
         mesh, h, starts, members, boxes, marks, stamp, p, asked, true, &mut list,
-    );
-    let n = heard.refusal;
-    if n != 0 {
-        return Answer {
-            refusal: n,
-            height: 0.0,
-            count: 0,
-            stamp,
-            triangle: 0,
-            kind: 0,
-            which: 0,
-        };
-    }
-    let listed = heard.count <= 2048;
-    let ends = [0u32, heard.count];
+    )?;
+    let listed = count <= 2048;
+    let ends = [0u32, count];
     let s = sweep_in(
         mesh,
         h,
@@ -79,15 +68,14 @@ pub fn max_height(
         query::narrowed(listed, p),
     );
     let best = s.best;
-    Answer {
-        refusal: 0,
+    Ok(Answer {
         height: best.height,
         count: s.count,
         stamp: s.stamp,
         triangle: best.triangle,
         kind: best.kind,
         which: best.which,
-    }
+    })
 }
 
 // The same walk where nothing is left to refuse.
@@ -171,8 +159,9 @@ fn sweep_in(
         },
     };
     let next = walk::next_stamp(marks, stamp);
-    let found = visit(
-        mesh, starts, members, boxes, marks, next, columns, p, q, first,
+    let disk = Disk { mesh, boxes, q };
+    let found = walk::visit(
+        &disk, starts, members, marks, next, columns, p.x0, p.x1, p.y0, p.y1, first,
     );
     let best = found.best;
     Swept {
@@ -182,97 +171,38 @@ fn sweep_in(
     }
 }
 
-// The best so far with triangle i.
-fn raise(mesh: &[f64], boxes: &[f64], q: Capsule, best: Best, i: u32) -> Best
-    requires { (9 * i + 9 ≤ length mesh.now) × (5 * i + 5 ≤ length boxes.now) }
-    ensures { result ≡ disk_step mesh.now boxes.now q best i }
-{
-    let b = grid::box_at(boxes, i as usize);
-    if b.top <= best.height {
-        return best;
-    }
-    plane::raise_by(
-        capsule::highest_above(q, plane::triangle_at(mesh, i as usize), best.height),
-        i,
-        best,
-    )
+// The sweep's question at a triangle: the tables of the part, and the capsule.
+#[derive(Clone, Copy)]
+pub struct Disk<'a> {
+    pub mesh: &'a [f64],
+    pub boxes: &'a [f64],
+    pub q: Capsule,
 }
 
-// Looks at triangle i, unless its mark is the stamp.
-fn look_at(
-    mesh: &[f64],
-    boxes: &[f64],
-    marks: &mut [u32],
-    stamp: u32,
-    q: Capsule,
-    s: Seen,
-    i: u32,
-) -> Seen
-    requires { (length mesh.now ≡ length marks.old * 9) × (i < length marks.old) × Room stamp (seen marks.old s)
-        × (length boxes.now ≡ length marks.old * 5) }
-    ensures { seen marks.new result ≡ look stamp (disk_step mesh.now boxes.now q) (seen marks.old s) i }
-{
-    let count = s.count;
-    let best = s.best;
-    if !walk::fresh(marks, stamp, i as usize) {
-        return s;
-    }
-    Seen {
-        count: count + 1,
-        best: raise(mesh, boxes, q, best, i),
-    }
-}
+impl<'a> Look for Disk<'a> {
+    type Found = Best;
 
-// The step over one cell: looks at each of its numbers.
-fn visit_cell(
-    mesh: &[f64],
-    boxes: &[f64],
-    part: &[u32],
-    marks: &mut [u32],
-    stamp: u32,
-    q: Capsule,
-    s: Seen,
-) -> Seen
-    requires { (length mesh.now ≡ length marks.old * 9) × Below (length marks.old) part.now × Room stamp (seen marks.old s)
-        × (length boxes.now ≡ length marks.old * 5) }
-    ensures { seen marks.new result ≡ fold (look stamp (disk_step mesh.now boxes.now q)) (seen marks.old s) part.now }
-{
-    let mut found = s;
-    for j in 0..part.len() {
-        found = look_at(mesh, boxes, marks, stamp, q, found, part[j]);
-    }
-    found
-}
+    ghost fits = { λ d. Tabled d.mesh.now d.boxes.now };
 
-// The walk over the cells of a patch: rows, then columns, then the numbers of each cell.
-pub fn visit(
-    mesh: &[f64],
-    starts: &[u32],
-    members: &[u32],
-    boxes: &[f64],
-    marks: &mut [u32],
-    stamp: u32,
-    columns: usize,
-    p: Patch,
-    q: Capsule,
-    s: Seen,
-) -> Seen
-    requires { (length mesh.now ≡ length marks.old * 9)
-        × Walkable starts.now members.now (length marks.old) columns p.x0 p.x1 p.y0 p.y1
-        × Room stamp (seen marks.old s) × (length boxes.now ≡ length marks.old * 5) }
-    ensures { seen marks.new result ≡ fold (look stamp (disk_step mesh.now boxes.now q)) (seen marks.old s)
-        (block starts.now members.now columns p.x0 p.x1 p.y0 p.y1) }
-{
-    let x0 = p.x0;
-    let x1 = p.x1;
-    let y0 = p.y0;
-    let y1 = p.y1;
-    let mut found = s;
-    for y in y0..y1 {
-        for x in x0..x1 {
-            let part = walk::stretch(starts, members, y * columns + x);
-            found = visit_cell(mesh, boxes, part, marks, stamp, q, found);
+    ghost sane = { λ d count best. ⊤ };
+
+    ghost step = { λ d. disk_step d.mesh.now d.boxes.now d.q };
+
+    // The best so far with triangle i.
+    #[inline]
+    fn look(&self, _: u32, best: Best, i: u32) -> Best {
+        let b = grid::box_at(self.boxes, i as usize);
+        if b.top <= best.height {
+            return best;
         }
+        plane::raise_by(
+            capsule::highest_above(
+                self.q,
+                plane::triangle_at(self.mesh, i as usize),
+                best.height,
+            ),
+            i,
+            best,
+        )
     }
-    found
 }

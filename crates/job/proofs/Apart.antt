@@ -7,10 +7,10 @@ use lib.Ieee.{Float}
 use lib.ListN.{length}
 use Rattle.fields.specs.Little.{value}
 use Rattle.job.specs.Layout.{triangles, questions, numbers, wide}
-use Rattle.job.specs.Reader.{refusal_of_numbers, refusal_of, Outcome, told_with, read_of, SoundExactly, NeverTakenForAPart}
+use Rattle.job.specs.Reader.{refusal_of_numbers, refusal_of, Outcome, told_with, read_of, NeverTakenForAPart}
 use Rattle.job.proofs.Heads.{head_apart}
 use Rattle.job.proofs.Ladder.{sound, head_of}
-use Rattle.job.proofs.Reading.{refusal_is, refused_is, exactly}
+use Rattle.job.proofs.Reading.{refusal_is, refused_is}
 
 module _ (bytes : List ℕ) (mesh qs : List Float) where
   told-19 : (xs : List ℕ) → (read_of xs mesh qs).answer.refusal ≡ 19 → (read_of xs mesh qs).answer.n ≡ told_with 19 xs
@@ -26,9 +26,3 @@ module _ (bytes : List ℕ) (mesh qs : List Float) where
       let s = sound bytes nroom mroom (sym (refusal_is bytes mesh qs) ∙ sym (ap (λ (a : Outcome). a.answer.refusal) p) ∙ z) in
       head_apart wide 1 nroom mroom (λ xs. refusal_of_numbers xs (numbers (value triangles xs) (value questions xs))) bytes _ _
       (λ xs. refusal_is xs mesh qs) told-19 (omega arith) (head_of bytes nroom mroom s)
-
-  -- all that reading a job promises
-  pub whole_contract : (o : Outcome) → o ≡ read_of bytes mesh qs →
-      (o ≡ read_of bytes mesh qs)
-      × (SoundExactly bytes (length mesh / 9) (length qs / 5) o.answer.refusal × (o.answer.refusal ≡ 0 → NeverTakenForAPart bytes mesh qs))
-  whole_contract o p = (p, (exactly bytes mesh qs o p, never_a_part o p))

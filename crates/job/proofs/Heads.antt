@@ -2,25 +2,24 @@
 -- never taken for one.
 use mathlib.Core.Bool.{Bool, true, false, not}
 use mathlib.Core.List.{List}
-use mathlib.Core.Path.{◌≡◌, refl, ap, sym, ◌∙◌}
+use mathlib.Core.Path.{◌≡◌, refl, sym, ◌∙◌}
 use Prim.Native.Nat.{ℕ, zero, suc, ◌+◌, ◌*◌, ◌≤◌, ◌<◌}
 use native.Mathlib.Nat.{mul-le-mul_right}
 use native.Mathlib.Omega.{arith}
-use borrow.Author.Tests.{eq-eqb, eqb-true, eqb-false, le-ltb, ltb-false, ne_eqb, not-false}
+use borrow.Author.Tests.{eqb-true, eqb-false, le-ltb, ltb-false, ne_eqb, not-false}
 use lib.Dec.{eqb, lit<}
 use lib.ListN.{length, take}
 use Rattle.rules.proofs.Branches.{taken, left}
 use Rattle.fields.specs.Little.{Field, value}
 use Rattle.rules.specs.Ladder.{refuse}
 use Rattle.fields.specs.Room.{too_many}
-use Rattle.fields.specs.Length.{whole_in, length_rule, refuse_length}
+use Rattle.fields.specs.Length.{refuse_length}
 use Rattle.fields.specs.Copies.{ToldApart}
-use Rattle.fields.specs.declared.Shape.{Shape}
 use Rattle.fields.specs.declared.Length.{Length}
 use Rattle.fields.specs.declared.Length.TheVariants.{Short, Exact, Surplus}
 use Rattle.rules.proofs.Ladder.{refuse_next, refused_not, refused_later, agrees}
 use Rattle.fields.proofs.Room.{room_for, room_enough}
-use Rattle.fields.proofs.Lengths.{exact_only, short_only, rung_exact, rung_told}
+use Rattle.fields.proofs.Lengths.{exact_only, short_only, rung_exact}
 use Rattle.fields.proofs.Copies.{Ladder, said, value_head, told_apart}
 use Rattle.job.specs.Layout.{mark, version, zero_byte, triangles, questions, letters, head_bytes, shape, bytes_of}
 use Rattle.job.specs.Head.{refusal_of_length, refusal_of_counts, refusal_of_head, shape_in, told_in, Headed}
@@ -41,22 +40,11 @@ last_rung (Short c) late h = refl
 last_rung Surplus late h = refl
 last_rung Exact late h = absurd (h refl)
 
--- ---- the count that is told
+-- ---- no count is told
 module _ (w : ℕ) (bytes : List ℕ) (k : ℕ) where
   pub none_told : (k ≡ 19 → ⊥) → 0 ≡ told_in w k bytes
   unfolding told_in
   none_told h = left _ _ _ _ (ne_eqb k 19 h) refl
-
-  pub whole_told : (c n m : ℕ) (s : Shape) → k ≡ 19 → n ≡ value triangles bytes → m ≡ value questions bytes → s ≡ shape w n m
-      → c ≡ whole_in s (length bytes) → c ≡ told_in w k bytes
-  unfolding told_in
-  whole_told c n m s z p q i e = taken _ _ _ _ (eq-eqb k 19 z) (e ∙ ap (λ (t : Shape). whole_in t (length bytes)) (i ∙ rw (p, q)))
-
--- ---- what the length decides
-pub length_refused : (w : ℕ) (bytes : List ℕ) (n m : ℕ) (s : Shape) → s ≡ shape w n m → (r : Length) (k late : ℕ) → r ≡ length_rule s (length bytes)
-    → k ≡ refuse_length r late → k ≡ refusal_of_length w bytes n m late
-unfolding refusal_of_length
-length_refused w bytes n m s i r k late p e = rung_told r _ k _ (p ∙ ap (λ (t : Shape). length_rule t (length bytes)) i) e
 
 module _ (w v : ℕ) (bytes : List ℕ) (nroom mroom late : ℕ) where
   -- a job that is not refused

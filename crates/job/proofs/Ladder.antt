@@ -15,7 +15,7 @@ use Rattle.job.specs.Head.{Headed}
 use Rattle.job.specs.Reader.{number_of, refusal_of_numbers, refusal_of, Sound}
 use Rattle.job.proofs.Heads.{headed, head_cut, head_passes}
 
-never-19 : (b : Bool) → refuse b 20 0 ≡ 19 → ⊥
+pub never-19 : (b : Bool) → refuse b 20 0 ≡ 19 → ⊥
 unfolding refuse
 never-19 true e = omega arith
 never-19 false e = omega arith

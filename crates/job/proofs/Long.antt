@@ -18,7 +18,7 @@ use Rattle.fields.proofs.Lengths.{rung_surplus}
 use Rattle.job.specs.Layout.{mark, version, zero_byte, triangles, questions, bytes_of, shape, wide}
 use Rattle.job.specs.Head.{refusal_of_length, refusal_of_counts, refusal_of_head}
 use Rattle.job.specs.Reader.{refusal_of, ended, refused_by, read_of}
-use Rattle.job.specs.declared.Read.{Read}
+use Rattle.job.specs.Reader.{Read}
 use Rattle.job.proofs.Ladder.{sound, cut_only}
 use Rattle.job.proofs.Heads.{none_told}
 use Rattle.job.proofs.Reading.{refused_is}

@@ -13,10 +13,14 @@ use Rattle.fields.specs.Little.{value}
 use Rattle.fields.specs.Rows.{finite, row}
 use Rattle.job.specs.Layout.{triangles, questions, numbers, mesh_from, questions_from, bytes_of, wide}
 use Rattle.job.specs.Head.{refusal_of_head, Headed}
-use Rattle.job.specs.Reader.{number_of, refusal_of_numbers, refusal_of, Outcome, ended, refused_by, accepted_of, read_of, SoundExactly}
-use Rattle.job.specs.declared.Read.{Read}
-use Rattle.job.proofs.Heads.{headed, head_refused, head_passes}
-use Rattle.job.proofs.Ladder.{sound, accepted, cut_only}
+use Rattle.std.specs.Prelude.{Err}
+use Rattle.refusals.specs.Numbers.{code_of, told_in}
+use Rattle.refusals.specs.declared.Refusal.{Refusal}
+use Rattle.refusals.proofs.Named.{numbered}
+use Rattle.job.specs.Reader.{number_of, refusal_of_numbers, refusal_of, Outcome, told, ended, refused_by, told_with, accepted_of, read_of, SoundExactly}
+use Rattle.job.specs.Reader.{Read}
+use Rattle.job.proofs.Heads.{headed, head_refused, head_passes, none_told}
+use Rattle.job.proofs.Ladder.{sound, accepted, never-19}
 
 -- ---- the refusal, in the code's two steps
 module _ (bytes : List ℕ) (nroom mroom k : ℕ) (e : k ≡ refusal_of_head wide 1 bytes nroom mroom 0) where
@@ -32,6 +36,11 @@ module _ (bytes : List ℕ) (nroom mroom k : ℕ) (e : k ≡ refusal_of_head wid
         → r ≡ refusal_of bytes nroom mroom
     unfolding refusal_of
     refused_last n m r p q f = f ∙ (rw (p, q) (head_passes wide 1 bytes nroom mroom head_whole _))
+
+-- the numbers tell nothing
+pub last_told : (bytes : List ℕ) (count k : ℕ) → k ≡ refusal_of_numbers bytes count → 0 ≡ told_with k bytes
+unfolding refusal_of_numbers
+last_told bytes count k e = none_told wide bytes k (λ (z : k ≡ 19). never-19 _ (sym e ∙ z))
 
 module _ (bytes : List ℕ) (mesh qs : List Float) where
   pub decoded_is : (n m : ℕ) (f r : Float) (mesh' qs' : List Float) → f ≡ number_of bytes 0 → r ≡ number_of bytes 1
@@ -72,10 +81,6 @@ module _ (bytes : List ℕ) (mesh qs : List Float) where
     pub refused_answer : (a : Read) → (k ≡ 0 → ⊥) → a ≡ refused_by k bytes → ended a mesh qs ≡ read_of bytes mesh qs
     refused_answer a h p = ap (λ (b : Read). ended b mesh qs) p ∙ refused_is h
 
-    -- 19 is given to a head only
-    pub head_stands : k ≡ 19 → 14 ≤ length bytes
-    head_stands z = omega (arith, (cut_only bytes _ _ (sym e ∙ z)).0)
-
     module _ (z : k ≡ 0) where
       pub accepted_is : (n m : ℕ) (o : Outcome) → n ≡ value triangles bytes → m ≡ value questions bytes → o ≡ accepted_of bytes n m mesh qs
           → o ≡ read_of bytes mesh qs
@@ -92,3 +97,11 @@ module _ (bytes : List ℕ) (mesh qs : List Float) where
       ready n m p q =
           let s = sound bytes _ _ (sym e ∙ z) in
           ((omega (arith, s.whole), omega (arith, s.few.1), omega (arith, s.few_questions.1)), λ i h. s.finite_all i (omega arith))
+
+-- a reading that was refused, and what its refusal tells
+pub refused_told : (A : Type 0) (bytes : List ℕ) (mesh qs : List Float) (r : Refusal)
+    → code_of {A = A} (Err r) ≡ refusal_of bytes (length mesh / 9) (length qs / 5)
+    → told_in {A = A} (Err r) ≡ told_with (code_of {A = A} (Err r)) bytes
+    → ended (told (Err r)) mesh qs ≡ read_of bytes mesh qs
+unfolding code_of told_in
+refused_told A bytes mesh qs r e t = refused_answer bytes mesh qs _ e (told (Err r)) (λ z. omega (arith, numbered r)) (rw t)

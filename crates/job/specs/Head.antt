@@ -38,7 +38,11 @@ refusal_of_head w v bytes nroom mroom late =
 abbrev pub shape_in : ℕ → List ℕ → Shape
 shape_in w bytes = shape w (value triangles bytes) (value questions bytes)
 
--- how many triangles are told with refusal k: with 19 those that stand whole before the cut, else none
+-- how many triangles are told with refusal k of a job of n triangles and m questions: with 19 those that stand whole before the cut, else none
+unfoldable pub told_of_counts : ℕ → ℕ → ℕ → ℕ → List ℕ → ℕ
+told_of_counts w n m k bytes = cond (eqb k 19) (whole_in (shape w n m) (length bytes)) 0
+
+-- the same of the counts that these bytes hold
 unfoldable pub told_in : ℕ → ℕ → List ℕ → ℕ
 told_in w k bytes = cond (eqb k 19) (whole_in (shape_in w bytes) (length bytes)) 0
 

@@ -1,6 +1,8 @@
 -- Document 01, "The job file": which jobs are refused, and what reading one answers and leaves in the lent tables.
-use Rattle.std.specs.Prelude.{true, cond, ◌≡◌, List, ◌++◌, ℕ, ◌*◌, ◌/◌, ◌≤◌, ◌<◌, eqb, Float, length, drop}
+use Rattle.std.specs.Prelude.{true, cond, ◌≡◌, List, ◌++◌, ℕ, ◌*◌, ◌/◌, ◌≤◌, ◌<◌, eqb, Float, length, drop, Result, Ok, Err}
 use Rattle.std.specs.Float.{binary64}
+use Rattle.refusals.specs.Numbers as refusals
+use Rattle.refusals.specs.declared.Refusal.{Refusal}
 use Rattle.std.specs.Float.Ieee.{of_bits}
 use Rattle.numbers.specs.Reals.{f0}
 use Rattle.fields.specs.Little.{value}
@@ -11,7 +13,7 @@ use Rattle.fields.specs.Copies.{ToldApart}
 use Rattle.fields.specs.declared.Shape.{Shape}
 use Rattle.job.specs.Layout.{mark, version, zero_byte, triangles, questions, number, letters, wide, numbers, mesh_from, questions_from, bytes_of}
 use Rattle.job.specs.Head.{refusal_of_head, shape_in, told_in}
-use Rattle.job.specs.declared.Read.{Read}
+use Rattle.job.specs.declared.Job.{Job}
 
 -- number k of a job, from its bits
 unfoldable pub number_of : List ℕ → ℕ → Float
@@ -28,6 +30,18 @@ refusal_of bytes nroom mroom =
     (refusal_of_numbers bytes (numbers (value triangles bytes) (value questions bytes)))
 
 -- ---- reading
+
+-- The answer by its numbers: a refused job has zeros beside its number, but that 19 tells in n how many triangles stand whole before the cut.
+pub record Read : Type 0 where
+  pub refusal : ℕ
+  pub n : ℕ
+  pub m : ℕ
+  pub floor : Float
+  pub radius : Float
+
+abbrev pub told : Result Job Refusal → Read
+told (Ok j) = record { refusal = 0; n = j.n; m = j.m; floor = j.floor; radius = j.radius }
+told (Err r) = record { refusal = refusals.number_of r; n = refusals.told_of r; m = 0; floor = f0; radius = f0 }
 
 -- the answer, and both lent tables afterwards
 pub record Outcome : Type 0 where

@@ -14,10 +14,13 @@ use Rattle.rules.proofs.Ladder.{refuse_here, refuse_next, agrees, differs}
 use Rattle.job.specs.Layout.{triangles, questions, mesh_from, questions_from, bytes_of, narrow}
 use Rattle.job.specs.Head.{refusal_of_head, told_in, Headed}
 use Rattle.job.specs.Reader as version1
-use Rattle.job.proofs.Heads.{headed, head_cut, head_passes, head_apart}
-use Rattle.job_um.specs.Reader.{number_of, refusal_of, Outcome, ended, refused_by, accepted_of, read_of}
+use Rattle.job.proofs.Heads.{headed, head_passes, head_apart}
+use Rattle.std.specs.Prelude.{Err}
+use Rattle.refusals.specs.Numbers as refusals
+use Rattle.refusals.specs.declared.Refusal.{Refusal}
+use Rattle.refusals.proofs.Named.{numbered}
+use Rattle.job_um.specs.Reader.{number_of, refusal_of, Outcome, Read, told, ended, refused_by, accepted_of, read_of}
 use Rattle.job_um.specs.Reader.{SoundExactly, NeverTakenForAPart, OtherVersion, AcceptedPromise}
-use Rattle.job_um.specs.declared.Read.{Read}
 
 -- ---- the other version
 other_version : (bytes : List ℕ) (nroom mroom : ℕ) → Headed narrow 2 bytes nroom mroom → OtherVersion bytes
@@ -42,7 +45,7 @@ module _ (bytes : List ℕ) (mesh qs : List ℤ) where
       (λ t. sym (eqb-true _ 0 t))
       (λ t. refl)
 
-  exactly : (o : Outcome) → o ≡ read_of bytes mesh qs → SoundExactly bytes (length mesh / 9) (length qs / 5) o.answer.refusal
+  pub exactly : (o : Outcome) → o ≡ read_of bytes mesh qs → SoundExactly bytes (length mesh / 9) (length qs / 5) o.answer.refusal
   unfolding refusal_of
   exactly o p =
       let e = ap (λ (a : Outcome). a.answer.refusal) p ∙ refusal_is in
@@ -55,10 +58,6 @@ module _ (bytes : List ℕ) (mesh qs : List ℤ) where
 
     pub refused_answer : (a : Read) → (k ≡ 0 → ⊥) → a ≡ refused_by k bytes → ended a mesh qs ≡ read_of bytes mesh qs
     refused_answer a h p = ap (λ (b : Read). ended b mesh qs) p ∙ refused_is h
-
-    -- 19 is given to a head only
-    pub head_stands : k ≡ 19 → 14 ≤ length bytes
-    head_stands z = omega (arith, (head_cut narrow 2 bytes _ _ 0 (λ (w : ◌≡◌ {A = ℕ} 0 19). omega arith) (sym e ∙ z)).0)
 
     module _ (z : k ≡ 0) where
       pub accepted_is : (n m : ℕ) (o : Outcome) → n ≡ value triangles bytes → m ≡ value questions bytes → o ≡ accepted_of bytes n m mesh qs
@@ -88,10 +87,14 @@ module _ (bytes : List ℕ) (mesh qs : List ℤ) where
   unfolding refusal_of
   never_a_part s = head_apart narrow 2 (length mesh / 9) (length qs / 5) (λ xs. 0) bytes _ _ (λ xs. refusal_is xs mesh qs) told-19 (omega arith) s
 
-  -- all that reading a job promises
-  pub whole_contract : (o : Outcome) → o ≡ read_of bytes mesh qs →
-      (o ≡ read_of bytes mesh qs)
-      × (SoundExactly bytes (length mesh / 9) (length qs / 5) o.answer.refusal × AcceptedPromise bytes mesh qs o.answer.refusal)
-  whole_contract o p =
-      let x = exactly bytes mesh qs o p in
-      (p, (x, λ z. (never_a_part (x.0 z), other_version bytes _ _ (x.0 z))))
+  -- what an accepted job is promised
+  pub promised : (o : Outcome) → o ≡ read_of bytes mesh qs → AcceptedPromise bytes mesh qs o.answer.refusal
+  promised o p z = let x = exactly bytes mesh qs o p in (never_a_part (x.0 z), other_version bytes _ _ (x.0 z))
+
+-- a reading that was refused, and what its refusal tells
+pub refused_told : (A : Type 0) (bytes : List ℕ) (mesh qs : List ℤ) (r : Refusal)
+    → refusals.code_of {A = A} (Err r) ≡ refusal_of_head narrow 2 bytes (length mesh / 9) (length qs / 5) 0
+    → refusals.told_in {A = A} (Err r) ≡ told_in narrow (refusals.code_of {A = A} (Err r)) bytes
+    → ended (told (Err r)) mesh qs ≡ read_of bytes mesh qs
+unfolding refusals.code_of refusals.told_in
+refused_told A bytes mesh qs r e t = refused_answer bytes mesh qs _ e (told (Err r)) (λ z. omega (arith, numbered r)) (rw t)

@@ -1,5 +1,5 @@
 -- Document 02, request 11: version 2 of the job, in whole micrometres. Head, order and length are those of every version; a number is an i32.
-use Rattle.std.specs.Prelude.{cond, ◌≡◌, List, ◌++◌, ℕ, ◌*◌, ◌/◌, eqb, ℤ, pos, length, drop}
+use Rattle.std.specs.Prelude.{cond, ◌≡◌, List, ◌++◌, ℕ, ◌*◌, ◌/◌, eqb, ℤ, pos, length, drop, Result, Ok, Err}
 use Rattle.fields.specs.Little.{value}
 use Rattle.fields.specs.Rows.{row}
 use Rattle.fields.specs.Copies.{ToldApart}
@@ -7,7 +7,9 @@ use Rattle.job.specs.Layout.{triangles, questions, number, mesh_from, questions_
 use Rattle.job.specs.Head.{refusal_of_head, shape_in, told_in, Headed}
 use Rattle.job.specs.Reader as version1
 use Rattle.micro.specs.Micro.{whole_of}
-use Rattle.job_um.specs.declared.Read.{Read}
+use Rattle.refusals.specs.Numbers as refusals
+use Rattle.refusals.specs.declared.Refusal.{Refusal}
+use Rattle.job_um.specs.declared.Job.{Job}
 
 -- number k of a job, from its bits
 unfoldable pub number_of : List ℕ → ℕ → ℤ
@@ -16,6 +18,18 @@ number_of bytes k = whole_of (value (number narrow k) bytes)
 -- 14 under 22 bytes; 15; 16 version not 2; 17; 18; 19 length under 22 + 36n + 20m; 21 over it. Every i32 is read, so that 20 is never given.
 unfoldable pub refusal_of : List ℕ → ℕ → ℕ → ℕ
 refusal_of bytes nroom mroom = refusal_of_head narrow 2 bytes nroom mroom 0
+
+-- The answer by its numbers: a refused job has zeros beside its number, but that 19 tells in n how many triangles stand whole before the cut.
+pub record Read : Type 0 where
+  pub refusal : ℕ
+  pub n : ℕ
+  pub m : ℕ
+  pub floor : ℤ
+  pub radius : ℤ
+
+abbrev pub told : Result Job Refusal → Read
+told (Ok j) = record { refusal = 0; n = j.n; m = j.m; floor = j.floor; radius = j.radius }
+told (Err r) = record { refusal = refusals.number_of r; n = refusals.told_of r; m = 0; floor = pos 0; radius = pos 0 }
 
 -- the answer, and both lent tables afterwards
 pub record Outcome : Type 0 where

@@ -1,12 +1,13 @@
 -- Document 02, request 13: joining as an operation of its own, over a lent table of runs. It is the joining of document 01, "Levels and runs".
-use Rattle.std.specs.Prelude.{cond, List, [], ◌∷◌, map, ℕ, zero, suc, ◌+◌, ◌*◌, ◌%◌, eqb, Float, length}
+use Rattle.std.specs.Prelude.{cond, List, [], ◌∷◌, map, ℕ, zero, suc, ◌+◌, ◌*◌, ◌%◌, eqb, Float, length, Result, Ok, Err}
 use Rattle.numbers.specs.Reals.{num}
 use Rattle.fields.specs.Rows.{all_finite}
 use Rattle.rules.specs.Ladder.{demand}
 use Rattle.fives.specs.Tables.{room_of, written, zeroed}
 use Rattle.runs.specs.Runs.{joined_of, five_of}
 use Rattle.runs.specs.declared.Run.{Run}
-use Rattle.join.specs.declared.Joined.{Joined}
+use Rattle.refusals.specs.declared.Refusal.{Refusal}
+use Rattle.refusals.specs.Numbers.{number_of}
 
 -- ---- what is refused
 
@@ -31,6 +32,18 @@ runs_in t m (suc n) = run_in t m ∷ runs_in t (m + 1) n
 -- All runs of a table.
 abbrev pub runs_of : List Float → List Run
 runs_of t = runs_in t 0 (room_of t)
+
+-- ---- what is answered
+
+-- How many runs there are afterwards, with the refusal's number, 0 where none is given.
+pub record Joined : Type 0 where
+  pub refusal : ℕ
+  pub count : ℕ
+
+-- How an answer is told: a refused table counts no run.
+unfoldable pub told : Result ℕ Refusal → Joined
+told (Ok n) = record { refusal = 0; count = n }
+told (Err r) = record { refusal = number_of r; count = 0 }
 
 -- ---- what is left
 

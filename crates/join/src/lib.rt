@@ -4,47 +4,37 @@
 ghost use Rattle.std.specs.Prelude.{◌≡◌, map, ◌++◌, ◌+◌, ◌*◌, ◌≤◌, length, take, drop};
 ghost use Rattle.fives.specs.Tables.{written, zeroed};
 ghost use Rattle.runs.specs.Runs.{joined_of, five_of};
-ghost use Rattle.join.specs.Join.{refusal_of, run_in, runs_of, outcome, join_of};
+ghost use Rattle.refusals.specs.Numbers.{code_of};
+ghost use Rattle.join.specs.Join.{refusal_of, run_in, runs_of, told, outcome, join_of};
 ghost use Rattle.join.specs.Law.{WheneverJoined, HandedOn};
 
+use refusals::Refusal;
 use runs::Run;
 
-// What joining answers: how many runs there are afterwards.
-#[derive(Clone, Copy)]
-pub struct Joined {
-    pub refusal: u32,
-    pub count: usize,
-}
-
-// The runs of a table joined in place: they stand first, zeros after. Refusal 1 or 2 changes nothing.
-pub fn join(runs: &mut [f64]) -> Joined
-    ensures runs_after { outcome result runs.new ≡ join_of runs.old }
-    ensures handed_on { HandedOn runs.old (outcome result runs.new) }
+// The runs of a table joined in place: they stand first, zeros after, and their number is answered. Refusal 1 or 2 changes nothing.
+pub fn join(runs: &mut [f64]) -> Result<usize, Refusal>
+    ensures runs_after { outcome (told result) runs.new ≡ join_of runs.old }
+    ensures handed_on { HandedOn runs.old (outcome (told result) runs.new) }
     ensures whenever_joined { WheneverJoined }
 {
-    let k = refusal(runs);
-    if k != 0 {
-        return Joined {
-            refusal: k,
-            count: 0,
-        };
-    }
+    refusal(runs)?;
     let count = join_all(runs);
     clear_behind(runs, count);
-    Joined { refusal: 0, count }
+    Ok(count)
 }
 
-// Refusals 1 and 2, or 0.
-fn refusal(runs: &[f64]) -> u32
-    ensures { result ≡ refusal_of runs.now }
+// Refusals 1 and 2.
+#[tactic(auto, using(rules::proofs::Ladder::ladder), unfolding(crate::specs::Join::refusal_of, refusals::specs::Numbers::code_of, refusals::specs::Numbers::number_of))]
+fn refusal(runs: &[f64]) -> Result<(), Refusal>
+    ensures { code_of result ≡ refusal_of runs.now }
 {
     if runs.len() % 5 != 0 {
-        return 1;
+        return Err(Refusal::Length);
     }
     if !fields::all_finite(runs) {
-        return 2;
+        return Err(Refusal::Number);
     }
-    0
+    Ok(())
 }
 
 // The runs of a table taken one after the other, and written over those that were taken before. Their number comes back.
@@ -53,6 +43,7 @@ fn join_all(runs: &mut [f64]) -> usize
         × (result ≡ length (joined_of (runs_of runs.old))) }
 {
     let mut y = runs::begin();
+    // by index: the joined runs are written over the front of the table while the others are read
     for m in 0..runs.len() / 5 {
         y = runs::take(runs, y, run_at(runs, m), true);
     }

@@ -1,12 +1,11 @@
 -- Document 01, "Levels and runs": flat triangles.
-use Rattle.std.specs.Prelude.{Bool, true, false, cond, ◌&&◌, List, [], ◌∷◌, ◌++◌, ℕ, zero, suc, Float}
+use Rattle.plane.specs.declared.Weights.{Weights}
+use Rattle.std.specs.Prelude.{Bool, true, false, cond, ◌&&◌, List, [], ◌∷◌, ◌++◌, ℕ, zero, suc, Float, None, Option, Some}
 use Rattle.std.specs.Float.Ieee.{lt, le}
 use Rattle.numbers.specs.Reals.{◌⊖◌, abs_of}
 use Rattle.plane.specs.Mesh.{triangle_of}
 use Rattle.plane.specs.Distance.{bary_of}
 use Rattle.plane.specs.declared.Triangle.{Triangle}
-use Rattle.plane.specs.declared.Spot.{Spot}
-use Rattle.plane.specs.declared.Spot.TheVariants.{Nowhere, At}
 
 -- Whether z lies within the tolerance of z0.
 unfoldable pub near_to : Float → Float → Float → Bool
@@ -17,9 +16,9 @@ unfoldable pub even_of : Triangle → Float → Bool
 even_of t tolerance = near_to tolerance t.az t.az && (near_to tolerance t.az t.bz && near_to tolerance t.az t.cz)
 
 -- Whether `bary` answers.
-unfoldable pub answers : Spot → Bool
-answers Nowhere = false
-answers (At w) = true
+unfoldable pub answers : Option Weights → Bool
+answers None = false
+answers (Some w) = true
 
 -- A flat triangle: even, `bary` at the first vertex answers, and z is above `least`, which is floor + level tolerance.
 unfoldable pub is_flat : Triangle → Float → Float → Bool

@@ -9,7 +9,7 @@ ghost use Rattle.levels.specs.Flats.{near_to, even_of, answers, is_flat, flats_o
 ghost use Rattle.levels.specs.Levels.{opened_by, widened_by, levels_from, list_left, levels_of, five_of};
 ghost use Rattle.levels.specs.Inside.{listed, gathered_one, grown, grown_by, level_in};
 
-use plane::{Bounds, Spot, Triangle};
+use plane::{Bounds, Triangle};
 
 // A height at which something flat lies, and the box of all that lies there.
 #[derive(Clone, Copy)]
@@ -124,8 +124,8 @@ fn bary_answers(t: Triangle) -> bool
     ensures { result ≡ answers (bary_of t t.ax t.ay) }
 {
     match plane::bary(t, t.ax, t.ay) {
-        Spot::Nowhere => false,
-        Spot::At(_) => true,
+        None => false,
+        Some(_) => true,
     }
 }
 

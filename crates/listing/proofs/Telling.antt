@@ -9,13 +9,17 @@ use lib.Ieee.{Float}
 use lib.ListN.{take, replicate}
 use Rattle.numbers.specs.Reals.{f0}
 use Rattle.rules.proofs.Branches.{taken, left}
-use Rattle.job.specs.declared.Read.{Read}
+use Rattle.job.specs.Reader.{Read}
 use Rattle.job.specs.Reader as job
 use Rattle.job.proofs.Long.{read_cut}
-use Rattle.grid.specs.declared.Built.{Built}
-use Rattle.grid.specs.Build.{outcome, build_of}
+use Rattle.std.specs.Prelude.{Ok, Err}
+use Rattle.refusals.specs.declared.Refusal.{Refusal}
+use Rattle.refusals.specs.Numbers.{number_of as code}
+use Rattle.grid.specs.declared.Header.{Header}
+use Rattle.refusals.proofs.Named.{not_zero}
+use Rattle.grid.specs.Build.{Built, told, refused_by, accepted_with, outcome, build_of}
 use Rattle.grid.specs.Index.{Index, index_of}
-use Rattle.ask.specs.declared.Answer.{Answer}
+use Rattle.ask.specs.Ask.{Answer}
 use Rattle.ask.specs.Ask.{ended}
 use Rattle.lines.specs.Lines.{head_line, answer_line, refused_line}
 use Rattle.lines.specs.Inside.{Wrote}
@@ -72,6 +76,20 @@ module _ (mesh qs boxes₀ : List Float) (floor radius : Float) (n m : ℕ) (b :
       → Wrote p q at r (answers_of (index_of mesh b.header starts members boxes) qs (take n (replicate k 0)) 0 0 m)
       → Wrote o q 0 r (listed_of mesh qs boxes₀ floor radius n m)
   built_told k o p q at r h z w v = as_well (built_is z) (w then (rw (take_replicate {A = ℕ} 0 n k h) at v))
+
+-- the same, by the builder's answer
+module _ (mesh qs boxes₀ : List Float) (floor radius : Float) (n m : ℕ) (starts members : List ℕ) (boxes : List Float) where
+  pub built_err : (e : Refusal) → outcome (told (Err e)) starts members boxes ≡ build_of mesh floor radius (replicate start_room 0) (replicate member_room 0) boxes₀
+      → (k : ℕ) → k ≡ code e → refused_line k ≡ listed_of mesh qs boxes₀ floor radius n m
+  unfolding told refused_by
+  built_err e l k u = rw u (built_not mesh qs boxes₀ floor radius n m (told (Err e)) starts members boxes l (not_zero e))
+
+  pub built_ok : (h : Header) → outcome (told (Ok h)) starts members boxes ≡ build_of mesh floor radius (replicate start_room 0) (replicate member_room 0) boxes₀
+      → (k : ℕ) (o p q : List ℕ) (at r : ℕ) → n ≤ k → Wrote o p 0 at (head_line n m h.columns h.rows)
+      → Wrote p q at r (answers_of (index_of mesh h starts members boxes) qs (take n (replicate k 0)) 0 0 m)
+      → Wrote o q 0 r (listed_of mesh qs boxes₀ floor radius n m)
+  unfolding told accepted_with
+  built_ok h l k o p q at r a w v = built_told mesh qs boxes₀ floor radius n m (told (Ok h)) starts members boxes l k o p q at r a refl w v
 
 -- ---- the listing of a job, refused by the reader and not
 module _ (bytes : List ℕ) (a : Read) (mesh qs : List Float)

@@ -4,7 +4,7 @@ use Rattle.numbers.specs.Reals.{f0, num}
 use Rattle.job.specs.Reader.{read_of}
 use Rattle.grid.specs.Index.{Index, index_of}
 use Rattle.grid.specs.Build.{build_of}
-use Rattle.ask.specs.declared.Answer.{Answer}
+use Rattle.ask.specs.Ask.{Answer}
 use Rattle.ask.specs.Ask.{Outcome}
 use Rattle.height.specs.Sweep.{sweep}
 use Rattle.height.specs.Height.{max_height_of}

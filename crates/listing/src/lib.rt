@@ -3,12 +3,13 @@
 
 ghost use Rattle.std.specs.Prelude.{◌≡◌, ◌+◌, ◌*◌, ◌≤◌, length, take, drop};
 ghost use Rattle.grid.specs.Index.{index_of};
-ghost use Rattle.ask.specs.Ask.{ended};
+ghost use Rattle.ask.specs.Ask.{ended, answer_told};
 ghost use Rattle.lines.specs.Inside.{Wrote};
 ghost use Rattle.listing.specs.Listing.{asked_of, answers_of, listed_of, listing_of, Enough};
 
 use ask::Answer;
 use grid::Header;
+use refusals::Refusal;
 
 // Room for the longest listing of 256 questions.
 pub const TEXT: usize = 20570;
@@ -24,10 +25,10 @@ pub fn listing(bytes: &[u8], out: &mut [u8; TEXT]) -> usize
     let mut mesh = [0.0; 2304];
     let mut questions = [0.0; 1280];
     let mut boxes = [0.0; 1280];
-    let a = job::read_job(bytes, &mut mesh, &mut questions);
-    if a.refusal != 0 {
-        return lines::refused_line(out, 0, a.refusal);
-    }
+    let a = match job::read_job(bytes, &mut mesh, &mut questions) {
+        Ok(a) => a,
+        Err(refusal) => return lines::refused_line(out, 0, refusal.number()),
+    };
     let n = a.n as usize;
     let m = a.m as usize;
     listed(
@@ -58,25 +59,25 @@ fn listed(
 {
     let mut starts = [0; 513];
     let mut members = [0; 16384];
-    let b = grid::build(mesh, floor, radius, &mut starts, &mut members, boxes);
-    if b.refusal != 0 {
-        return lines::refused_line(out, 0, b.refusal);
+    match grid::build(mesh, floor, radius, &mut starts, &mut members, boxes) {
+        Err(refusal) => lines::refused_line(out, 0, refusal.number()),
+        Ok(h) => {
+            let mut marks = [0; 256];
+            let at = lines::head_line(out, 0, n as u32, m as u32, h.columns, h.rows);
+            answers(
+                mesh,
+                h,
+                &starts,
+                &members,
+                boxes,
+                questions,
+                &mut marks[..n],
+                m,
+                out,
+                at,
+            )
+        }
     }
-    let mut marks = [0; 256];
-    let h = b.header;
-    let at = lines::head_line(out, 0, n as u32, m as u32, h.columns, h.rows);
-    answers(
-        mesh,
-        h,
-        &starts,
-        &members,
-        boxes,
-        questions,
-        &mut marks[..n],
-        m,
-        out,
-        at,
-    )
 }
 
 // The lines of all m questions, in order.
@@ -100,14 +101,20 @@ fn answers(
     let mut stamp: u32 = 0;
     let mut end = at;
     for i in 0..m {
-        let a = asked(mesh, h, starts, members, boxes, marks, stamp, questions, i);
-        stamp = a.stamp;
-        end = lines::answer_line(out, end, i, a.refusal, a.height, a.count);
+        match asked(mesh, h, starts, members, boxes, marks, stamp, questions, i) {
+            Ok(a) => {
+                stamp = a.stamp;
+                end = lines::answer_line(out, end, i, 0, a.height, a.count);
+            }
+            Err(refusal) => {
+                end = lines::answer_line(out, end, i, refusal.number(), 0.0, 0);
+            }
+        }
     }
     end
 }
 
-// Question i.
+// What question i answers.
 fn asked(
     mesh: &[f64],
     h: Header,
@@ -118,9 +125,9 @@ fn asked(
     stamp: u32,
     questions: &[f64],
     i: usize,
-) -> Answer
+) -> Result<Answer, Refusal>
     requires { 5 * i + 5 ≤ length questions.now }
-    ensures { ended result marks.new ≡ asked_of (index_of mesh.now h starts.now members.now boxes.now)
+    ensures { ended (answer_told result stamp) marks.new ≡ asked_of (index_of mesh.now h starts.now members.now boxes.now)
         marks.old stamp questions.now i }
 {
     let k = 5 * i;

@@ -15,7 +15,7 @@ use Rattle.query.specs.declared.Patch.{Patch}
 use Rattle.query.specs.Usable.{usable_whole}
 use Rattle.query.specs.Looked.{within}
 use Rattle.whole.proofs.Wholly.{whole_head, whole_walkable}
-use Rattle.ask.specs.declared.Finding.TheVariants.{Clear, Blocked}
+use Rattle.ask.specs.Ask.{Clear, Blocked}
 use Rattle.ask.specs.Ask.{refusal_of, begun, ruling_of, asked_chord}
 use Rattle.chords.specs.Inside.{ruled_chord}
 use Rattle.probe.specs.Inside.{Askable, Marked}

@@ -15,9 +15,8 @@ use Rattle.grid.specs.Index.{Index}
 use Rattle.query.specs.declared.Patch.{Patch}
 use Rattle.query.specs.Patch.{patch_of}
 use Rattle.query.proofs.Patches.{patch_inside}
-use Rattle.ask.specs.declared.Finding.{Finding}
-use Rattle.ask.specs.declared.Ruling.{Ruling}
-use Rattle.ask.specs.Ask.{Outcome, ended}
+use Rattle.ask.specs.declared.Ruling as judged
+use Rattle.ask.specs.Ask.{Finding, finding_of, Ruling, ruled, Outcome, ended}
 use Rattle.height.specs.Sweep.{sweep_walk}
 use Rattle.height.specs.Height.{are_points, max_height_of}
 use Rattle.tool.specs.Tool.{sections_in, is_tool, widest_of, lowest_of}
@@ -92,11 +91,17 @@ module _ (ix : Index) (stamp : ℕ) (marks : List ℕ) (k : Marked ix.header.n s
         (replicate ix.header.n 0) 0 cells).answer.finding) el
         ∙ sym (ap (λ (o : Outcome Ruling). o.answer.finding) z)
 
-    pub rapid_told : (r : Ruling) (marks' : List ℕ) (f : Fault) → ended r marks' ≡ ruled_chord early blocks ix marks stamp p
-        → f ≡ cond (is_clear r.finding) Sound BlockedRapid → (f ≡ fault_of_rapid ix table m) × Marked ix.header.n r.stamp marks'
+    -- the verdict of a ruling says whether it is clear
+    clear_is : (b : Bool) → b ≡ is_clear (finding_of b)
+    unfolding is_clear
+    clear_is true = refl
+    clear_is false = refl
+
+    pub rapid_told : (r : judged.Ruling) (marks' : List ℕ) (f : Fault) → ended (ruled r) marks' ≡ ruled_chord early blocks ix marks stamp p
+        → f ≡ cond r.clear Sound BlockedRapid → (f ≡ fault_of_rapid ix table m) × Marked ix.header.n r.stamp marks'
     unfolding fault_of_rapid rapid_clear
     rapid_told r marks' f e d = (
-      d ∙ ap (λ (x : Finding). cond (is_clear x) Sound BlockedRapid) (ap (λ (o : Outcome Ruling). o.answer.finding) e ∙ found),
+      d ∙ ap (λ (b : Bool). cond b Sound BlockedRapid) (clear_is r.clear) ∙ ap (λ (x : Finding). cond (is_clear x) Sound BlockedRapid) (ap (λ (o : Outcome Ruling). o.answer.finding) e ∙ found),
       marked_is _ _ _ _ _ (ap (λ (o : Outcome Ruling). o.answer.stamp) e) (ap (λ (o : Outcome Ruling). o.marks) e)
           (ruled_marks blocks ix stamp marks k p early),
     )

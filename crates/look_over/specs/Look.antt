@@ -5,8 +5,8 @@ use Rattle.std.specs.Float.Ieee.{to_bits, le}
 use Rattle.numbers.specs.Reals.{◌⊕◌, f0}
 use Rattle.grid.specs.Index.{Index}
 use Rattle.reach.specs.declared.Chord.{Chord}
-use Rattle.ask.specs.declared.Finding.{Finding}
-use Rattle.ask.specs.declared.Finding.TheVariants.{Neither, Clear, Blocked}
+use Rattle.ask.specs.Ask.{Finding}
+use Rattle.ask.specs.Ask.{Neither, Clear, Blocked}
 use Rattle.height.specs.Sweep.{Sweep, sweep}
 use Rattle.height.specs.Height.{max_height_of}
 use Rattle.chords.specs.Chords.{sections_chord_of}

@@ -1,5 +1,5 @@
 -- Document 02, request 12: what `look_over` answers, and the marks that it leaves.
-use Rattle.std.specs.Prelude.{Bool, cond, ◌&&◌, List, ◌≡◌, ℕ, ◌+◌, ◌<◌, eqb, Float, length, replicate}
+use Rattle.std.specs.Prelude.{Bool, cond, ◌&&◌, List, ◌≡◌, ℕ, ◌+◌, ◌<◌, eqb, Float, length, replicate, Result, Ok, Err}
 use Rattle.std.specs.Float.Ieee.{le}
 use Rattle.numbers.specs.Reals.{finest, coarsest}
 use Rattle.fields.specs.Little.{value}
@@ -27,7 +27,8 @@ use Rattle.look_over.specs.declared.Fault.{Fault}
 use Rattle.look_over.specs.declared.Fault.TheVariants.{Sound, BlockedRapid, ChangedZ, TooDeep}
 use Rattle.look_over.specs.declared.Verdict.{Verdict}
 use Rattle.look_over.specs.declared.Verdict.TheVariants.{Unsaid, Passes, Fails}
-use Rattle.look_over.specs.declared.Looked.{Looked}
+use Rattle.refusals.specs.declared.Refusal.{Refusal}
+use Rattle.refusals.specs.Numbers.{number_of}
 use Rattle.look_over.specs.Look.{fault_of, verdict_from}
 
 -- ---- what is refused
@@ -65,6 +66,16 @@ refusal_of bytes ix marks table tolerance =
     cond (eqb k 0) (refusal_of_numbers bytes ix marks table tolerance) k
 
 -- ---- what is answered
+
+-- The answer: a refusal or 0, and the verdict.
+pub record Looked : Type 0 where
+  pub refusal : ℕ
+  pub verdict : Verdict
+
+-- How an answer is told: a refusal by its number, with no verdict.
+abbrev pub told : Result Verdict Refusal → Looked
+told (Ok v) = record { refusal = 0; verdict = v }
+told (Err e) = record { refusal = number_of e; verdict = Unsaid }
 
 -- What is left: the answer, and the marks.
 pub record Outcome : Type 0 where

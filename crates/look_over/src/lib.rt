@@ -6,6 +6,7 @@ ghost use Rattle.std.specs.Prelude.{◌≡◌, true, cond, eqb, length, replicat
 ghost use Rattle.std.specs.Float.{binary64};
 ghost use Rattle.std.specs.Float.Ieee.{to_bits, le};
 ghost use Rattle.fields.specs.Little.{value};
+ghost use Rattle.refusals.specs.Numbers.{code_of};
 ghost use Rattle.grid.specs.Boxes.{is_boxed};
 ghost use Rattle.grid.specs.Index.{index_of};
 ghost use Rattle.plane.specs.Ranges.{is_point};
@@ -13,15 +14,15 @@ ghost use Rattle.probe.specs.Inside.{Marked};
 ghost use Rattle.tool.specs.Tool.{sections_in, widest_of, lowest_of};
 ghost use Rattle.paths.specs.Layout.{count};
 ghost use Rattle.paths.specs.Reader.{Sound as Listed};
-ghost use Rattle.look_over.specs.Look.{is_clear, fault_of_rapid, fault_of_cut, fault_of};
-ghost use Rattle.look_over.specs.Verdict.{is_place, are_places, is_tolerance, refusal_of_tool, refusal_of_numbers, refusal_of, ended, verdict_of};
+ghost use Rattle.look_over.specs.Look.{fault_of_rapid, fault_of_cut, fault_of};
+ghost use Rattle.look_over.specs.Verdict.{is_place, are_places, is_tolerance, refusal_of_tool, refusal_of_numbers, refusal_of, ended, told, verdict_of};
 ghost use Rattle.look_over.specs.Verdict.{look_over_of, verdict_number, bad_number, fault_number, reason_number, Judged, OwnCutsPass};
 ghost use Rattle.look_over.specs.Inside.{is_sound, Indexed, Answerable, Readable, Placed};
 
-use ask::Finding;
 use grid::Header;
 use paths::{Kind, Move, Point};
 use reach::Chord;
+use refusals::Refusal;
 
 // Why a move is bad.
 #[derive(Clone, Copy)]
@@ -38,13 +39,6 @@ pub enum Verdict {
     Unsaid,
     Passes,
     Fails(u32, Fault),
-}
-
-// The answer: a refusal or 0, and the verdict.
-#[derive(Clone, Copy)]
-pub struct Looked {
-    pub refusal: u32,
-    pub verdict: Verdict,
 }
 
 // What is wrong with a move, and the stamp after its walk.
@@ -69,32 +63,22 @@ pub fn look_over(
     marks: &mut [u32],
     table: &[f64],
     tolerance: f64,
-) -> Looked
-    ensures marks_after { ended result marks.new
+) -> Result<Verdict, Refusal>
+    ensures marks_after { ended (told result) marks.new
         ≡ look_over_of bytes.now (index_of mesh.now h starts.now members.now boxes.now)
         marks.old table.now tolerance }
-    ensures judged { result.refusal ≡ 0 → Judged bytes.now
+    ensures judged { (told result).refusal ≡ 0 → Judged bytes.now
         (index_of mesh.now h starts.now members.now boxes.now)
-        table.now tolerance result.verdict }
+        table.now tolerance (told result).verdict }
     ensures own_cuts_pass { OwnCutsPass
         (index_of mesh.now h starts.now members.now boxes.now) table.now tolerance }
 {
-    let k = refusal(
+    refusal(
         bytes, mesh, h, starts, members, boxes, marks, table, tolerance,
-    );
-    if k != 0 {
-        return Looked {
-            refusal: k,
-            verdict: Verdict::Unsaid,
-        };
-    }
-    let verdict = work(
+    )?;
+    Ok(work(
         bytes, mesh, h, starts, members, boxes, marks, table, tolerance,
-    );
-    Looked {
-        refusal: 0,
-        verdict,
-    }
+    ))
 }
 
 // The file's refusals, else those of what it is looked over with.
@@ -108,20 +92,18 @@ fn refusal(
     marks: &[u32],
     table: &[f64],
     tolerance: f64,
-) -> u32
-    ensures { result ≡ refusal_of bytes.now (index_of mesh.now h starts.now members.now boxes.now)
+) -> Result<(), Refusal>
+    ensures { code_of result ≡ refusal_of bytes.now (index_of mesh.now h starts.now members.now boxes.now)
         marks.now table.now tolerance }
 {
-    let k = paths::refusal(bytes);
-    if k != 0 {
-        return k;
-    }
+    paths::refusal(bytes)?;
     refusal_of_numbers(
         bytes, mesh, h, starts, members, boxes, marks, table, tolerance,
     )
 }
 
 // 1, 23 and 2, else what the tool and the index decide.
+#[tactic(auto, using(rules::proofs::Ladder::ladder), unfolding(crate::specs::Verdict::refusal_of_numbers, refusals::specs::Numbers::code_of, refusals::specs::Numbers::number_of))]
 fn refusal_of_numbers(
     bytes: &[u8],
     mesh: &[f64],
@@ -132,27 +114,28 @@ fn refusal_of_numbers(
     marks: &[u32],
     table: &[f64],
     tolerance: f64,
-) -> u32
+) -> Result<(), Refusal>
     requires { Listed bytes.now }
-    ensures { result ≡ refusal_of_numbers bytes.now (index_of mesh.now h starts.now members.now boxes.now)
+    ensures { code_of result ≡ refusal_of_numbers bytes.now (index_of mesh.now h starts.now members.now boxes.now)
         marks.now table.now tolerance }
 {
     if !query::is_marked(mesh, marks) {
-        return 1;
+        return Err(Refusal::Length);
     }
     if !grid::is_boxed(mesh, boxes) {
-        return 23;
+        return Err(Refusal::Boxes);
     }
     if !is_tolerance(tolerance) {
-        return 2;
+        return Err(Refusal::Number);
     }
     if !are_places(bytes) {
-        return 2;
+        return Err(Refusal::Number);
     }
     refusal_of_tool(mesh, h, starts, members, boxes, table)
 }
 
-// 8 and 7, or 0.
+// 8 and 7.
+#[tactic(auto, using(rules::proofs::Ladder::ladder), unfolding(crate::specs::Verdict::refusal_of_tool, refusals::specs::Numbers::code_of, refusals::specs::Numbers::number_of))]
 fn refusal_of_tool(
     mesh: &[f64],
     h: Header,
@@ -160,18 +143,18 @@ fn refusal_of_tool(
     members: &[u32],
     boxes: &[f64],
     table: &[f64],
-) -> u32
+) -> Result<(), Refusal>
     requires { is_boxed mesh.now boxes.now ≡ true }
-    ensures { result ≡ refusal_of_tool
+    ensures { code_of result ≡ refusal_of_tool
         (index_of mesh.now h starts.now members.now boxes.now) table.now }
 {
     if !tool::is_tool(table) {
-        return 8;
+        return Err(Refusal::Tool);
     }
     if !whole::usable_whole(mesh, h, starts, members, boxes) {
-        return 7;
+        return Err(Refusal::Index);
     }
-    0
+    Ok(())
 }
 
 // Whether a tolerance is from 1e-7 to 0.01.
@@ -336,20 +319,19 @@ fn rapid(
     let r = chords::tool_ruling(
         mesh, h, starts, members, boxes, marks, stamp, p, c, low, table,
     );
-    let finding = r.finding;
     Tried {
-        fault: fault_of(finding),
+        fault: fault_of(r.clear),
         stamp: r.stamp,
     }
 }
 
-fn fault_of(f: Finding) -> Fault
-    ensures { result ≡ cond (is_clear f) Fault.Sound Fault.BlockedRapid }
+fn fault_of(clear: bool) -> Fault
+    ensures { result ≡ cond clear Fault.Sound Fault.BlockedRapid }
 {
-    match f {
-        Finding::Neither => Fault::BlockedRapid,
-        Finding::Clear => Fault::Sound,
-        Finding::Blocked => Fault::BlockedRapid,
+    if clear {
+        Fault::Sound
+    } else {
+        Fault::BlockedRapid
     }
 }
 

@@ -1,8 +1,6 @@
 -- Document 02, request 11: whole micrometres. Coordinates, radii and heights are i32; what is worked out from them is worked out in whole numbers.
-use Rattle.std.specs.Prelude.{Bool, cond, List, ℕ, zero, suc, ◌+◌, ◌-◌, ◌*◌, min, max, ltb, leb, ℤ, pos, negsuc, get_or}
+use Rattle.std.specs.Prelude.{Bool, cond, List, ℕ, zero, suc, ◌+◌, ◌-◌, ◌*◌, min, max, ltb, leb, ℤ, pos, negsuc, get_or, Option, None, Some}
 use Rattle.rules.specs.Every.{is_from}
-use Rattle.fields.specs.declared.Place.{Place}
-use Rattle.fields.specs.declared.Place.TheVariants.{Nowhere, At}
 use Rattle.micro.specs.declared.Box.{Box}
 
 -- ---- numbers
@@ -52,6 +50,6 @@ box_of mesh i =
     }
 
 -- ---- the first of c numbers from k on that passes a test
-unfoldable pub first_where : (ℕ → Bool) → ℕ → ℕ → Place
-first_where test k zero = Nowhere
-first_where test k (suc c) = cond (test k) (At k) (first_where test (k + 1) c)
+unfoldable pub first_where : (ℕ → Bool) → ℕ → ℕ → Option ℕ
+first_where test k zero = None
+first_where test k (suc c) = cond (test k) (Some k) (first_where test (k + 1) c)

@@ -1,4 +1,5 @@
 -- The steps from an accepted beginning: one after the other they give the phase table walked, and come to its end.
+use Rattle.std.specs.Prelude.{Result, Ok, Err, None, Some}
 use mathlib.Core.Bool.{true, false, cond, ◌&&◌}
 use mathlib.Core.List.{List, [], ◌∷◌}
 use mathlib.Core.Logic.{◌⊎◌, inl, inr, ⊎_elim}
@@ -11,7 +12,6 @@ use lib.Dec.{T, eqb, ltb, leb, lit<}
 use lib.Ieee.{Float, le}
 use lib.Ieee.Scale.{finite}
 use lib.ListN.{length}
-use Rattle.numbers.specs.Reals.{f0}
 use Rattle.rules.proofs.Branches.{by_test, both_true, no, holds}
 use Rattle.plane.specs.Ranges.{is_coordinate}
 use Rattle.plane.proofs.Ranges.{coordinate, coordinate_finite}
@@ -20,15 +20,16 @@ use Rattle.rules.proofs.Ladder.{demanded}
 use Rattle.parameters.specs.Terms.{are_three}
 use Rattle.fives.specs.Tables.{room_of}
 use Rattle.join.specs.Join.{run_in, runs_in}
+use Rattle.refusals.specs.declared.Refusal.{Refusal}
+use Rattle.refusals.specs.Numbers.{number_of}
+use Rattle.refusals.proofs.Named.{not_zero}
 use Rattle.moves.specs.declared.Point.{Point}
 use Rattle.moves.specs.declared.Heights.{Heights}
 use Rattle.moves.specs.declared.State.{State}
 use Rattle.moves.specs.declared.Move.{Move}
-use Rattle.moves.specs.declared.Stepped.{Stepped}
-use Rattle.moves.specs.declared.Step.TheVariants.{Nothing, Go}
-use Rattle.moves.specs.Phases.{point, leg_of, same_of, phase_number, is_lift, is_ended}
-use Rattle.moves.specs.Begin.{largest, in_order, are_heights, is_run, are_runs, are_ids, refusal_of_runs, refusal_of_begin, state_at, begun, begin_of}
-use Rattle.moves.specs.Next.{move_by, moved_by, passed_by, lines_left, stepped, go_on, is_within, is_spent, refusal_of_state, next_of}
+use Rattle.moves.specs.Phases.{leg_of, same_of, phase_number, is_lift, is_ended}
+use Rattle.moves.specs.Begin.{largest, in_order, are_heights, is_run, are_runs, are_ids, refusal_of_runs, refusal_of_begin, state_at, told as begun_told, begin_of}
+use Rattle.moves.specs.Next.{move_by, moved_by, passed_by, lines_left, Stepped, stepped, go_on, is_within, is_spent, refusal_of_state, next_of}
 use Rattle.moves.specs.Whole.{Whole, before, moves_of, walked}
 use Rattle.moves.specs.Laws.{cuts_in, full_of, CutsAre, Lawful, Followed}
 use Rattle.moves.proofs.Testing.{all_next, all_starts}
@@ -40,13 +41,13 @@ use Rattle.moves.proofs.Walking.{Sound, few, counted, chained, safe, cuts}
 
 record Stops (t : List Float) (h : Heights) (k : ℕ) (s : State) : Type 0 where
   last : State
-  given : go_on t h k s ≡ stepped 0 Nothing last
+  given : go_on t h k s ≡ stepped 0 None last
   rest : walked t h k s ≡ []
 
 record Gives (t : List Float) (h : Heights) (k : ℕ) (s : State) : Type 0 where
   move : Move
   after : State
-  given : go_on t h k s ≡ stepped 0 (Go move) after
+  given : go_on t h k s ≡ stepped 0 (Some move) after
   rest : walked t h k s ≡ move ∷ walked t h (lines_left (room_of t) after) after
   within : is_within (room_of t) after ≡ true
   fewer : lines_left (room_of t) after < k
@@ -107,23 +108,23 @@ passes t h s five w ids =
 record Done (t : List Float) (h : Heights) (s : State) (w : Whole) : Type 0 where
   all : w.moves ≡ walked t h (lines_left (room_of t) s) s
   accepted : w.stop.refusal ≡ 0
-  ended : w.stop.step ≡ Nothing
+  ended : w.stop.step ≡ None
 
 module _ (t : List Float) (h : Heights) where
-  none_at : (s l : State) → next_of t h s ≡ stepped 0 Nothing l → moves_of t h 0 s ≡ record { moves = []; stop = stepped 0 Nothing l }
+  none_at : (s l : State) → next_of t h s ≡ stepped 0 None l → moves_of t h 0 s ≡ record { moves = []; stop = stepped 0 None l }
   unfolding moves_of
   none_at s l e = ap (λ (a : Stepped). record { moves = []; stop = a }) e
 
-  stop_at : (j : ℕ) (s l : State) → next_of t h s ≡ stepped 0 Nothing l → moves_of t h (suc j) s ≡ record { moves = []; stop = stepped 0 Nothing l }
+  stop_at : (j : ℕ) (s l : State) → next_of t h s ≡ stepped 0 None l → moves_of t h (suc j) s ≡ record { moves = []; stop = stepped 0 None l }
   unfolding moves_of before
   stop_at j s l e = ap (λ (a : Stepped). before a.step a (moves_of t h j a.state)) e
 
-  go_at : (j : ℕ) (s l : State) (m : Move) → next_of t h s ≡ stepped 0 (Go m) l
+  go_at : (j : ℕ) (s l : State) (m : Move) → next_of t h s ≡ stepped 0 (Some m) l
       → moves_of t h (suc j) s ≡ record { moves = m ∷ (moves_of t h j l).moves; stop = (moves_of t h j l).stop }
   unfolding moves_of before
   go_at j s l m e = ap (λ (a : Stepped). before a.step a (moves_of t h j a.state)) e
 
-  stopped : (s l : State) (w : Whole) → w ≡ record { moves = []; stop = stepped 0 Nothing l } → walked t h (lines_left (room_of t) s) s ≡ [] → Done t h s w
+  stopped : (s l : State) (w : Whole) → w ≡ record { moves = []; stop = stepped 0 None l } → walked t h (lines_left (room_of t) s) s ≡ [] → Done t h s w
   stopped s l w e r =
       record { all = ap (λ (w : Whole). w.moves) e ∙ sym r; accepted = ap (λ (w : Whole). w.stop.refusal) e; ended = ap (λ (w : Whole). w.stop.step) e }
 
@@ -131,12 +132,12 @@ module _ (t : List Float) (h : Heights) where
     all_steps : (j : ℕ) (s : State) → is_within (room_of t) s ≡ true → s.next_id + lines_left (room_of t) s ≤ largest → lines_left (room_of t) s ≤ j
         → Done t h s (moves_of t h j s)
     all_steps zero s w i l =
-        let n = sym (next_goes t h s 0 (sym (passes t h s five w i)) refl) in
+        let n = sym (next_goes t h s (sym (passes t h s five w i))) in
         ⊎_elim (λ r. stopped s r.last _ (none_at s r.last (n ∙ r.given)) r.rest)
         (λ r. let k = r.fewer in absurd (omega arith))
         (told t h (lines_left (room_of t) s) s w refl)
     all_steps (suc j) s w i l =
-        let n = sym (next_goes t h s 0 (sym (passes t h s five w i)) refl) in
+        let n = sym (next_goes t h s (sym (passes t h s five w i))) in
         ⊎_elim (λ r. stopped s r.last _ (stop_at j s r.last (n ∙ r.given)) r.rest)
         (λ r. let k = r.fewer in
         let q = r.id in
@@ -247,14 +248,16 @@ module _ (t : List Float) (h : Heights) (p : Point) (first : ℕ) (e : refusal_o
 
 -- ---- `begin`
 
-module _ (t : List Float) (h : Heights) (p : Point) (first k : ℕ) (s : State) (e : k ≡ refusal_of_begin t h p first) where
-  pub begin_refused : (k ≡ 0 → ⊥) → s ≡ state_at (point f0 f0 f0) 0 → (begun k s ≡ begin_of t h p first) × Followed t h k s
-  unfolding begin_of Followed
-  begin_refused n q = (rw (← e, ne_eqb k 0 n, q), λ z. absurd (n z))
+module _ (t : List Float) (h : Heights) (p : Point) (first : ℕ) where
+  pub begin_refused : (a : Result State Refusal) (r : Refusal) → a ≡ Err r → number_of r ≡ refusal_of_begin t h p first
+      → (begun_told a ≡ begin_of t h p first) × Followed t h (begun_told a).refusal (begun_told a).state
+  unfolding begun_told begin_of Followed
+  begin_refused a r q e = rw q (rw (← e, ne_eqb (number_of r) 0 (not_zero r)), λ z. absurd (not_zero r z))
 
-  pub begin_goes : k ≡ 0 → s ≡ state_at p first → (begun 0 s ≡ begin_of t h p first) × Followed t h 0 s
-  unfolding begin_of Followed
-  begin_goes z q = (
-    rw (← e, eq-eqb k 0 z, q),
-    λ y. subst (λ (s : State). Lawful t h s (moves_of t h (7 * room_of t + 1) s)) (sym q) (lawful t h p first (sym e ∙ z)),
+  pub begin_goes : (s : State) → 0 ≡ refusal_of_begin t h p first → s ≡ state_at p first
+      → (begun_told (Ok s) ≡ begin_of t h p first) × Followed t h (begun_told (Ok s)).refusal (begun_told (Ok s)).state
+  unfolding begun_told begin_of Followed
+  begin_goes s e q = (
+    rw (← e, q),
+    λ y. subst (λ (s : State). Lawful t h s (moves_of t h (7 * room_of t + 1) s)) (sym q) (lawful t h p first (sym e)),
   )

@@ -1,4 +1,5 @@
 -- One line after the other: what a state gives is what the state after an empty line gives.
+use Rattle.std.specs.Prelude.{Result, Err, None, Some}
 use mathlib.Core.Bool.{true, false}
 use mathlib.Core.List.{List}
 use mathlib.Core.Path.{◌≡◌, sym}
@@ -10,13 +11,16 @@ use lib.Ieee.{Float}
 use Rattle.rules.proofs.Branches.{by_test, no}
 use Rattle.rules.proofs.Ladder.{demanded, refused_not}
 use Rattle.fives.specs.Tables.{room_of}
+use Rattle.refusals.specs.declared.Refusal.{Refusal}
+use Rattle.refusals.specs.Numbers.{number_of}
+use Rattle.refusals.proofs.Named.{not_zero}
+use Rattle.moves.specs.declared.Stepped as answer
 use Rattle.moves.specs.declared.Heights.{Heights}
 use Rattle.moves.specs.declared.State.{State}
 use Rattle.moves.specs.declared.Leg.{Leg}
-use Rattle.moves.specs.declared.Step.TheVariants.{Nothing, Go}
 use Rattle.moves.specs.Phases.{leg_of, same_of, is_ended}
 use Rattle.moves.specs.Begin.{largest}
-use Rattle.moves.specs.Next.{move_by, moved_by, passed_by, lines_left, stepped, go_on, is_within, is_spent, refusal_of_state, next_of}
+use Rattle.moves.specs.Next.{move_by, moved_by, passed_by, lines_left, stepped, told, go_on, is_within, is_spent, refusal_of_state, next_of}
 use Rattle.moves.proofs.Lines.{On, led_on}
 
 pub less_on : (a b c : ℕ) → a ≡ suc b → c ≡ b → c < a
@@ -33,7 +37,7 @@ unfolding is_spent
 id_free s e f g = no (sym (rw (e, eq-eqb s.next_id largest g) at f))
 
 module _ (t : List Float) (h : Heights) (s : State) (w : is_within (room_of t) s ≡ true) where
-  pub goes_end : is_ended s.phase ≡ true → go_on t h (lines_left (room_of t) s) s ≡ stepped 0 Nothing s
+  pub goes_end : is_ended s.phase ≡ true → go_on t h (lines_left (room_of t) s) s ≡ stepped 0 None s
   unfolding lines_left go_on
   goes_end e = rw e
 
@@ -52,7 +56,7 @@ module _ (t : List Float) (h : Heights) (s : State) (w : is_within (room_of t) s
     goes_empty f = rw passed_on.fewer (rw (e, f))
 
     pub goes_given : same_of (leg_of t h s).end s.position ≡ false
-        → go_on t h (lines_left (room_of t) s) s ≡ stepped 0 (Go (move_by s (leg_of t h s))) (moved_by s (leg_of t h s))
+        → go_on t h (lines_left (room_of t) s) s ≡ stepped 0 (Some (move_by s (leg_of t h s))) (moved_by s (leg_of t h s))
     unfolding go_on
     goes_given f = rw passed_on.fewer (rw (e, f))
 
@@ -65,11 +69,11 @@ state_passes t s e =
     let b = demanded _ 29 _ (lit< tt) a.1 in
     (b.0, (refused_not _ 29 _ (lit< tt) b.1).0)
 
-module _ (t : List Float) (h : Heights) (s : State) (k : ℕ) (e : k ≡ refusal_of_state t s) where
-  pub next_refused : (k ≡ 0 → ⊥) → stepped k Nothing s ≡ next_of t h s
-  unfolding next_of
-  next_refused n = rw (← e, ne_eqb k 0 n)
+module _ (t : List Float) (h : Heights) (s : State) where
+  pub next_refused : (a : Result answer.Stepped Refusal) (r : Refusal) → a ≡ Err r → number_of r ≡ refusal_of_state t s → told s a ≡ next_of t h s
+  unfolding told next_of
+  next_refused a r q e = rw (q, ← e, ne_eqb (number_of r) 0 (not_zero r))
 
-  pub next_goes : k ≡ 0 → go_on t h (lines_left (room_of t) s) s ≡ next_of t h s
+  pub next_goes : 0 ≡ refusal_of_state t s → go_on t h (lines_left (room_of t) s) s ≡ next_of t h s
   unfolding next_of
-  next_goes z = rw (← e, eq-eqb k 0 z)
+  next_goes e = rw (← e)

@@ -1,5 +1,5 @@
 -- Document 02, request 9: where the moves begin. Refusals 1, 26, 27.
-use Rattle.std.specs.Prelude.{Bool, true, false, cond, ◌&&◌, List, [], ◌∷◌, ℕ, ◌+◌, ◌*◌, ◌%◌, eqb, leb, Float, length}
+use Rattle.std.specs.Prelude.{Bool, true, false, cond, ◌&&◌, List, [], ◌∷◌, ℕ, ◌+◌, ◌*◌, ◌%◌, eqb, leb, Float, length, Result, Ok, Err}
 use Rattle.std.specs.Float.Ieee.{le}
 use Rattle.numbers.specs.Reals.{f0}
 use Rattle.fives.specs.Tables.{room_of}
@@ -11,7 +11,8 @@ use Rattle.join.specs.Join.{runs_in}
 use Rattle.moves.specs.declared.Point.{Point}
 use Rattle.moves.specs.declared.Heights.{Heights}
 use Rattle.moves.specs.declared.State.{State}
-use Rattle.moves.specs.declared.Begun.{Begun}
+use Rattle.refusals.specs.declared.Refusal.{Refusal}
+use Rattle.refusals.specs.Numbers.{number_of}
 use Rattle.moves.specs.declared.Phase.TheVariants.{Lift}
 use Rattle.moves.specs.Phases.{point}
 
@@ -63,8 +64,18 @@ refusal_of_begin t h p first =
 abbrev pub state_at : Point → ℕ → State
 state_at p first = record { phase = Lift; run = 0; position = p; next_id = first }
 
+-- The answer: the refusal or 0, and the state.
+pub record Begun : Type 0 where
+  pub refusal : ℕ
+  pub state : State
+
 abbrev pub begun : ℕ → State → Begun
 begun k s = record { refusal = k; state = s }
+
+-- How an answer is told.
+unfoldable pub told : Result State Refusal → Begun
+told (Ok s) = begun 0 s
+told (Err r) = begun (number_of r) (state_at (point f0 f0 f0) 0)
 
 unfoldable pub begin_of : List Float → Heights → Point → ℕ → Begun
 begin_of t h p first =

@@ -1,5 +1,5 @@
 -- Document 02, request 9: what is proved of the whole list of moves from an accepted beginning.
-use Rattle.std.specs.Prelude.{true, cond, List, [], ◌∷◌, ◌⊎◌, ◌≡◌, ℕ, ◌+◌, ◌*◌, ◌≤◌, T, eqb, Float, length}
+use Rattle.std.specs.Prelude.{true, cond, List, [], ◌∷◌, ◌⊎◌, ◌≡◌, ℕ, ◌+◌, ◌*◌, ◌≤◌, T, eqb, Float, length, None}
 use Rattle.std.specs.Float.Ieee.{le}
 use Rattle.fives.specs.Tables.{room_of}
 use Rattle.runs.specs.declared.Run.{Run}
@@ -7,7 +7,6 @@ use Rattle.moves.specs.declared.Point.{Point}
 use Rattle.moves.specs.declared.Heights.{Heights}
 use Rattle.moves.specs.declared.State.{State}
 use Rattle.moves.specs.declared.Move.{Move}
-use Rattle.moves.specs.declared.Step.TheVariants.{Nothing}
 use Rattle.moves.specs.declared.Kind.TheVariants.{Rapid}
 use Rattle.moves.specs.Phases.{start_of, end_of, same_of, kind_number}
 use Rattle.moves.specs.Begin.{runs_of}
@@ -56,7 +55,7 @@ pub record Lawful (t : List Float) (h : Heights) (s : State) (w : Whole) : Type 
   pub table : w.moves ≡ walked t h (lines_left (room_of t) s) s
   pub few : length w.moves ≤ 7 * room_of t + 1
   pub accepted : w.stop.refusal ≡ 0
-  pub ended : w.stop.step ≡ Nothing
+  pub ended : w.stop.step ≡ None
   pub ids : Counted s.next_id w.moves
   pub chained : Chained s.position w.moves
   pub safe : Safe h w.moves

@@ -1,13 +1,10 @@
 -- Document 02, request 9: the whole list of moves, step after step; and the phase table walked line by line.
-use Rattle.std.specs.Prelude.{cond, List, [], ◌∷◌, ℕ, zero, suc, Float}
+use Rattle.std.specs.Prelude.{cond, List, [], ◌∷◌, ℕ, zero, suc, Float, Option, None, Some}
 use Rattle.moves.specs.declared.Heights.{Heights}
 use Rattle.moves.specs.declared.State.{State}
 use Rattle.moves.specs.declared.Move.{Move}
-use Rattle.moves.specs.declared.Step.{Step}
-use Rattle.moves.specs.declared.Step.TheVariants.{Nothing, Go}
-use Rattle.moves.specs.declared.Stepped.{Stepped}
 use Rattle.moves.specs.Phases.{leg_of, same_of, is_ended}
-use Rattle.moves.specs.Next.{move_by, moved_by, passed_by, next_of}
+use Rattle.moves.specs.Next.{move_by, moved_by, passed_by, Stepped, next_of}
 
 -- A list of moves, and the answer, with no move, that ended it.
 pub record Whole : Type 0 where
@@ -15,9 +12,9 @@ pub record Whole : Type 0 where
   pub stop : Stepped
 
 -- A step put in front of what comes after it; one without a move ends the list.
-unfoldable pub before : Step → Stepped → Whole → Whole
-before Nothing a w = record { moves = []; stop = a }
-before (Go m) a w = record { moves = m ∷ w.moves; stop = w.stop }
+unfoldable pub before : Option Move → Stepped → Whole → Whole
+before None a w = record { moves = []; stop = a }
+before (Some m) a w = record { moves = m ∷ w.moves; stop = w.stop }
 
 -- The moves from a state, step after step, at most n of them.
 unfoldable pub moves_of : List Float → Heights → ℕ → State → Whole

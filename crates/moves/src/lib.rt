@@ -2,13 +2,15 @@
 #![tactic(auto)]
 
 ghost use Rattle.std.specs.Prelude.{◌≡◌, true, false, ◌+◌, ◌*◌, ◌<◌};
+ghost use Rattle.std.specs.Prelude.{Ok, Some};
+ghost use Rattle.refusals.specs.Numbers.{code_of};
 ghost use Rattle.fives.specs.Tables.{room_of};
 ghost use Rattle.moves.specs.Phases.{point, line_of, leg_of, same_of, phase_number, kind_number, is_lift, is_ended};
-ghost use Rattle.moves.specs.Begin.{largest, runs_of, in_order, are_heights, is_run, are_runs, are_ids, refusal_of_runs, refusal_of_begin, state_at, begin_of};
-ghost use Rattle.moves.specs.Next.{move_by, moved_by, passed_by, stepped, lines_left, go_on, is_within, is_spent, refusal_of_state, next_of};
+ghost use Rattle.moves.specs.Begin.{largest, runs_of, in_order, are_heights, is_run, are_runs, are_ids, refusal_of_runs, refusal_of_begin, state_at, told as begun_told, begin_of};
+ghost use Rattle.moves.specs.Next.{move_by, moved_by, passed_by, told, lines_left, go_on, is_within, is_spent, refusal_of_state, next_of};
 ghost use Rattle.moves.specs.Laws.{Followed};
-ghost use Rattle.moves.specs.declared.Step.TheVariants.{Nothing, Go};
 
+use refusals::Refusal;
 use runs::Run;
 
 const LARGEST: u64 = 18446744073709551615;
@@ -66,23 +68,10 @@ pub struct Move {
     pub id: u64,
 }
 
-// A move, or none: the end, or a refusal.
-#[derive(Clone, Copy)]
-pub enum Step {
-    Nothing,
-    Go(Move),
-}
-
+// A move, or none at the end, and the state after it.
 #[derive(Clone, Copy)]
 pub struct Stepped {
-    pub refusal: u32,
-    pub step: Step,
-    pub state: State,
-}
-
-#[derive(Clone, Copy)]
-pub struct Begun {
-    pub refusal: u32,
+    pub step: Option<Move>,
     pub state: State,
 }
 
@@ -96,45 +85,23 @@ pub struct Leg {
 }
 
 // The state before the first move.
-pub fn begin(runs: &[f64], h: Heights, start: Point, first_id: u64) -> Begun
-    ensures value { result ≡ begin_of runs.now h start first_id }
-    ensures followed { Followed runs.now h result.refusal result.state }
+pub fn begin(runs: &[f64], h: Heights, start: Point, first_id: u64) -> Result<State, Refusal>
+    ensures value { begun_told result ≡ begin_of runs.now h start first_id }
+    ensures followed { Followed runs.now h (begun_told result).refusal (begun_told result).state }
 {
-    let k = refusal_of_begin(runs, h, start, first_id);
-    if k != 0 {
-        return Begun {
-            refusal: k,
-            state: state_at(at(0.0, 0.0, 0.0), 0),
-        };
-    }
-    Begun {
-        refusal: 0,
-        state: state_at(start, first_id),
-    }
+    refusal_of_begin(runs, h, start, first_id)?;
+    Ok(state_at(start, first_id))
 }
 
 // The next move, or the end, and the state after it.
-pub fn next(runs: &[f64], h: Heights, s: State) -> Stepped
-    ensures { result ≡ next_of runs.now h s }
+pub fn next(runs: &[f64], h: Heights, s: State) -> Result<Stepped, Refusal>
+    ensures { told s result ≡ next_of runs.now h s }
 {
-    let n = refusal_of_state(runs, s);
-    if n != 0 {
-        return Stepped {
-            refusal: n,
-            step: Step::Nothing,
-            state: s,
-        };
-    }
-    go_on(runs, h, s)
+    refusal_of_state(runs, s)?;
+    Ok(go_on(runs, h, s))
 }
 
 // ---- where the moves begin
-
-fn at(x: f64, y: f64, z: f64) -> Point
-    ensures { result ≡ point x y z }
-{
-    Point { x, y, z }
-}
 
 // Lift, run 0, at p.
 fn state_at(p: Point, first_id: u64) -> State
@@ -148,33 +115,36 @@ fn state_at(p: Point, first_id: u64) -> State
     }
 }
 
-// Refusals 1, 26 and 27, or 0.
-fn refusal_of_begin(runs: &[f64], h: Heights, start: Point, first_id: u64) -> u32
-    ensures { result ≡ refusal_of_begin runs.now h start first_id }
+// Refusals 1, 26 and 27.
+#[tactic(auto, using(rules::proofs::Ladder::ladder), unfolding(crate::specs::Begin::refusal_of_begin, refusals::specs::Numbers::code_of, refusals::specs::Numbers::number_of))]
+fn refusal_of_begin(runs: &[f64], h: Heights, start: Point, first_id: u64) -> Result<(), Refusal>
+    ensures { code_of result ≡ refusal_of_begin runs.now h start first_id }
 {
     if runs.len() % 5 != 0 {
-        return 1;
+        return Err(Refusal::Length);
     }
     if !are_heights(h, start) {
-        return 26;
+        return Err(Refusal::Heights);
     }
     refusal_of_runs(runs, h.feed, first_id)
 }
 
-// Refusal 26 of the runs, or 27, or 0.
-fn refusal_of_runs(runs: &[f64], feed: f64, first_id: u64) -> u32
-    ensures { result ≡ refusal_of_runs runs.now feed first_id }
+// Refusal 26 of the runs, or 27.
+#[tactic(auto, using(rules::proofs::Ladder::ladder), unfolding(crate::specs::Begin::refusal_of_runs, refusals::specs::Numbers::code_of, refusals::specs::Numbers::number_of))]
+fn refusal_of_runs(runs: &[f64], feed: f64, first_id: u64) -> Result<(), Refusal>
+    ensures { code_of result ≡ refusal_of_runs runs.now feed first_id }
 {
     if !are_runs(feed, runs) {
-        return 26;
+        return Err(Refusal::Heights);
     }
     if !are_ids(first_id, runs.len() / 5) {
-        return 27;
+        return Err(Refusal::Id);
     }
-    0
+    Ok(())
 }
 
 // Whether heights and start are in their ranges and in order.
+#[tactic(auto, unfolding(crate::specs::Begin::are_heights))]
 fn are_heights(h: Heights, p: Point) -> bool
     ensures { result ≡ are_heights h p }
 {
@@ -183,6 +153,7 @@ fn are_heights(h: Heights, p: Point) -> bool
 }
 
 // feed <= retract <= clearance <= start z.
+#[tactic(auto, unfolding(crate::specs::Begin::in_order))]
 fn in_order(h: Heights, p: Point) -> bool
     ensures { result ≡ in_order h p }
 {
@@ -193,6 +164,7 @@ fn in_order(h: Heights, p: Point) -> bool
 fn are_runs(feed: f64, runs: &[f64]) -> bool
     ensures { result ≡ are_runs feed (runs_of runs.now) }
 {
+    // by index: a run is five numbers of the table, which `run_at` reads by its place
     for m in 0..runs.len() / 5 {
         if !is_run(feed, join::run_at(runs, m)) {
             return false;
@@ -202,6 +174,7 @@ fn are_runs(feed: f64, runs: &[f64]) -> bool
 }
 
 // The same of one run.
+#[tactic(auto, unfolding(crate::specs::Begin::is_run))]
 fn is_run(feed: f64, r: Run) -> bool
     ensures { result ≡ is_run feed r }
 {
@@ -225,23 +198,25 @@ fn are_ids(first_id: u64, n: usize) -> bool
 
 // ---- one step
 
-// Refusals 1 and 29, or 0.
-fn refusal_of_state(runs: &[f64], s: State) -> u32
-    ensures { result ≡ refusal_of_state runs.now s }
+// Refusals 1 and 29.
+#[tactic(auto, using(rules::proofs::Ladder::ladder), unfolding(crate::specs::Next::refusal_of_state, refusals::specs::Numbers::code_of, refusals::specs::Numbers::number_of))]
+fn refusal_of_state(runs: &[f64], s: State) -> Result<(), Refusal>
+    ensures { code_of result ≡ refusal_of_state runs.now s }
 {
     if runs.len() % 5 != 0 {
-        return 1;
+        return Err(Refusal::Length);
     }
     if !is_within(runs.len() / 5, s) {
-        return 29;
+        return Err(Refusal::State);
     }
     if is_spent(s) {
-        return 29;
+        return Err(Refusal::State);
     }
-    0
+    Ok(())
 }
 
 // Whether a state's run is in a table of n runs, where it needs one.
+#[tactic(auto, unfolding(crate::specs::Next::is_within))]
 fn is_within(n: usize, s: State) -> bool
     ensures { result ≡ is_within n s }
 {
@@ -256,6 +231,7 @@ fn is_within(n: usize, s: State) -> bool
 }
 
 // Whether a state that is not ended has no next id.
+#[tactic(auto, unfolding(crate::specs::Next::is_spent))]
 fn is_spent(s: State) -> bool
     ensures { result ≡ is_spent s }
 {
@@ -266,12 +242,14 @@ fn is_spent(s: State) -> bool
     s.next_id == LARGEST
 }
 
+#[tactic(auto, unfolding(crate::specs::Phases::is_lift))]
 fn is_lift(p: Phase) -> bool
     ensures { result ≡ is_lift p }
 {
     phase_number(p) == 0
 }
 
+#[tactic(auto, unfolding(crate::specs::Phases::is_ended))]
 fn is_ended(p: Phase) -> bool
     ensures { result ≡ is_ended p }
 {
@@ -279,6 +257,7 @@ fn is_ended(p: Phase) -> bool
 }
 
 // A phase's number, 0 to 7.
+#[tactic(auto, unfolding(crate::specs::Phases::phase_number))]
 pub fn phase_number(p: Phase) -> u64
     ensures { result ≡ phase_number p }
 {
@@ -295,6 +274,7 @@ pub fn phase_number(p: Phase) -> u64
 }
 
 // A kind's number, 1 to 4.
+#[tactic(auto, unfolding(crate::specs::Phases::kind_number))]
 pub fn kind_number(k: Kind) -> u64
     ensures { result ≡ kind_number k }
 {
@@ -310,7 +290,7 @@ pub fn kind_number(k: Kind) -> u64
 fn go_on(runs: &[f64], h: Heights, s: State) -> Stepped
     requires s_value { is_within (room_of runs.now) s ≡ true }
     requires s_value_2 { is_spent s ≡ false }
-    ensures { result ≡ go_on runs.now h (lines_left (room_of runs.now) s) s }
+    ensures { told s (Ok result) ≡ go_on runs.now h (lines_left (room_of runs.now) s) s }
 {
     let mut now = s;
     while !is_done(now) {
@@ -321,8 +301,7 @@ fn go_on(runs: &[f64], h: Heights, s: State) -> Stepped
         now = passed(now, l);
     }
     Stepped {
-        refusal: 0,
-        step: Step::Nothing,
+        step: None,
         state: now,
     }
 }
@@ -347,7 +326,7 @@ fn is_empty(s: State, l: Leg) -> bool
 // A line's move, and the state after it.
 fn given(s: State, l: Leg) -> Stepped
     requires { s.next_id ≡ largest → ⊥ }
-    ensures { result ≡ stepped 0 (Go (move_by s l)) (moved_by s l) }
+    ensures { result ≡ record { step = Some (move_by s l); state = moved_by s l } }
 {
     let start = s.position;
     let end = l.end;
@@ -367,8 +346,7 @@ fn given(s: State, l: Leg) -> Stepped
         next_id: id + 1,
     };
     Stepped {
-        refusal: 0,
-        step: Step::Go(go),
+        step: Some(go),
         state,
     }
 }

@@ -11,13 +11,7 @@ use Rattle.fives.proofs.Writing.{written_at}
 use Rattle.levels.specs.declared.Level.{Level}
 use Rattle.levels.specs.Levels.{five_of}
 use Rattle.levels.specs.Inside.{level_in}
-use borrow.Author.Tests.{lt-ltb, le-ltb}
-use lib.Dec.{ltb}
-use Rattle.rows.specs.declared.Axis.{Axis}
-use Rattle.rows.specs.declared.Spread.{Spread}
-use Rattle.rows.specs.Lanes.{spread_of, intervals_of, step_of, samples_of}
-use Rattle.parameters.specs.declared.Parameters.{Parameters}
-use Rattle.parameters.specs.Terms.{any_of, too_fine}
+use Rattle.parameters.specs.Terms.{any_of}
 use Rattle.parameters.specs.Inside.{levels_in}
 
 level_read : (t : List Float) (xs ys : List Level) (x : Level) → length xs * 5 + 5 ≤ length t → level_in (written (map five_of (xs ++ x ∷ ys)) t) (length xs) ≡ x
@@ -67,19 +61,3 @@ module _ (test : Level → Bool) (t : List Float) where
   pub any_end : (m n : ℕ) → n ≤ m → any_of test (levels_in t m (n - m)) ≡ false
   unfolding any_of levels_in
   any_end m n h = let e : n - m ≡ 0 = omega arith in rw e
-
-pub or_on : (a b r : Bool) → a ≡ true → r ≡ true → r ≡ (a || b)
-or_on a b r e p = rw e p
-
-pub or_off : (a b r : Bool) → a ≡ false → r ≡ b → r ≡ (a || b)
-or_off a b r e p = rw e p
-
--- the two tests of 12
-module _ (p : Parameters) (axis : Axis) (r : Float) (l : Level) (s : Spread) (n : ℕ) (e : s ≡ spread_of axis r l) (q : n ≡ intervals_of s p.stepover) where
-  pub fine_rows : 65535 < n → true ≡ too_fine p axis r l
-  unfolding too_fine
-  fine_rows h = or_on (ltb 65535 (intervals_of (spread_of axis r l) p.stepover)) _ true (rw (← e, ← q) (lt-ltb 65535 n h)) refl
-
-  pub fine_samples : n ≤ 65535 → (k : ℕ) → k ≡ samples_of s (step_of p.stepover r) → ltb 65535 k ≡ too_fine p axis r l
-  unfolding too_fine
-  fine_samples h k f = or_off (ltb 65535 (intervals_of (spread_of axis r l) p.stepover)) _ (ltb 65535 k) (rw (← e, ← q) (le-ltb 65535 n h)) (rw (f, e))

@@ -10,11 +10,10 @@ use lib.Seq.{take_at}
 use Rattle.rules.proofs.Branches.{taken, left as passed-by}
 use Rattle.fields.specs.Little.{value}
 use Rattle.fields.proofs.Rows.{row_length}
-use Rattle.grid.specs.declared.Built.{Built}
 use Rattle.grid.specs.Build as build
-use Rattle.grid.specs.Build.{build_of, outcome}
+use Rattle.grid.specs.Build.{Built, build_of, outcome}
 use Rattle.grid.specs.Index.{index_of, BuildPromise}
-use Rattle.ask.specs.declared.Answer.{Answer}
+use Rattle.ask.specs.Ask.{Answer}
 use Rattle.ask.specs.Ask as ask
 use Rattle.ask.specs.Ask.{refused_by}
 use Rattle.height.specs.Sweep.{Sweep}

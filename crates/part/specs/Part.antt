@@ -9,8 +9,7 @@ use Rattle.grid.specs.Build as build
 use Rattle.grid.specs.Build.{build_of}
 use Rattle.grid.specs.Index.{index_of, BuiltFrom}
 use Rattle.query.specs.Looked.{looked_in}
-use Rattle.ask.specs.declared.Answer.{Answer}
-use Rattle.ask.specs.Ask.{refused_by}
+use Rattle.ask.specs.Ask.{Answer, refused_by}
 use Rattle.height.specs.Sweep.{Sweep, patch_for, capsule_for}
 use Rattle.height.specs.Height.{max_height_of}
 use Rattle.height.specs.Demand.{Demand3}

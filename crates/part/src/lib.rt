@@ -2,11 +2,12 @@
 #![tactic(auto)]
 
 ghost use Rattle.std.specs.Prelude.{◌≡◌};
-ghost use Rattle.ask.specs.Ask.{refused_by};
+ghost use Rattle.ask.specs.Ask.{answer_told};
 ghost use Rattle.height.specs.Sweep.{sweep};
 ghost use Rattle.part.specs.Part.{mesh_of, asked, mesh_height_of, left, part_height_of, MeetsDemand3};
 
 use ask::Answer;
+use refusals::Refusal;
 
 // The swept-disk height over the part in an STL file: the file's mesh goes into mesh, its index with this floor and radius into starts, members and boxes;
 // then the question is asked. A refusal is the reader's, the builder's or the question's, and what came before it stays.
@@ -25,21 +26,16 @@ pub fn part_height(
     qx: f64,
     qy: f64,
     r: f64,
-) -> Answer
-    ensures marks_after { left mesh.new (asked result starts.new members.new boxes.new marks.new)
+) -> Result<Answer, Refusal>
+    ensures marks_after { left mesh.new (asked (answer_told result stamp) starts.new members.new boxes.new marks.new)
         ≡ part_height_of bytes.now mesh.old floor radius starts.old members.old boxes.old marks.old stamp
         (sweep px py qx qy r) }
-    ensures meets_demand3 { result.refusal ≡ 0
+    ensures meets_demand3 { (answer_told result stamp).refusal ≡ 0
         → MeetsDemand3 (mesh_of bytes.now) starts.new members.new boxes.new marks.old stamp
-        (sweep px py qx qy r) result }
+        (sweep px py qx qy r) (answer_told result stamp) }
 {
-    let o = stl::read_stl(bytes, mesh);
-    let refusal = o.refusal;
-    let n = o.n as usize;
-    if refusal != 0 {
-        return refused(refusal, stamp);
-    }
-    let end = 9 * n;
+    let n = stl::read_stl(bytes, mesh)?;
+    let end = 9 * n as usize;
     mesh_height(
         &mesh[..end],
         floor,
@@ -72,36 +68,16 @@ fn mesh_height(
     qx: f64,
     qy: f64,
     r: f64,
-) -> Answer
-    ensures marks_after { asked result starts.new members.new boxes.new marks.new
+) -> Result<Answer, Refusal>
+    ensures marks_after { asked (answer_told result stamp) starts.new members.new boxes.new marks.new
         ≡ mesh_height_of mesh.now floor radius starts.old members.old boxes.old marks.old stamp
         (sweep px py qx qy r) }
-    ensures meets_demand3 { result.refusal ≡ 0
+    ensures meets_demand3 { (answer_told result stamp).refusal ≡ 0
         → MeetsDemand3 mesh.now starts.new members.new boxes.new marks.old stamp
-        (sweep px py qx qy r) result }
+        (sweep px py qx qy r) (answer_told result stamp) }
 {
-    let b = grid::build(mesh, floor, radius, starts, members, boxes);
-    let refusal = b.refusal;
-    let h = b.header;
-    if refusal != 0 {
-        return refused(refusal, stamp);
-    }
+    let h = grid::build(mesh, floor, radius, starts, members, boxes)?;
     height::max_height(
         mesh, h, starts, members, boxes, marks, stamp, px, py, qx, qy, r,
     )
-}
-
-// The answer to what reader or builder refuses.
-fn refused(k: u32, stamp: u32) -> Answer
-    ensures { result ≡ refused_by k stamp }
-{
-    Answer {
-        refusal: k,
-        height: 0.0,
-        count: 0,
-        stamp,
-        triangle: 0,
-        kind: 0,
-        which: 0,
-    }
 }

@@ -12,8 +12,8 @@ use Rattle.rules.specs.Ladder.{refuse}
 use Rattle.rules.proofs.Ladder.{refuse_next, agrees}
 use Rattle.fields.proofs.Copies.{Ladder, said, value_head, told_apart}
 use Rattle.paths.specs.Layout.{mark, version, zero_byte, count, letters}
-use Rattle.paths.specs.Reader.{refusal_of_numbers, refusal_of_length, refusal_of_count, refusal_of, shape_of, Sound, SoundExactly, NeverTakenForAPart}
-use Rattle.paths.proofs.Ladder.{sound, exactly}
+use Rattle.paths.specs.Reader.{refusal_of_numbers, refusal_of_length, refusal_of_count, refusal_of, shape_of, Sound, NeverTakenForAPart}
+use Rattle.paths.proofs.Ladder.{sound}
 
 -- the tests of the head
 early : List ℕ → ℕ → ℕ
@@ -54,7 +54,3 @@ module _ (bytes : List ℕ) where
   never_a_part k p z =
       let s = sound bytes (sym p ∙ z) in
       told_apart rungs _ _ bytes is_said (λ xs e. refl) same_head (passed s) refl (omega arith) (omega (arith, s.whole))
-
-  -- all that the reader promises of its refusal
-  pub whole_contract : (k : ℕ) → k ≡ refusal_of bytes → (k ≡ refusal_of bytes) × (SoundExactly bytes k × (k ≡ 0 → NeverTakenForAPart bytes))
-  whole_contract k p = (p, (exactly bytes k p, never_a_part k p))

@@ -1,31 +1,17 @@
 -- A list of moves gets no refusal exactly where it is sound.
 use mathlib.Core.List.{List}
-use mathlib.Core.Path.{◌≡◌, refl, ap, sym, ◌∙◌}
-use Prim.Native.Nat.{ℕ, ◌+◌, ◌*◌}
+use mathlib.Core.Path.{◌≡◌, refl, sym, ◌∙◌}
+use Prim.Native.Nat.{ℕ}
 use native.Mathlib.Nat.{zero-add}
 use native.Mathlib.Omega.{arith}
 use borrow.Author.Tests.{eqb-true, le-ltb, ltb-false, not-false}
 use lib.Dec.{lit<}
 use lib.ListN.{length}
-use Rattle.fields.specs.declared.Shape.{Shape}
-use Rattle.fields.specs.declared.Length.{Length}
-use Rattle.fields.specs.declared.Length.TheVariants.{Exact}
-use Rattle.fields.specs.Length.{length_rule, refuse_length}
 use Rattle.rules.proofs.Ladder.{refuse_next, refused_not, agrees}
-use Rattle.fields.proofs.Lengths.{exact_only, exact_length, rung_exact, rung_told}
+use Rattle.fields.proofs.Lengths.{exact_only, rung_exact}
 use Rattle.fields.proofs.Rows.{passed, passes}
-use Rattle.paths.specs.Layout.{shape}
 use Rattle.paths.specs.Reader.{number_of, refusal_of_kinds, refusal_of_numbers, refusal_of_length, refusal_of_count, refusal_of, shape_of, Sound, SoundExactly}
 use Rattle.paths.proofs.Unknown.{all_known, none_unknown}
-
--- ---- the rung of the length
-module _ (bytes : List ℕ) (n : ℕ) (s : Shape) (i : s ≡ shape n) where
-  pub length_refused : (r : Length) (k : ℕ) → r ≡ length_rule s (length bytes) → k ≡ refuse_length r (refusal_of_numbers bytes n) → k ≡ refusal_of_length bytes n
-  unfolding refusal_of_length
-  length_refused r k p e = rung_told r _ k _ (p ∙ ap (λ (t : Shape). length_rule t (length bytes)) i) e
-
-  pub length_fits : Exact ≡ length_rule s (length bytes) → length bytes ≡ 34 + 25 * n
-  length_fits p = omega (arith, exact_length (shape n) (length bytes) (p ∙ ap (λ (t : Shape). length_rule t (length bytes)) i))
 
 module _ (bytes : List ℕ) where
   -- a list that passes every rung is sound

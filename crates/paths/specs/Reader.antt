@@ -74,6 +74,16 @@ refusal_of bytes =
     (refuse (not (eqb (value zero_byte bytes) 0)) 17
     (refusal_of_count bytes (value count bytes)))))
 
+-- ---- what is told
+
+-- how many moves are told with refusal k of a list of n moves: with 19 those that stand whole before the cut, else none
+unfoldable pub told_of_count : ℕ → ℕ → List ℕ → ℕ
+told_of_count n k bytes = cond (eqb k 19) (whole_in (shape n) (length bytes)) 0
+
+-- the same of the count that these bytes hold
+unfoldable pub told_with : ℕ → List ℕ → ℕ
+told_with k bytes = told_of_count (value count bytes) k bytes
+
 -- ---- the lists that are accepted: exactly these are
 
 pub record Sound (bytes : List ℕ) : Type 0 where
@@ -96,6 +106,6 @@ abbrev pub shape_of : List ℕ → Shape
 shape_of bytes = shape (value count bytes)
 
 -- Of an accepted list every part is refused, with 14 where it is shorter than 34 bytes, else with 19; with any bytes behind it the list is refused with 21.
--- How many whole moves stand before the cut is not told.
+-- The number of whole moves that stand before the cut is not among the numbers that C is answered.
 abbrev pub NeverTakenForAPart : List ℕ → Type 0
 NeverTakenForAPart bytes = ToldApart refusal_of (λ xs. whole_in (shape_of xs) (length xs)) (shape_of bytes) bytes

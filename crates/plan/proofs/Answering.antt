@@ -1,4 +1,5 @@
 -- What a plan answers and leaves, refusal by refusal, and where it is accepted.
+use Rattle.std.specs.Prelude.{Result, Ok, Err}
 use mathlib.Core.Bool.{Bool, true, false, cond}
 use mathlib.Core.List.{List, map}
 use mathlib.Core.Logic.{⊎_elim}
@@ -36,11 +37,13 @@ use Rattle.probe.specs.Inside.{Askable, Marked}
 use Rattle.row_runs.specs.Search.{Found}
 use Rattle.search.specs.declared.Counted.{Counted}
 use Rattle.search.specs.Inside.{Searched}
-use Rattle.plan.specs.declared.Planned.{Planned}
-use Rattle.plan.specs.declared.Surveyed.{Surveyed}
-use Rattle.plan.specs.Plan.{refusal_of_input, refusal_of_tables, levels_under, found_on, Outcome, outcome}
+use Rattle.refusals.specs.declared.Refusal.{Refusal}
+use Rattle.refusals.specs.Numbers.{number_of, code_of}
+use Rattle.refusals.proofs.Named.{not_zero}
+use Rattle.plan.specs.declared.Planned as planned
+use Rattle.plan.specs.Plan.{refusal_of_input, refusal_of_tables, levels_under, found_on, Planned, told, Outcome, outcome}
 use Rattle.plan.specs.Plan.{refused_by, accepted_with, wiped, worked_of, plan_of, NeverSeven}
-use Rattle.plan.specs.Inside.{Ready, Surveys, Settled, settled, given_up, settled_of, finished_of}
+use Rattle.plan.specs.Inside.{Ready, Surveys, Settled, given_up, settled_of, finished_of}
 use Rattle.plan.proofs.Counting.{levels_few}
 use Rattle.plan.proofs.Surveying.{Taken, survey_taken}
 
@@ -68,16 +71,15 @@ module _ (ix : Index) (marks : List ℕ) (p : Parameters) where
         size = omega (arith, w.nine);
       }
 
-  module _ (levels runs : List Float) (axis : Axis) (k : ℕ) (e : k ≡ refusal_of_input ix marks p) where
-    pub input_refused : (a : Planned) → (k ≡ 0 → ⊥) → a ≡ refused_by k → outcome a levels runs marks ≡ plan_of ix marks levels runs p axis
-    unfolding plan_of
-    input_refused a n f =
-        left _ _ _ _ (ne_eqb _ 0 (λ z. n (e ∙ z)))
-        (ap (λ (b : Planned). outcome b levels runs marks) f ∙ ap (λ (j : ℕ). outcome (refused_by j) levels runs marks) e)
+  module _ (levels runs : List Float) (axis : Axis) where
+    pub input_refused : (a : Result planned.Planned Refusal) (r : Refusal) → a ≡ Err r → number_of r ≡ refusal_of_input ix marks p
+        → outcome (told a) levels runs marks ≡ plan_of ix marks levels runs p axis
+    unfolding told plan_of
+    input_refused a r q e = rw (q, ← e) (left _ _ _ _ (ne_eqb (number_of r) 0 (not_zero r)) refl)
 
-    pub input_passed : (o : Outcome) → k ≡ 0 → o ≡ worked_of ix marks levels runs p axis → o ≡ plan_of ix marks levels runs p axis
+    pub input_passed : (o : Outcome) → 0 ≡ refusal_of_input ix marks p → o ≡ worked_of ix marks levels runs p axis → o ≡ plan_of ix marks levels runs p axis
     unfolding plan_of
-    input_passed o z f = taken _ _ _ _ (eq-eqb _ 0 (sym e ∙ z)) f
+    input_passed o e f = taken _ _ _ _ (eq-eqb _ 0 (sym e)) f
 
 -- ---- never 7 over the index built from its mesh
 
@@ -163,9 +165,6 @@ module _ (t u₀ u : List Float) (count : ℕ) (f : Found) (y : Counted) (s : Se
       rw (b, le-ltb (room_of u₀) (length rs) (omega (arith, s.count)), s.table, n, s.rows, s.cut, s.dropped))
       (on_or_off (ltb (room_of u) y.tally.count))
 
-pub settled_same : (a b : Planned) (t t' u u' : List Float) → a ≡ b → t ≡ t' → u ≡ u' → settled a t u ≡ settled b t' u'
-settled_same a b t t' u u' e p q = ap (λ (x : Planned). settled x t u) e ∙ (rw (p, q))
-
 zeros_below : (n i : ℕ) → get_or (replicate n 0) i 0 ≤ 0
 zeros_below zero i = omega arith
 zeros_below (suc n) zero = omega arith
@@ -206,7 +205,7 @@ module _ (ix : Index) (marks : List ℕ) (levels runs : List Float) (p : Paramet
       ∙ (rw (a, b, w)))
 
   -- where the tables are zero and the levels are written
-  module _ (t₀ u₀ t : List Float) (m : List ℕ) (s : Surveyed) (size : length marks ≡ ix.header.n) (zt : t₀ ≡ zeroed levels) (zu : u₀ ≡ zeroed runs)
+  module _ (t₀ u₀ t : List Float) (m : List ℕ) (s : Result ℕ Refusal) (size : length marks ≡ ix.header.n) (zt : t₀ ≡ zeroed levels) (zu : u₀ ≡ zeroed runs)
       (v₀ : Surveys (levels_of ix.mesh ix.boxes (length marks) p.tolerance p.level_tolerance ix.header.floor) p axis
       ix.header.r t₀ marks t m s) where
     v : Surveys ls p axis ix.header.r t₀ marks t m s
@@ -223,36 +222,45 @@ module _ (ix : Index) (marks : List ℕ) (levels runs : List Float) (p : Paramet
     runs_room : length u₀ ≡ length runs
     runs_room = ap length zu ∙ zeroed_length runs
 
-    tested : s.refusal ≡ refusal_of_levels (room_of levels) p axis ix.header.r ls
+    tested : code_of s ≡ refusal_of_levels (room_of levels) p axis ix.header.r ls
     tested = v.refusal ∙ ap (λ (n : ℕ). refusal_of_levels (n / 5) p axis ix.header.r ls) levels_room
 
     -- 11, 10 or 12
-    pub levels_refused : (s.refusal ≡ 0 → ⊥) → (a : Settled) → a ≡ given_up s.refusal t u₀ → outcome a.answer a.levels a.runs m ≡ answer
-    unfolding refusal_of_tables
-    levels_refused n a e = late s.refusal (left _ _ _ _ (ne_eqb _ 0 (λ z. n (tested ∙ z))) tested) n a t u₀ m table_room runs_room e v.clean
+    pub levels_refused : (k : Refusal) → s ≡ Err k → (a : Settled) → a ≡ given_up (number_of k) t u₀ → outcome a.answer a.levels a.runs m ≡ answer
+    unfolding refusal_of_tables code_of
+    levels_refused k q a e =
+        let g : number_of k ≡ refusal_of_levels (room_of levels) p axis ix.header.r ls = rw q at tested in
+        late (number_of k) (left _ _ _ _ (ne_eqb _ 0 (λ z. not_zero k (g ∙ z))) g) (not_zero k) a t u₀ m table_room runs_room e v.clean
 
-    module _ (z : s.refusal ≡ 0) where
+    module _ (count : ℕ) (o : s ≡ Ok count) where
+      z : code_of s ≡ 0
+      unfolding code_of
+      z = rw o refl
+
+      counted : count ≡ length ls
+      counted = rw o at v.count
+
       taken_levels : Taken t₀ ls p axis ix.header.r
       taken_levels = survey_taken t₀ ls p axis ix.header.r (sym v.refusal ∙ z)
 
-      read : levels_in t 0 s.count ≡ ls
-      read = ap (λ (x : List Float). levels_in x 0 s.count) v.table ∙ ap (levels_in (written (map levelFive ls) t₀) 0) v.count
+      read : levels_in t 0 count ≡ ls
+      read = ap (λ (x : List Float). levels_in x 0 count) v.table ∙ ap (levels_in (written (map levelFive ls) t₀) 0) counted
           ∙ levels_read t₀ ls taken_levels.room
 
       -- what the search asks for
-      pub search_asks : Askable ix → Askable ix × Marked ix.header.n 0 m × (s.count * 5 ≤ length t) × (s.count ≤ 65536)
-          × (any_of (too_fine p axis ix.header.r) (levels_in t 0 s.count) ≡ false)
+      pub search_asks : Askable ix → Askable ix × Marked ix.header.n 0 m × (count * 5 ≤ length t) × (count ≤ 65536)
+          × (any_of (too_fine p axis ix.header.r) (levels_in t 0 count) ≡ false)
       unfolding levels_under
       search_asks q = (
         q,
         wiped_marked ix.header.n marks m size v.clean,
-        omega (arith, taken_levels.room, v.count, table_room, levels_room),
-        omega (arith, v.count, q.few, levels_few ix.mesh ix.boxes ix.header.n p.tolerance p.level_tolerance ix.header.floor),
+        omega (arith, taken_levels.room, counted, table_room, levels_room),
+        omega (arith, counted, q.few, levels_few ix.mesh ix.boxes ix.header.n p.tolerance p.level_tolerance ix.header.floor),
         rw read taken_levels.coarse,
       )
 
       -- 13, or accepted
-      pub found_settled : (a : Settled) (m' : List ℕ) → a ≡ finished_of t u₀ s.count (found_on ix p axis (levels_in t 0 s.count))
+      pub found_settled : (a : Settled) (m' : List ℕ) → a ≡ finished_of t u₀ count (found_on ix p axis (levels_in t 0 count))
           → m' ≡ replicate ix.header.n 0 → outcome a.answer a.levels a.runs m' ≡ answer
       unfolding finished_of refusal_of_tables worked_of
       found_settled a m' e w =
@@ -262,7 +270,7 @@ module _ (ix : Index) (marks : List ℕ) (levels runs : List Float) (p : Paramet
           ∙ (rw (read, runs_room, b))) clean)
           (λ (b : ltb (room_of runs) (length joined) ≡ false).
           taken _ _ _ _ (eq-eqb _ 0 (sym (taken _ _ _ _ (eq-eqb _ 0 (sym tested ∙ z)) (refuse_next _ 13 0 0 b refl))))
-          (ap (λ (x : Settled). outcome x.answer x.levels x.runs m') e ∙ (rw (read, runs_room, b, v.table, zt, zu, v.count, clean))))
+          (ap (λ (x : Settled). outcome x.answer x.levels x.runs m') e ∙ (rw (read, runs_room, b, v.table, zt, zu, counted, clean))))
           (on_or_off (ltb (room_of runs) (length joined)))
         where
           clean : m' ≡ wiped marks

@@ -40,7 +40,7 @@ use Rattle.probe.specs.Probe.{height_under}
 use Rattle.row_runs.specs.Search.{Found}
 use Rattle.row_runs.specs.Sampled.{clear_at, halves_of, halves_of_all}
 use Rattle.row_runs.proofs.Sampling.{levels_halved}
-use Rattle.plan.specs.declared.Planned.{Planned}
+use Rattle.plan.specs.Plan.{Planned}
 use Rattle.plan.specs.Plan.{refusal_of_input, refusal_of_tables, levels_under, found_on, Outcome, outcome, worked_of, plan_of}
 use Rattle.plan.specs.Lost.{asked_again, Safe, stretches_on, pieces_on, halves_on, NothingLost}
 use Rattle.plan.proofs.Surveying.{survey_taken}

@@ -1,4 +1,5 @@
 -- Levels written to a table are tested there as they are tested in a list.
+use Rattle.std.specs.Prelude.{Result, Ok, Err, IfOk}
 use mathlib.Core.Bool.{true, false}
 use mathlib.Core.List.{List, map}
 use mathlib.Core.Logic.{⊎_elim}
@@ -20,6 +21,8 @@ use Rattle.parameters.specs.declared.Parameters.{Parameters}
 use Rattle.parameters.specs.Terms.{too_deep, too_fine, any_of, refusal_of_levels}
 use Rattle.parameters.specs.Inside.{refusal_of_count}
 use Rattle.parameters.proofs.Testing.{levels_read}
+use Rattle.refusals.specs.declared.Refusal.{Refusal}
+use Rattle.refusals.specs.Numbers.{number_of, code_of}
 use Rattle.plan.specs.Inside.{Surveys}
 
 module _ (t : List Float) (ls : List Level) (p : Parameters) (axis : Axis) (r : Float) where
@@ -37,15 +40,23 @@ module _ (t : List Float) (ls : List Level) (p : Parameters) (axis : Axis) (r : 
       (on_or_off (ltb (room_of t) (length ls))))
 
   -- the levels found, the marks wiped, and the tests made
-  pub surveyed : (t' : List Float) (m₀ m m' : List ℕ) (count k : ℕ) → t' ≡ table → count ≡ length ls → length m ≡ length m₀ → m' ≡ replicate (length m) 0
-      → k ≡ refusal_of_count t' count p axis r → Surveys ls p axis r t m₀ t' m' (record { count = count; refusal = k })
-  surveyed t' m₀ m m' count k a b l w e =
-      record {
-        table = a;
-        clean = w ∙ ap (λ (n : ℕ). replicate n 0) l;
-        count = b;
-        refusal = e ∙ ap (λ (x : List Float). refusal_of_count x count p axis r) a ∙ survey_refused count b;
-      }
+  module _ (t' : List Float) (m₀ m m' : List ℕ) (count : ℕ) (a : t' ≡ table) (b : count ≡ length ls) (l : length m ≡ length m₀) (w : m' ≡ replicate (length m) 0) where
+    surveyed : (s : Result ℕ Refusal) → IfOk s (λ n. n ≡ length ls) → code_of s ≡ refusal_of_count t' count p axis r → Surveys ls p axis r t m₀ t' m' s
+    surveyed s i e =
+        record {
+          table = a;
+          clean = w ∙ ap (λ (n : ℕ). replicate n 0) l;
+          count = i;
+          refusal = e ∙ ap (λ (x : List Float). refusal_of_count x count p axis r) a ∙ survey_refused count b;
+        }
+
+    pub surveyed_refused : (s : Result ℕ Refusal) (k : Refusal) → s ≡ Err k → number_of k ≡ refusal_of_count t' count p axis r → Surveys ls p axis r t m₀ t' m' s
+    unfolding code_of
+    surveyed_refused s k q e = rw q (surveyed (Err k) tt e)
+
+    pub surveyed_passed : 0 ≡ refusal_of_count t' count p axis r → Surveys ls p axis r t m₀ t' m' (Ok count)
+    unfolding code_of
+    surveyed_passed e = surveyed (Ok count) b e
 
   -- what levels that are not refused are
   pub record Taken : Type 0 where

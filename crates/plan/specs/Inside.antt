@@ -1,5 +1,5 @@
 -- What the parts of the plan promise each other.
-use Rattle.std.specs.Prelude.{cond, List, map, ◌≡◌, ℕ, ltb, Float, length}
+use Rattle.std.specs.Prelude.{cond, List, map, ◌≡◌, ℕ, ltb, Float, length, Result, IfOk}
 use Rattle.numbers.specs.Reals.{f0}
 use Rattle.grid.specs.Index.{Index}
 use Rattle.fives.specs.Tables.{room_of, written, zeroed}
@@ -13,22 +13,22 @@ use Rattle.parameters.specs.Terms.{refusal_of_levels}
 use Rattle.probe.specs.Inside.{Askable}
 use Rattle.row_runs.specs.Search.{Found}
 use Rattle.search.specs.declared.Counted.{Counted}
-use Rattle.plan.specs.declared.Planned.{Planned}
-use Rattle.plan.specs.declared.Surveyed.{Surveyed}
-use Rattle.plan.specs.Plan.{refused_by, wiped}
+use Rattle.refusals.specs.declared.Refusal.{Refusal}
+use Rattle.refusals.specs.Numbers.{code_of}
+use Rattle.plan.specs.Plan.{Planned, refused_by, wiped}
 
 -- What 1 and 7 let pass: a mark for each triangle, and every question over the mesh can be walked.
 pub record Ready (ix : Index) (marks : List ℕ) : Type 0 where
   pub askable : Askable ix
   pub size : length marks ≡ ix.header.n
 
--- The levels ls stand in their table, the marks are wiped, and it is known how many levels there are and whether they are refused.
+-- The levels ls stand in their table, the marks are wiped, and it is answered how many levels there are, or why they are refused.
 pub record Surveys (ls : List Level) (p : Parameters) (axis : Axis) (r : Float) (levels₀ : List Float)
-    (marks₀ : List ℕ) (levels : List Float) (marks : List ℕ) (s : Surveyed) : Type 0 where
+    (marks₀ : List ℕ) (levels : List Float) (marks : List ℕ) (s : Result ℕ Refusal) : Type 0 where
   pub table : levels ≡ written (map levelFive ls) levels₀
   pub clean : marks ≡ wiped marks₀
-  pub count : s.count ≡ length ls
-  pub refusal : s.refusal ≡ refusal_of_levels (room_of levels₀) p axis r ls
+  pub count : IfOk s (λ n. n ≡ length ls)
+  pub refusal : code_of s ≡ refusal_of_levels (room_of levels₀) p axis r ls
 
 -- An answer with both tables.
 pub record Settled : Type 0 where

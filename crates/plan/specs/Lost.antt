@@ -3,7 +3,7 @@ use Rattle.std.specs.Prelude.{true, List, [], ◌≡◌, Float, replicate}
 use Rattle.std.specs.Float.Ieee.{le}
 use Rattle.numbers.specs.Reals.{◌⊕◌, f0}
 use Rattle.grid.specs.Index.{Index}
-use Rattle.ask.specs.declared.Answer.{Answer}
+use Rattle.ask.specs.Ask.{Answer}
 use Rattle.height.specs.Sweep.{sweep}
 use Rattle.height.specs.Height.{max_height_of}
 use Rattle.fives.specs.Groups.{Each}
@@ -15,8 +15,7 @@ use Rattle.rows.specs.declared.Axis.{Axis}
 use Rattle.parameters.specs.declared.Parameters.{Parameters}
 use Rattle.probe.specs.Probe.{height_under}
 use Rattle.row_runs.specs.Sampled.{levels_sampled, halves_of, halves_of_all}
-use Rattle.plan.specs.declared.Planned.{Planned}
-use Rattle.plan.specs.Plan.{levels_under, found_on}
+use Rattle.plan.specs.Plan.{Planned, levels_under, found_on}
 
 module _ (ix : Index) where
   -- A swept-disk question of its own: along a run, with the radius of the index, wiped marks and stamp 0.

@@ -1,5 +1,5 @@
 -- Document 01, "Levels and runs" and "Refusal numbers": what `plan` answers, and what it leaves in levels, runs and marks.
-use Rattle.std.specs.Prelude.{cond, List, [], map, ◌≡◌, ℕ, eqb, ltb, Float, length, replicate}
+use Rattle.std.specs.Prelude.{cond, List, [], map, ◌≡◌, ℕ, eqb, ltb, Float, length, replicate, Result, Ok, Err}
 use Rattle.numbers.specs.Reals.{f0}
 use Rattle.grid.specs.Boxes.{is_boxed}
 use Rattle.grid.specs.Index.{Index, BuiltFrom}
@@ -17,7 +17,9 @@ use Rattle.parameters.specs.declared.Parameters.{Parameters}
 use Rattle.parameters.specs.Terms.{are_terms, refusal_of_levels}
 use Rattle.probe.specs.Probe.{height_under}
 use Rattle.row_runs.specs.Search.{Found, levels_found}
-use Rattle.plan.specs.declared.Planned.{Planned}
+use Rattle.refusals.specs.declared.Refusal.{Refusal}
+use Rattle.refusals.specs.Numbers.{number_of}
+use Rattle.plan.specs.declared.Planned as planned
 
 -- ---- what is refused
 
@@ -47,6 +49,26 @@ levels_under ix p = levels_of ix.mesh ix.boxes ix.header.n p.tolerance p.level_t
 unfoldable pub found_on : Index → Parameters → Axis → List Level → Found
 found_on ix p axis ls = levels_found (height_under ix) p axis ix.header.r (record { rows = 0; pieces = [] }) ls
 
+-- ---- what is answered
+
+-- A plan's answer: its refusal or 0, the numbers of levels, rows and runs, the cut length and the dropped length.
+pub record Planned : Type 0 where
+  pub refusal : ℕ
+  pub levels : ℕ
+  pub rows : ℕ
+  pub runs : ℕ
+  pub cut : Float
+  pub dropped : Float
+
+-- The answer of a refused plan: its number, zero counts and lengths.
+abbrev pub refused_by : ℕ → Planned
+refused_by k = record { refusal = k; levels = 0; rows = 0; runs = 0; cut = f0; dropped = f0 }
+
+-- How an answer is told.
+unfoldable pub told : Result planned.Planned Refusal → Planned
+told (Ok a) = record { refusal = 0; levels = a.levels; rows = a.rows; runs = a.runs; cut = a.cut; dropped = a.dropped }
+told (Err r) = refused_by (number_of r)
+
 -- ---- what is left
 
 -- The answer, the tables of levels and runs, and the marks.
@@ -59,11 +81,7 @@ pub record Outcome : Type 0 where
 abbrev pub outcome : Planned → List Float → List Float → List ℕ → Outcome
 outcome a levels runs marks = record { answer = a; levels = levels; runs = runs; marks = marks }
 
--- The answer of a refused plan: its number, zero counts and lengths.
-abbrev pub refused_by : ℕ → Planned
-refused_by k = record { refusal = k; levels = 0; rows = 0; runs = 0; cut = f0; dropped = f0 }
-
--- That of an accepted one: the numbers of levels, rows and runs, the cut length and the dropped length.
+-- The answer of an accepted plan: the numbers of levels, rows and runs, the cut length and the dropped length.
 abbrev pub accepted_with : List Level → Found → List Run → Planned
 accepted_with ls f rs =
     record { refusal = 0; levels = length ls; rows = f.rows; runs = length rs; cut = cut_of rs; dropped = dropped_by f0 f.pieces }

@@ -5,34 +5,28 @@ ghost use Rattle.std.specs.Prelude.{false, ◌≡◌, ◌*◌, ◌≤◌, length
 ghost use Rattle.grid.specs.Index.{index_of};
 ghost use Rattle.fives.specs.Tables.{zeroed};
 ghost use Rattle.levels.specs.Levels.{levels_of};
+ghost use Rattle.refusals.specs.Numbers.{number_of, code_of};
 ghost use Rattle.parameters.specs.Terms.{too_fine, any_of};
 ghost use Rattle.parameters.specs.Inside.{levels_in};
 ghost use Rattle.probe.specs.Inside.{Askable, Marked};
-ghost use Rattle.plan.specs.Plan.{refusal_of_input, found_on, outcome, refused_by, worked_of, plan_of, NeverSeven};
+ghost use Rattle.plan.specs.Plan.{refusal_of_input, found_on, told, outcome, worked_of, plan_of, NeverSeven};
 ghost use Rattle.plan.specs.Lost.{NothingLost};
 ghost use Rattle.plan.specs.Inside.{Ready, Surveys, settled, given_up, settled_of, finished_of};
 
 use grid::Header;
 use parameters::Parameters;
+use refusals::Refusal;
 use rows::Axis;
 use search::Counted;
 
-// A plan's answer: its refusal or 0, the numbers of levels, rows and runs, the cut length and the dropped length.
+// A plan's answer: the numbers of levels, rows and runs, the cut length and the dropped length.
 #[derive(Clone, Copy)]
 pub struct Planned {
-    pub refusal: u32,
     pub levels: usize,
     pub rows: usize,
     pub runs: usize,
     pub cut: f64,
     pub dropped: f64,
-}
-
-// How many levels there are, and their refusal or 0.
-#[derive(Clone, Copy)]
-pub struct Surveyed {
-    pub count: usize,
-    pub refusal: u32,
 }
 
 // The levels of a mesh and the runs on them, or why there is no plan. Refusals 1, 23, 9 and 7 touch nothing; 11, 10, 12 and 13 leave all three tables zero.
@@ -47,23 +41,21 @@ pub fn plan(
     runs: &mut [f64],
     p: Parameters,
     axis: Axis,
-) -> Planned
-    ensures marks_after { outcome result levels.new runs.new marks.new
+) -> Result<Planned, Refusal>
+    ensures marks_after { outcome (told result) levels.new runs.new marks.new
         ≡ plan_of (index_of mesh.now h starts.now members.now boxes.now) marks.old levels.old
         runs.old p axis }
-    ensures never_seven { NeverSeven (index_of mesh.now h starts.now members.now boxes.now) result.refusal }
-    ensures nothing_lost { result.refusal ≡ 0 → NothingLost (index_of mesh.now h starts.now members.now boxes.now) p axis result }
+    ensures never_seven { NeverSeven (index_of mesh.now h starts.now members.now boxes.now) (told result).refusal }
+    ensures nothing_lost { (told result).refusal ≡ 0 → NothingLost (index_of mesh.now h starts.now members.now boxes.now) p axis (told result) }
 {
-    let k = refusal(mesh, h, starts, members, boxes, marks, p);
-    if k != 0 {
-        return refused(k);
-    }
+    refusal(mesh, h, starts, members, boxes, marks, p)?;
     work(
         mesh, h, starts, members, boxes, marks, levels, runs, p, axis,
     )
 }
 
-// Refusals 1, 23, 9 and 7, or 0.
+// Refusals 1, 23, 9 and 7.
+#[tactic(auto, using(rules::proofs::Ladder::ladder), unfolding(crate::specs::Plan::refusal_of_input, refusals::specs::Numbers::code_of, refusals::specs::Numbers::number_of))]
 fn refusal(
     mesh: &[f64],
     h: Header,
@@ -72,36 +64,22 @@ fn refusal(
     boxes: &[f64],
     marks: &[u32],
     p: Parameters,
-) -> u32
-    ensures { result ≡ refusal_of_input (index_of mesh.now h starts.now members.now boxes.now) marks.now p }
+) -> Result<(), Refusal>
+    ensures { code_of result ≡ refusal_of_input (index_of mesh.now h starts.now members.now boxes.now) marks.now p }
 {
     if !query::is_marked(mesh, marks) {
-        return 1;
+        return Err(Refusal::Length);
     }
     if !grid::is_boxed(mesh, boxes) {
-        return 23;
+        return Err(Refusal::Boxes);
     }
     if !parameters::are_terms(p, h.r, h.floor) {
-        return 9;
+        return Err(Refusal::Parameter);
     }
     if !whole::usable_whole(mesh, h, starts, members, boxes) {
-        return 7;
+        return Err(Refusal::Index);
     }
-    0
-}
-
-// A refusal: its number, zero counts and lengths.
-fn refused(k: u32) -> Planned
-    ensures { result ≡ refused_by k }
-{
-    Planned {
-        refusal: k,
-        levels: 0,
-        rows: 0,
-        runs: 0,
-        cut: 0.0,
-        dropped: 0.0,
-    }
+    Ok(())
 }
 
 // The plan where 1, 23, 9 and 7 let it pass.
@@ -116,22 +94,19 @@ fn work(
     runs: &mut [f64],
     p: Parameters,
     axis: Axis,
-) -> Planned
+) -> Result<Planned, Refusal>
     requires { Ready (index_of mesh.now h starts.now members.now boxes.now) marks.old }
-    ensures { outcome result levels.new runs.new marks.new
+    ensures { outcome (told result) levels.new runs.new marks.new
         ≡ worked_of (index_of mesh.now h starts.now members.now boxes.now) marks.old levels.old
         runs.old p axis }
 {
     zero(levels, runs);
-    let s = survey(mesh, boxes, marks, levels, p, axis, h.r, h.floor);
-    let count = s.count;
-    let k = s.refusal;
-    if k != 0 {
-        return give_up(levels, runs, k);
+    match survey(mesh, boxes, marks, levels, p, axis, h.r, h.floor) {
+        Ok(count) => finish(
+            mesh, h, starts, members, boxes, marks, levels, runs, p, axis, count,
+        ),
+        Err(refusal) => give_up(levels, runs, refusal),
     }
-    finish(
-        mesh, h, starts, members, boxes, marks, levels, runs, p, axis, count,
-    )
 }
 
 // The levels that stand in their table searched, from a table of runs and marks that are zero.
@@ -147,10 +122,10 @@ fn finish(
     p: Parameters,
     axis: Axis,
     count: usize,
-) -> Planned
+) -> Result<Planned, Refusal>
     requires { Askable (index_of mesh.now h starts.now members.now boxes.now) × Marked h.n 0 marks.old × (count * 5 ≤ length levels.old)
         × (count ≤ 65536) × (any_of (too_fine p axis h.r) (levels_in levels.old 0 count) ≡ false) }
-    ensures { (settled result levels.new runs.new
+    ensures { (settled (told result) levels.new runs.new
         ≡ finished_of levels.old runs.old count
         (found_on (index_of mesh.now h starts.now members.now boxes.now) p axis (levels_in levels.old 0 count)))
         × (marks.new ≡ replicate h.n 0) }
@@ -180,7 +155,7 @@ fn survey(
     axis: Axis,
     r: f64,
     floor: f64,
-) -> Surveyed
+) -> Result<usize, Refusal>
     requires { (length mesh.now ≡ length marks.old * 9) × (length marks.old ≤ 65536) × (length boxes.now ≡ length marks.old * 5) }
     ensures { Surveys
         (levels_of mesh.now boxes.now (length marks.old) p.tolerance p.level_tolerance floor) p axis r
@@ -196,32 +171,38 @@ fn survey(
         levels,
     );
     walk::wipe(marks);
-    let refusal = parameters::refusal_of_levels(levels, count, p, axis, r);
-    Surveyed { count, refusal }
+    parameters::refusal_of_levels(levels, count, p, axis, r)?;
+    Ok(count)
 }
 
 // A late refusal: both tables become zero.
-fn give_up(levels: &mut [f64], runs: &mut [f64], k: u32) -> Planned
-    ensures { settled result levels.new runs.new ≡ given_up k levels.old runs.old }
+#[tactic(auto, unfolding(crate::specs::Plan::told))]
+fn give_up(levels: &mut [f64], runs: &mut [f64], refusal: Refusal) -> Result<Planned, Refusal>
+    ensures { settled (told result) levels.new runs.new ≡ given_up (number_of refusal) levels.old runs.old }
 {
     zero(levels, runs);
-    refused(k)
+    Err(refusal)
 }
 
 // Refusal 13, or the answer.
-fn settle(levels: &mut [f64], runs: &mut [f64], count: usize, y: Counted) -> Planned
-    ensures { settled result levels.new runs.new ≡ settled_of levels.old runs.old count y }
+#[tactic(auto, unfolding(crate::specs::Plan::told, crate::specs::Inside::settled_of, refusals::specs::Numbers::number_of))]
+fn settle(
+    levels: &mut [f64],
+    runs: &mut [f64],
+    count: usize,
+    y: Counted,
+) -> Result<Planned, Refusal>
+    ensures { settled (told result) levels.new runs.new ≡ settled_of levels.old runs.old count y }
 {
     let tally = y.tally;
     if runs.len() / 5 < tally.count {
-        return give_up(levels, runs, 13);
+        return give_up(levels, runs, Refusal::Runs);
     }
-    Planned {
-        refusal: 0,
+    Ok(Planned {
         levels: count,
         rows: y.rows,
         runs: tally.count,
         cut: tally.cut,
         dropped: tally.dropped,
-    }
+    })
 }

@@ -1,4 +1,5 @@
 -- The order in which heights take each other's place, on all floats: a height that was taken or passed over once is passed over ever after.
+use Rattle.std.specs.Prelude.{None, Option, Some}
 use mathlib.Core.Bool.{true, false, cond}
 use mathlib.Core.Path.{◌≡◌, sym, ◌∙◌}
 use lib.Dec.{not_T}
@@ -8,8 +9,7 @@ use Rattle.rules.proofs.Branches.{either, by_test, no}
 use Rattle.order.proofs.Strict.{lt_goes_on, lt_never_same, lt_number}
 use Rattle.plane.specs.declared.Touch.{Touch}
 use Rattle.plane.specs.declared.Contact.{Contact}
-use Rattle.plane.specs.declared.Contact.TheVariants.{Nothing, Height}
-use Rattle.plane.specs.Contacts.{exceeds_of, take_of}
+use Rattle.plane.specs.Contacts.{exceeds_of, take_of, at_height}
 
 never : (x y : Float) → (lt x y ≡ true → ⊥) → lt x y ≡ false
 never x y h = is_false (lt x y) (not_T (lt x y) (λ g. h (is_true (lt x y) g)))
@@ -50,21 +50,21 @@ still_waits b z w h l =
     beside_number z w (lt_number b w up) ∙ never w z (λ g. no (sym h ∙ (beside_number z b n ∙ lt_goes_on b w z up g)))))
 
 -- taking z again would change nothing, whatever it touches
-abbrev pub Settled : Contact → Float → Type 0
-Settled Nothing z = ⊥
-Settled (Height b s) z = exceeds_of z b ≡ false
+abbrev pub Settled : Option Contact → Float → Type 0
+Settled None z = ⊥
+Settled (Some m) z = exceeds_of z m.height ≡ false
 
-pub settles : (c : Contact) (z : Float) (t : Touch) → Settled (take_of c z t) z
+pub settles : (c : Option Contact) (z : Float) (t : Touch) → Settled (take_of c z t) z
 unfolding take_of
-settles Nothing z t = same_waits z
-settles (Height b s) z t = either (λ d. Settled d z) (exceeds_of z b) (Height z t) (Height b s) (λ _. same_waits z) (λ e. e)
+settles None z t = same_waits z
+settles (Some m) z t = either (λ d. Settled d z) (exceeds_of z m.height) (at_height z t) (at_height m.height m.touch) (λ _. same_waits z) (λ e. e)
 
-pub stays : (c : Contact) (z w : Float) (t : Touch) → Settled c z → Settled (take_of c w t) z
+pub stays : (c : Option Contact) (z w : Float) (t : Touch) → Settled c z → Settled (take_of c w t) z
 unfolding take_of
-stays Nothing z w t h = absurd h
-stays (Height b s) z w t h = either (λ d. Settled d z) (exceeds_of w b) (Height w t) (Height b s) (λ e. still_waits b z w h e) (λ _. h)
+stays None z w t h = absurd h
+stays (Some m) z w t h = either (λ d. Settled d z) (exceeds_of w m.height) (at_height w t) (at_height m.height m.touch) (λ e. still_waits m.height z w h e) (λ _. h)
 
-pub settled : (c : Contact) (z : Float) (t : Touch) → Settled c z → take_of c z t ≡ c
+pub settled : (c : Option Contact) (z : Float) (t : Touch) → Settled c z → take_of c z t ≡ c
 unfolding take_of
-settled Nothing z t h = absurd h
-settled (Height b s) z t h = rw h
+settled None z t h = absurd h
+settled (Some m) z t h = rw h

@@ -1,13 +1,11 @@
 -- Document 01, the row of `dist2_to_segment`, `bary` and `distance_xy`: distances seen from above.
-use Rattle.std.specs.Prelude.{Bool, false, cond, ◌&&◌, ◌≡◌, refl, Float}
+use Rattle.std.specs.Prelude.{Bool, false, cond, ◌&&◌, ◌≡◌, refl, Float, None, Option, Some}
 use Rattle.std.specs.Float.{inf, binary64}
 use Rattle.std.specs.Float.Ieee.{of_bits, lt, le}
 use Rattle.numbers.specs.Reals.{◌⊕◌, ◌⊖◌, ◌⊗◌, ◌⊘◌, f0, f1, tiny, clamp_unit, abs_of, min_of}
 use Rattle.roots.specs.Root.{root_of}
 use Rattle.plane.specs.declared.Triangle.{Triangle}
 use Rattle.plane.specs.declared.Weights.{Weights}
-use Rattle.plane.specs.declared.Spot.{Spot}
-use Rattle.plane.specs.declared.Spot.TheVariants.{Nowhere, At}
 
 -- where along the segment p-q the point nearest to x lies, from 0 to 1; 0 on a segment of no length
 unfoldable pub nearest_t : Float → Float → Float → Float → Float → Float → Float
@@ -26,7 +24,7 @@ dist2_to_segment x0 x1 p0 p1 q0 q1 =
     c0 ⊗ c0 ⊕ c1 ⊗ c1
 
 -- the weights of (x, y) in a triangle: (x, y) is u times a, v times b and w times c; none when the determinant's magnitude is below 1e-300
-unfoldable pub bary_of : Triangle → Float → Float → Spot
+unfoldable pub bary_of : Triangle → Float → Float → Option Weights
 bary_of t x y =
     let bx = t.bx ⊖ t.ax in
     let by = t.by ⊖ t.ay in
@@ -37,16 +35,16 @@ bary_of t x y =
     let det = bx ⊗ cy ⊖ cx ⊗ by in
     let l1 = (dx ⊗ cy ⊖ cx ⊗ dy) ⊘ det in
     let l2 = (bx ⊗ dy ⊖ dx ⊗ by) ⊘ det in
-    cond (lt (abs_of det) tiny) Nowhere (At (record { u = f1 ⊖ l1 ⊖ l2; v = l1; w = l2 }))
+    cond (lt (abs_of det) tiny) None (Some (record { u = f1 ⊖ l1 ⊖ l2; v = l1; w = l2 }))
 
 -- whether each weight is at least `least`
 unfoldable pub at_least : Weights → Float → Bool
 at_least p least = le least p.u && (le least p.v && le least p.w)
 
 -- whether a place lies on its triangle: it has weights, none below 0
-unfoldable pub inside : Spot → Bool
-inside Nowhere = false
-inside (At p) = at_least p f0
+unfoldable pub inside : Option Weights → Bool
+inside None = false
+inside (Some p) = at_least p f0
 
 -- plus infinity: farther than any edge
 abbrev pub farthest : Float

@@ -50,11 +50,11 @@ pub struct Touch {
     pub which: u32,
 }
 
-// What the tool meets: nothing, or the triangle at a height, with what is touched there.
+// Where the tool meets a triangle: at a height, with what is touched there.
 #[derive(Clone, Copy)]
-pub enum Contact {
-    Nothing,
-    Height(f64, Touch),
+pub struct Contact {
+    pub height: f64,
+    pub touch: Touch,
 }
 
 // How much of each corner a place in plan is made of.
@@ -63,13 +63,6 @@ pub struct Weights {
     pub u: f64,
     pub v: f64,
     pub w: f64,
-}
-
-// A place on a triangle: none where the triangle stands upright.
-#[derive(Clone, Copy)]
-pub enum Spot {
-    Nowhere,
-    At(Weights),
 }
 
 // The highest contact so far: its height, the triangle that last raised it, and what of that triangle is touched, its kind and which of three. A kind
@@ -90,6 +83,7 @@ pub fn is_coordinate(x: f64) -> bool
 }
 
 // Whether r can be an index radius.
+#[tactic(auto, unfolding(crate::specs::Ranges::is_radius))]
 pub fn is_radius(r: f64) -> bool
     ensures { result ≡ is_radius r }
 {
@@ -97,6 +91,7 @@ pub fn is_radius(r: f64) -> bool
 }
 
 // Whether x can be a coordinate of a question's point.
+#[tactic(auto, unfolding(crate::specs::Ranges::is_point))]
 pub fn is_point(x: f64) -> bool
     ensures { result ≡ is_point x }
 {
@@ -104,6 +99,7 @@ pub fn is_point(x: f64) -> bool
 }
 
 // Triangle i of a mesh.
+#[tactic(auto, unfolding(crate::specs::Mesh::triangle_of))]
 pub fn triangle_at(mesh: &[f64], i: usize) -> Triangle
     requires { 9 * i + 9 ≤ length mesh.now }
     ensures { result ≡ triangle_of mesh.now i }
@@ -123,6 +119,7 @@ pub fn triangle_at(mesh: &[f64], i: usize) -> Triangle
 }
 
 // The smallest of three numbers.
+#[tactic(auto, unfolding(crate::specs::Mesh::lowest))]
 fn low(a: f64, b: f64, c: f64) -> f64
     ensures { result ≡ lowest a b c }
 {
@@ -130,6 +127,7 @@ fn low(a: f64, b: f64, c: f64) -> f64
 }
 
 // The largest of three numbers.
+#[tactic(auto, unfolding(crate::specs::Mesh::highest))]
 fn high(a: f64, b: f64, c: f64) -> f64
     ensures { result ≡ highest a b c }
 {
@@ -137,6 +135,7 @@ fn high(a: f64, b: f64, c: f64) -> f64
 }
 
 // The highest z of a triangle.
+#[tactic(auto, unfolding(crate::specs::Mesh::top_of))]
 pub fn top(t: Triangle) -> f64
     ensures { result ≡ top_of t }
 {
@@ -144,6 +143,7 @@ pub fn top(t: Triangle) -> f64
 }
 
 // The box of a triangle.
+#[tactic(auto, unfolding(crate::specs::Mesh::bounds_of))]
 pub fn bounds_of(t: Triangle) -> Bounds
     ensures { result ≡ bounds_of t }
 {
@@ -157,6 +157,7 @@ pub fn bounds_of(t: Triangle) -> Bounds
 }
 
 // Whether z takes the place of the height b.
+#[tactic(auto, using(rules::proofs::Branches::branches), unfolding(crate::specs::Contacts::exceeds_of))]
 pub fn exceeds(z: f64, b: f64) -> bool
     ensures { result ≡ exceeds_of z b }
 {
@@ -168,22 +169,30 @@ pub fn exceeds(z: f64, b: f64) -> bool
 }
 
 // The higher of what was met so far and z, which touches t.
-pub fn take(c: Contact, z: f64, t: Touch) -> Contact
+#[tactic(auto, using(rules::proofs::Branches::branches), unfolding(crate::specs::Contacts::take_of))]
+pub fn take(c: Option<Contact>, z: f64, t: Touch) -> Option<Contact>
     ensures { result ≡ take_of c z t }
 {
     match c {
-        Contact::Nothing => Contact::Height(z, t),
-        Contact::Height(b, s) => {
-            if exceeds(z, b) {
-                Contact::Height(z, t)
+        None => Some(Contact {
+            height: z,
+            touch: t,
+        }),
+        Some(best) => {
+            if exceeds(z, best.height) {
+                Some(Contact {
+                    height: z,
+                    touch: t,
+                })
             } else {
-                Contact::Height(b, s)
+                c
             }
         }
     }
 }
 
 // Where along p-q the point nearest to x lies, from 0 to 1.
+#[tactic(auto, unfolding(crate::specs::Distance::nearest_t))]
 fn nearest_t(x0: f64, x1: f64, p0: f64, p1: f64, q0: f64, q1: f64) -> f64
     ensures { result ≡ nearest_t x0 x1 p0 p1 q0 q1 }
 {
@@ -198,6 +207,7 @@ fn nearest_t(x0: f64, x1: f64, p0: f64, p1: f64, q0: f64, q1: f64) -> f64
 }
 
 // The squared distance of x from the segment p-q.
+#[tactic(auto, unfolding(crate::specs::Distance::dist2_to_segment))]
 pub fn dist2_to_segment(x0: f64, x1: f64, p0: f64, p1: f64, q0: f64, q1: f64) -> f64
     ensures { result ≡ dist2_to_segment x0 x1 p0 p1 q0 q1 }
 {
@@ -207,8 +217,9 @@ pub fn dist2_to_segment(x0: f64, x1: f64, p0: f64, p1: f64, q0: f64, q1: f64) ->
     c0 * c0 + c1 * c1
 }
 
-// The weights of (x, y) in a triangle.
-pub fn bary(t: Triangle, x: f64, y: f64) -> Spot
+// The weights of (x, y) in a triangle: none where it stands upright.
+#[tactic(auto, unfolding(crate::specs::Distance::bary_of))]
+pub fn bary(t: Triangle, x: f64, y: f64) -> Option<Weights>
     ensures { result ≡ bary_of t x y }
 {
     let bx = t.bx - t.ax;
@@ -219,11 +230,11 @@ pub fn bary(t: Triangle, x: f64, y: f64) -> Spot
     let dy = y - t.ay;
     let det = bx * cy - cx * by;
     if numbers::abs(det) < 1e-300 {
-        return Spot::Nowhere;
+        return None;
     }
     let l1 = (dx * cy - cx * dy) / det;
     let l2 = (bx * dy - dx * by) / det;
-    Spot::At(Weights {
+    Some(Weights {
         u: 1.0 - l1 - l2,
         v: l1,
         w: l2,
@@ -231,6 +242,7 @@ pub fn bary(t: Triangle, x: f64, y: f64) -> Spot
 }
 
 // Whether each weight is at least `least`.
+#[tactic(auto, unfolding(crate::specs::Distance::at_least))]
 pub fn at_least(p: Weights, least: f64) -> bool
     ensures { result ≡ at_least p least }
 {
@@ -253,8 +265,8 @@ pub fn distance_xy(t: Triangle, x: f64, y: f64) -> f64
     ensures { result ≡ distance_xy t x y }
 {
     match bary(t, x, y) {
-        Spot::Nowhere => edge_distance(t, x, y),
-        Spot::At(p) => {
+        None => edge_distance(t, x, y),
+        Some(p) => {
             if at_least(p, 0.0) {
                 0.0
             } else {
@@ -265,16 +277,18 @@ pub fn distance_xy(t: Triangle, x: f64, y: f64) -> f64
 }
 
 // The best so far with the contact of triangle i.
-pub fn raise_by(c: Contact, i: u32, best: Best) -> Best
+#[tactic(auto, using(rules::proofs::Branches::branches), unfolding(crate::specs::Contacts::raised_by))]
+pub fn raise_by(c: Option<Contact>, i: u32, best: Best) -> Best
     ensures { result ≡ raised_by c i best }
 {
     match c {
-        Contact::Nothing => best,
-        Contact::Height(z, t) => raise_to(z, t, i, best),
+        None => best,
+        Some(met) => raise_to(met.height, met.touch, i, best),
     }
 }
 
 // The same with a height.
+#[tactic(auto, using(rules::proofs::Branches::branches), unfolding(crate::specs::Contacts::raised_to))]
 fn raise_to(z: f64, t: Touch, i: u32, best: Best) -> Best
     ensures { result ≡ raised_to z t i best }
 {

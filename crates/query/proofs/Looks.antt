@@ -216,17 +216,11 @@ module _ (ix : Index) (marks : List ℕ) (stamp : ℕ) (p : Patch) (d : SoundInd
   looks_shared = once_shared (covers_of ix) ix.header.n ix.header.columns ix.header.rows ix.starts ix.members marks stamp p
       d.cell member as_many right top
 
--- what the test of a question found, and what it promises
-pub usable_told : (ix : Index) (marks : List ℕ) (stamp : ℕ) (p : Patch) (r : Bool) → r ≡ usable ix marks stamp p → length ix.mesh ≡ length marks * 9
-    → p.x1 ≤ ix.header.columns → p.y1 ≤ ix.header.rows → {Listed : Type 0} → Listed
-    → (r ≡ usable ix marks stamp p) × (UsablePromise ix marks stamp p r × Listed)
-usable_told ix marks stamp p r e nine right top listed = (
-  e,
-  (
+-- what the test r of a question promises, which found what refusal 7 tests
+pub usable_promise : (ix : Index) (marks : List ℕ) (stamp : ℕ) (p : Patch) (r : Bool) → r ≡ usable ix marks stamp p → length ix.mesh ≡ length marks * 9
+    → p.x1 ≤ ix.header.columns → p.y1 ≤ ix.header.rows → UsablePromise ix marks stamp p r
+usable_promise ix marks stamp p r e nine right top =
     record {
       passes = λ d same low. e ∙ sound_usable ix d marks stamp same low p right top;
       looks = λ d t. looks_once ix marks stamp p d (sym e ∙ t) nine right top;
-    },
-    listed,
-  ),
-)
+    }

@@ -2,7 +2,7 @@
 // question is lent these functions read, and never write.
 #![tactic(auto)]
 
-ghost use Rattle.std.specs.Prelude.{cond, [], ◌∷◌, ◌≡◌, ◌+◌, ◌*◌, ◌≤◌, ◌<◌, min, length, set, true};
+ghost use Rattle.std.specs.Prelude.{cond, [], ◌∷◌, ◌≡◌, ◌+◌, ◌*◌, ◌≤◌, ◌<◌, min, length, set, is_some, IfSome};
 ghost use Rattle.walk.specs.Walk.{cell, row, block};
 ghost use Rattle.walk.specs.Inside.{StandsFor};
 ghost use Rattle.grid.specs.Index.{index_of};
@@ -30,13 +30,6 @@ pub struct Patch {
     pub x1: usize,
     pub y0: usize,
     pub y1: usize,
-}
-
-// What refusal 7 tests of members: whether each can be looked at, and how many numbers of a list stand for them, or 2,049 if they were too many for it.
-#[derive(Clone, Copy)]
-pub struct Sifted {
-    pub usable: bool,
-    pub count: u32,
 }
 
 // Whether the mesh is nine numbers for each mark, and not too many.
@@ -94,7 +87,8 @@ pub fn patch_of(h: Header, px: f64, py: f64, qx: f64, qy: f64, reach: f64) -> Pa
     }
 }
 
-// What refusal 7 tests of a question with the cells p. The list, of 2,048 places, has the numbers of the cells from then on, most of them once.
+// What refusal 7 tests of a question with the cells p: none if it refuses, and else how many numbers of the list stand for those of the cells, most of them
+// once, or 2,049 if they were too many for it. The list has 2,048 places.
 pub fn usable(
     mesh: &[f64],
     h: Header,
@@ -105,14 +99,14 @@ pub fn usable(
     stamp: u32,
     p: Patch,
     list: &mut [u32],
-) -> Sifted
+) -> Option<u32>
     requires { (length mesh.now ≡ length marks.now * 9) × (p.x1 ≤ h.columns) × (p.y1 ≤ h.rows) × (length boxes.now ≡ length marks.now * 5)
         × (length list.old ≡ 2048) }
-    ensures usable_value { result.usable
+    ensures usable_value { is_some result
         ≡ usable (index_of mesh.now h starts.now members.now boxes.now) marks.now stamp p }
-    ensures usable_promise { UsablePromise (index_of mesh.now h starts.now members.now boxes.now) marks.now stamp p result.usable }
-    ensures stands_for { result.usable ≡ true → result.count ≤ 2048 → StandsFor h.n
-        (within (index_of mesh.now h starts.now members.now boxes.now) p) list.new result.count }
+    ensures usable_promise { UsablePromise (index_of mesh.now h starts.now members.now boxes.now) marks.now stamp p (is_some result) }
+    ensures stands_for { IfSome result (λ count. count ≤ 2048 → StandsFor h.n
+        (within (index_of mesh.now h starts.now members.now boxes.now) p) list.new count) }
 {
     let n = h.n;
     let columns = h.columns;
@@ -132,10 +126,7 @@ pub fn usable(
             list,
         )
     } else {
-        Sifted {
-            usable: false,
-            count: 0,
-        }
+        None
     }
 }
 
@@ -250,41 +241,29 @@ fn tested(
     recent: &mut [u16],
     list: &mut [u32],
     count: u32,
-) -> Sifted
+) -> Option<u32>
     requires { (n ≤ 65536) × (length mesh.now ≡ n * 9) × (length marks.now ≡ n) × (length boxes.now ≡ n * 5) × (length list.old ≡ 2048)
         × Tested (member_usable mesh.now boxes.now n marks.now stamp) recent.old }
-    ensures { (result.usable
+    ensures { (is_some result
         ≡ member_usable mesh.now boxes.now n marks.now stamp i)
-        × (result.usable ≡ true → Tested (member_usable mesh.now boxes.now n marks.now stamp) recent.new
-        × Adds n (i ∷ []) recent.old list.old count recent.new list.new result.count) }
+        × IfSome result (λ after. Tested (member_usable mesh.now boxes.now n marks.now stamp) recent.new
+        × Adds n (i ∷ []) recent.old list.old count recent.new list.new after) }
 {
     let k = place_of(i);
     if i as usize >= n {
-        return Sifted {
-            usable: false,
-            count,
-        };
+        return None;
     }
     let short = i as u16;
     if recent[k] == short {
         if i < 65535 {
-            return Sifted {
-                usable: true,
-                count,
-            };
+            return Some(count);
         }
     }
     if member_usable(mesh, boxes, n, marks, stamp, i as usize) {
         recent[k] = short;
-        return Sifted {
-            usable: true,
-            count: put(list, count, i),
-        };
+        return Some(put(list, count, i));
     }
-    Sifted {
-        usable: false,
-        count,
-    }
+    None
 }
 
 // The number i put behind so many of a list, and how many there are then: 2,049 where it has no room.
@@ -318,26 +297,19 @@ fn members_usable(
     recent: &mut [u16],
     list: &mut [u32],
     from: u32,
-) -> Sifted
+) -> Option<u32>
     requires { (n ≤ 65536) × (length mesh.now ≡ n * 9) × (length marks.now ≡ n) × (length boxes.now ≡ n * 5) × (length list.old ≡ 2048)
         × Tested (member_usable mesh.now boxes.now n marks.now stamp) recent.old }
-    ensures { (result.usable
+    ensures { (is_some result
         ≡ each (member_usable mesh.now boxes.now n marks.now stamp) part.now)
-        × (result.usable ≡ true → Tested (member_usable mesh.now boxes.now n marks.now stamp) recent.new
-        × Adds n part.now recent.old list.old from recent.new list.new result.count) }
+        × IfSome result (λ after. Tested (member_usable mesh.now boxes.now n marks.now stamp) recent.new
+        × Adds n part.now recent.old list.old from recent.new list.new after) }
 {
     let mut count = from;
-    for j in 0..part.len() {
-        let one = tested(mesh, boxes, n, marks, stamp, part[j], recent, list, count);
-        if !one.usable {
-            return one;
-        }
-        count = one.count;
+    for i in part {
+        count = tested(mesh, boxes, n, marks, stamp, *i, recent, list, count)?;
     }
-    Sifted {
-        usable: true,
-        count,
-    }
+    Some(count)
 }
 
 // Whether the stretch of cell c lies in the member table, and each of its numbers can be looked at.
@@ -353,28 +325,22 @@ fn cell_usable(
     recent: &mut [u16],
     list: &mut [u32],
     count: u32,
-) -> Sifted
+) -> Option<u32>
     requires { (n ≤ 65536) × (length mesh.now ≡ n * 9) × (length marks.now ≡ n) × (c + 1 < length starts.now) × (length boxes.now ≡ n * 5)
         × (length list.old ≡ 2048) × Tested (member_usable mesh.now boxes.now n marks.now stamp) recent.old }
-    ensures { (result.usable
+    ensures { (is_some result
         ≡ cell_usable (member_usable mesh.now boxes.now n marks.now stamp) starts.now members.now c)
-        × (result.usable ≡ true → Tested (member_usable mesh.now boxes.now n marks.now stamp) recent.new
+        × IfSome result (λ after. Tested (member_usable mesh.now boxes.now n marks.now stamp) recent.new
         × Adds n (cell starts.now members.now c)
-        recent.old list.old count recent.new list.new result.count) }
+        recent.old list.old count recent.new list.new after) }
 {
     let a = starts[c] as usize;
     let e = starts[c + 1] as usize;
     if e < a {
-        return Sifted {
-            usable: false,
-            count,
-        };
+        return None;
     }
     if members.len() < e {
-        return Sifted {
-            usable: false,
-            count,
-        };
+        return None;
     }
     members_usable(
         mesh,
@@ -405,19 +371,19 @@ fn row_usable(
     recent: &mut [u16],
     list: &mut [u32],
     from: u32,
-) -> Sifted
+) -> Option<u32>
     requires { (n ≤ 65536) × (length mesh.now ≡ n * 9) × (length marks.now ≡ n) × (y * columns + x1 < length starts.now) × (length boxes.now ≡ n * 5)
         × (length list.old ≡ 2048) × Tested (member_usable mesh.now boxes.now n marks.now stamp) recent.old }
-    ensures { (result.usable
+    ensures { (is_some result
         ≡ row_usable (member_usable mesh.now boxes.now n marks.now stamp)
         starts.now members.now columns x0 x1 y)
-        × (result.usable ≡ true → Tested (member_usable mesh.now boxes.now n marks.now stamp) recent.new
+        × IfSome result (λ after. Tested (member_usable mesh.now boxes.now n marks.now stamp) recent.new
         × Adds n (row starts.now members.now columns x0 x1 y)
-        recent.old list.old from recent.new list.new result.count) }
+        recent.old list.old from recent.new list.new after) }
 {
     let mut count = from;
     for x in x0..x1 {
-        let one = cell_usable(
+        count = cell_usable(
             mesh,
             n,
             starts,
@@ -429,16 +395,9 @@ fn row_usable(
             recent,
             list,
             count,
-        );
-        if !one.usable {
-            return one;
-        }
-        count = one.count;
+        )?;
     }
-    Sifted {
-        usable: true,
-        count,
-    }
+    Some(count)
 }
 
 // The same of each of a question's cells.
@@ -454,16 +413,16 @@ fn cells_usable(
     p: Patch,
     recent: &mut [u16],
     list: &mut [u32],
-) -> Sifted
+) -> Option<u32>
     requires { (n ≤ 65536) × (length mesh.now ≡ n * 9) × (length marks.now ≡ n) × (p.x1 ≤ columns) × (p.y1 * columns < length starts.now)
         × (length boxes.now ≡ n * 5) × (length list.old ≡ 2048)
         × Tested (member_usable mesh.now boxes.now n marks.now stamp) recent.old }
-    ensures { (result.usable
+    ensures { (is_some result
         ≡ cells_usable (member_usable mesh.now boxes.now n marks.now stamp)
         starts.now members.now columns p)
-        × (result.usable ≡ true → Tested (member_usable mesh.now boxes.now n marks.now stamp) recent.new
+        × IfSome result (λ after. Tested (member_usable mesh.now boxes.now n marks.now stamp) recent.new
         × Adds n (block starts.now members.now columns p.x0 p.x1 p.y0 p.y1)
-        recent.old list.old 0 recent.new list.new result.count) }
+        recent.old list.old 0 recent.new list.new after) }
 {
     let x0 = p.x0;
     let x1 = p.x1;
@@ -471,16 +430,9 @@ fn cells_usable(
     let y1 = p.y1;
     let mut count = 0u32;
     for y in y0..y1 {
-        let one = row_usable(
+        count = row_usable(
             mesh, n, starts, members, boxes, marks, stamp, columns, x0, x1, y, recent, list, count,
-        );
-        if !one.usable {
-            return one;
-        }
-        count = one.count;
+        )?;
     }
-    Sifted {
-        usable: true,
-        count,
-    }
+    Some(count)
 }

@@ -11,30 +11,27 @@ use lib.ListN.{length}
 use Rattle.rules.proofs.Branches.{taken, left as passed-by, by_test}
 use Rattle.plane.specs.Mesh.{triangle_of, top_of, bounds_of}
 use Rattle.spans.specs.Mesh.{first_bad, box_of, widened, extent_of}
-use Rattle.spans.specs.declared.Place.{Place}
-use Rattle.spans.specs.declared.Place.TheVariants.{Nowhere, At}
+use Rattle.std.specs.Prelude.{Result, Ok, Err}
+use Rattle.refusals.specs.declared.Refusal.{Refusal}
+use Rattle.refusals.specs.Numbers.{number_of, told_of}
+use Rattle.grid.proofs.Accepting.{nowhere}
+use Rattle.refusals.proofs.Named.{not_zero}
 use Rattle.spans.specs.Inside.{AllGood}
 use Rattle.spans.proofs.Searching.{all_good}
 use Rattle.cells.specs.Cover.{Cover, covers, start_of, starts_of, members_table}
 use Rattle.cells.specs.declared.Cells.{Cells}
 use Rattle.grid.specs.declared.Grid.{Grid}
 use Rattle.grid.specs.declared.Header.{Header}
-use Rattle.grid.specs.declared.Built.{Built}
 use Rattle.rules.proofs.Ladder.{demanded, refused_not}
 use Rattle.grid.specs.Grid.{triangles_in, grid_of, cells_in, cells_of, cover_of}
 use Rattle.grid.specs.Header.{header_of}
 use Rattle.grid.specs.Boxes.{is_boxed, boxes_of}
 use Rattle.grid.proofs.Boxing.{boxes_at}
 use Rattle.grid.specs.Build.{is_nowhere, told_with, refusal_of_numbers, refusal_of_mesh, refusal_of_grid, refusal_of_members}
-use Rattle.grid.specs.Build.{Outcome, outcome, refused_by, accepted_with, unless, filled_of, gridded, build_of}
+use Rattle.grid.specs.Build.{Built, told, Outcome, outcome, refused_by, accepted_with, unless, filled_of, gridded, build_of}
 use Rattle.grid.specs.Index.{index_of, BuiltFrom}
 use Rattle.raise.specs.Raise.{lifted, topped, topped_of, raised_header, refusal_of_index, refusal_of, Raised, left, raise_of, RaisePromise}
 use Rattle.raise.proofs.Lifting.{lifted_length, lifted_flat}
-
-nowhere : (p : Place) → is_nowhere p ≡ true → p ≡ Nowhere
-unfolding is_nowhere
-nowhere Nowhere e = refl
-nowhere (At k) e = let z : ◌≡◌ {A = ℕ} 0 1 = cc in absurd (omega arith)
 
 -- ---- what passes the refusals
 pub record Passed (mesh boxes : List Float) (h : Header) (amount : Float) : Type 0 where
@@ -208,10 +205,21 @@ module _ (mesh boxes : List Float) (h : Header) (a : Float) where
       passed-by _ _ _ _ (ne_eqb refusal 0 (λ y. z (e ∙ y)))
       (ap (λ (u : Built). left u mesh boxes) (q ∙ ap (refused_by k) t ∙ ap (λ (j : ℕ). refused_by j (told_with j (lifted a mesh))) e))
 
+  -- the same, by the refusal's name
+  pub raise_err : (e : Refusal) → number_of e ≡ refusal → told_of e ≡ told_with (number_of e) (lifted a mesh) → (o : Result Header Refusal) → o ≡ Err e
+      → left (told o) mesh boxes ≡ raise_of mesh boxes h a
+  unfolding told
+  raise_err e p t o q = raise_refused (number_of e) (told_of e) (told o) p t (rw q refl) (not_zero e)
+
   pub raise_accepted : (k : ℕ) (mesh' boxes' : List Float) (q : Header) → k ≡ refusal → k ≡ 0 → mesh' ≡ lifted a mesh → boxes' ≡ topped_of mesh' boxes h.n
       → q ≡ raised_header mesh' h → left (record { refusal = 0; triangle = 0; number = 0; header = q }) mesh' boxes' ≡ raise_of mesh boxes h a
   unfolding raise_of accepted_with
   raise_accepted k mesh' boxes' q e z u v w = taken _ _ _ _ (eq-eqb refusal 0 (sym e ∙ z)) (rw (w, v, u) refl)
+
+  pub raise_ok : (mesh' boxes' : List Float) (q : Header) → 0 ≡ refusal → mesh' ≡ lifted a mesh → boxes' ≡ topped_of mesh' boxes h.n
+      → q ≡ raised_header mesh' h → left (told (Ok q)) mesh' boxes' ≡ raise_of mesh boxes h a
+  unfolding told accepted_with
+  raise_ok mesh' boxes' q e u v w = raise_accepted 0 mesh' boxes' q e refl u v w
 
   -- an answer without a refusal is the raised one
   accepted_is : (o : Raised) → o ≡ raise_of mesh boxes h a → o.answer.refusal ≡ 0

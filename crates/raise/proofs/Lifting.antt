@@ -12,8 +12,12 @@ use lib.ListN.{length, set, drop, length-append, drop_of_length-le}
 use lib.Seq.{get_or-append-add, set_at, drop-cons, drop-length}
 use Rattle.numbers.specs.Reals.{num}
 use Rattle.plane.specs.Ranges.{is_coordinate}
-use Rattle.spans.specs.Mesh.{bad_from, first_bad}
-use Rattle.spans.specs.declared.Place.TheVariants.{Nowhere, At}
+use Rattle.std.specs.Prelude.{Option, None, Some, is_none}
+use Rattle.std.proofs.Common.{◌≤◌, Fits, w32}
+use Rattle.spans.specs.Mesh.{first_bad}
+use Rattle.spans.proofs.Searching.{bad_from, bad_is}
+use Rattle.grid.specs.Build.{is_nowhere}
+use Rattle.grid.proofs.Accepting.{place_below}
 use Rattle.raise.specs.Raise.{lifted_at, lifted_from, lifted}
 
 from_length : (a : Float) (j : ℕ) (xs : List Float) → length (lifted_from a j xs) ≡ length xs
@@ -40,11 +44,11 @@ lifted_flat a mesh k h = from_flat a 0 mesh k (λ q. h (omega arith))
 -- ---- the search for a new z out of range
 module _ (a : Float) (mesh : List Float) where
   pub high_begins : bad_from 0 (lifted_from a 0 (drop 0 mesh)) ≡ first_bad (lifted a mesh)
-  unfolding first_bad lifted
-  high_begins = refl
+  unfolding lifted
+  high_begins = sym (bad_is (lifted a mesh))
 
   module _ (k : ℕ) (h : bad_from k (lifted_from a k (drop k mesh)) ≡ first_bad (lifted a mesh)) where
-    pub high_finds : k < length mesh → is_coordinate (lifted_at a k (num mesh k)) ≡ false → At k ≡ first_bad (lifted a mesh)
+    pub high_finds : k < length mesh → is_coordinate (lifted_at a k (num mesh k)) ≡ false → Some k ≡ first_bad (lifted a mesh)
     unfolding bad_from lifted_from
     high_finds l e = (rw (drop-cons mesh k nan l, e) refl) ∙ h
 
@@ -53,9 +57,18 @@ module _ (a : Float) (mesh : List Float) where
     unfolding bad_from lifted_from
     high_goes l e = (rw (drop-cons mesh k nan l, e, add-one k) refl) ∙ h
 
-    pub high_ends : k ≡ length mesh → Nowhere ≡ first_bad (lifted a mesh)
+    pub high_ends : k ≡ length mesh → None ≡ first_bad (lifted a mesh)
     unfolding bad_from lifted_from
     high_ends e = (rw (e, drop-length mesh) refl) ∙ h
+
+-- a place that the search finds stands in the mesh
+pub high_fits : (a : Float) (mesh : List Float) (p : ℕ) (o : Option ℕ) → o ≡ first_bad (lifted a mesh) → o ≡ Some p → length mesh ≤ 589824 → Fits w32 p
+high_fits a mesh p o e f h = record { fits = omega (arith, place_below (lifted a mesh) p (sym e ∙ f), lifted_length a mesh) }
+
+pub none_is : (o : Option ℕ) → is_none o ≡ is_nowhere o
+unfolding is_nowhere
+none_is None = refl
+none_is (Some k) = refl
 
 -- ---- the loop that raises: a front that is done, then the rest as it was
 pub record Lifting (a : Float) (old : List Float) (k : ℕ) (new : List Float) : Type 0 where

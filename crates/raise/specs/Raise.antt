@@ -7,13 +7,12 @@ use Rattle.plane.specs.Mesh.{triangle_of, top_of}
 use Rattle.plane.specs.Ranges.{is_coordinate}
 use Rattle.spans.specs.Mesh.{first_bad, eps_of}
 use Rattle.grid.specs.declared.Header.{Header}
-use Rattle.grid.specs.declared.Built.{Built}
 use Rattle.rules.specs.Ladder.{refuse, demand}
 use Rattle.rules.specs.Limits.{most}
 use Rattle.grid.specs.Grid.{triangles_in}
 use Rattle.grid.specs.Header.{in_ranges}
 use Rattle.grid.specs.Boxes.{box_at, is_boxed, five_of}
-use Rattle.grid.specs.Build.{is_nowhere, told_with, refused_by, accepted_with, build_of, outcome}
+use Rattle.grid.specs.Build.{Built, is_nowhere, told_with, refused_by, accepted_with, build_of, outcome}
 use Rattle.grid.specs.Index.{index_of, BuiltFrom}
 
 -- ---- what becomes of the mesh, the boxes and the header

@@ -4,131 +4,65 @@
 ghost use Rattle.std.specs.Prelude.{◌≡◌, ◌*◌, ◌≤◌, length};
 ghost use Rattle.spans.specs.Mesh.{first_bad};
 ghost use Rattle.spans.specs.Inside.{AllGood};
-ghost use Rattle.grid.specs.Build.{is_nowhere, told_with, refused_by};
+ghost use Rattle.refusals.specs.Numbers.{code_of, told_in};
+ghost use Rattle.grid.specs.Build.{is_nowhere, told, told_with};
 ghost use Rattle.raise.specs.Raise.{lifted_at, lifted, topped_of, raised_header, refusal_of_index, refusal_of, left, raise_of, RaisePromise};
 
-use grid::{Built, Header};
-use spans::Place;
-
-// What refuses a call, 0 if nothing does, and which number of the raised mesh is told.
-#[derive(Clone, Copy)]
-struct Reason {
-    refusal: u32,
-    place: u32,
-}
+use grid::Header;
+use refusals::Refusal;
 
 // Adds the amount to every z of the mesh, puts the new high z of each triangle into its box, and answers the new header. A refused call changes nothing; 4
-// tells the triangle and which of its nine numbers would leave its range first.
-pub fn raise(mesh: &mut [f64], boxes: &mut [f64], h: Header, amount: f64) -> Built
-    ensures boxes_after { left result mesh.new boxes.new ≡ raise_of mesh.old boxes.old h amount }
-    ensures raise_promise { RaisePromise mesh.old boxes.old h mesh.new boxes.new result }
+// tells which number of the raised mesh would leave its range first.
+pub fn raise(mesh: &mut [f64], boxes: &mut [f64], h: Header, amount: f64) -> Result<Header, Refusal>
+    ensures boxes_after { left (told result) mesh.new boxes.new ≡ raise_of mesh.old boxes.old h amount }
+    ensures raise_promise { RaisePromise mesh.old boxes.old h mesh.new boxes.new (told result) }
 {
-    let w = refusal(mesh, boxes, h, amount);
-    let k = w.refusal;
-    let place = w.place;
-    if k != 0 {
-        return refused(k, place);
-    }
-    let n = h.n;
+    refusal(mesh, boxes, h, amount)?;
     lift(mesh, amount);
-    top_all(mesh, n, boxes);
-    Built {
-        refusal: 0,
-        triangle: 0,
-        number: 0,
-        header: header_of(mesh, h),
-    }
-}
-
-// The answer of a refused call that tells one number of the mesh.
-fn refused(k: u32, place: u32) -> Built
-    ensures { result ≡ refused_by k place }
-{
-    let header = Header {
-        n: 0,
-        origin_x: 0.0,
-        origin_y: 0.0,
-        cell: 0.0,
-        columns: 0,
-        rows: 0,
-        floor: 0.0,
-        eps: 0.0,
-        r: 0.0,
-    };
-    Built {
-        refusal: k,
-        triangle: place / 9,
-        number: place % 9,
-        header,
-    }
+    top_all(mesh, h.n, boxes);
+    Ok(header_of(mesh, h))
 }
 
 // Refusals 1, 23 and 2.
-fn refusal(mesh: &[f64], boxes: &[f64], h: Header, amount: f64) -> Reason
-    ensures { (result.refusal ≡ refusal_of mesh.now boxes.now h amount)
-        × (result.place ≡ told_with result.refusal (lifted amount mesh.now)) }
+#[tactic(auto, using(rules::proofs::Ladder::ladder), unfolding(crate::specs::Raise::refusal_of, grid::specs::Build::told_with, refusals::specs::Numbers::code_of, refusals::specs::Numbers::told_in, refusals::specs::Numbers::number_of, refusals::specs::Numbers::told_of))]
+fn refusal(mesh: &[f64], boxes: &[f64], h: Header, amount: f64) -> Result<(), Refusal>
+    ensures code { code_of result ≡ refusal_of mesh.now boxes.now h amount }
+    ensures place { told_in result ≡ told_with (code_of result) (lifted amount mesh.now) }
 {
     if mesh.len() % 9 != 0 {
-        return Reason {
-            refusal: 1,
-            place: 0,
-        };
+        return Err(Refusal::Length);
     }
     if rules::MOST < mesh.len() / 9 {
-        return Reason {
-            refusal: 1,
-            place: 0,
-        };
+        return Err(Refusal::Length);
     }
     if !grid::is_boxed(mesh, boxes) {
-        return Reason {
-            refusal: 23,
-            place: 0,
-        };
+        return Err(Refusal::Boxes);
     }
     if !plane::is_coordinate(amount) {
-        return Reason {
-            refusal: 2,
-            place: 0,
-        };
+        return Err(Refusal::Number);
     }
     refusal_of_index(mesh, h, amount)
 }
 
 // Refusals 7 and 4.
-fn refusal_of_index(mesh: &[f64], h: Header, amount: f64) -> Reason
+#[tactic(auto, using(rules::proofs::Ladder::ladder, crate::proofs::Lifting::high_fits), unfolding(crate::specs::Raise::refusal_of_index, grid::specs::Build::told_with, refusals::specs::Numbers::code_of, refusals::specs::Numbers::told_in, refusals::specs::Numbers::number_of, refusals::specs::Numbers::told_of, grid::specs::Build::is_nowhere, grid::specs::Build::place_of))]
+fn refusal_of_index(mesh: &[f64], h: Header, amount: f64) -> Result<(), Refusal>
     requires { length mesh.now ≤ 589824 }
-    ensures { (result.refusal ≡ refusal_of_index mesh.now h amount)
-        × (result.place ≡ told_with result.refusal (lifted amount mesh.now)) }
+    ensures code { code_of result ≡ refusal_of_index mesh.now h amount }
+    ensures place { told_in result ≡ told_with (code_of result) (lifted amount mesh.now) }
 {
-    let n = h.n;
     if !header::in_ranges(h) {
-        return Reason {
-            refusal: 7,
-            place: 0,
-        };
+        return Err(Refusal::Index);
     }
-    if mesh.len() != n * 9 {
-        return Reason {
-            refusal: 7,
-            place: 0,
-        };
+    if mesh.len() != h.n * 9 {
+        return Err(Refusal::Index);
     }
     if !all_good(mesh) {
-        return Reason {
-            refusal: 7,
-            place: 0,
-        };
+        return Err(Refusal::Index);
     }
     match first_high(mesh, amount) {
-        Place::Nowhere => Reason {
-            refusal: 0,
-            place: 0,
-        },
-        Place::At(k) => Reason {
-            refusal: 4,
-            place: k as u32,
-        },
+        None => Ok(()),
+        Some(k) => Err(Refusal::Coordinate(k as u32)),
     }
 }
 
@@ -136,24 +70,19 @@ fn refusal_of_index(mesh: &[f64], h: Header, amount: f64) -> Reason
 fn all_good(mesh: &[f64]) -> bool
     ensures { result ≡ is_nowhere (first_bad mesh.now) }
 {
-    match spans::first_bad(mesh) {
-        Place::Nowhere => true,
-        Place::At(_) => false,
-    }
+    spans::first_bad(mesh).is_none()
 }
 
 // The first number of the raised mesh that is no coordinate.
-fn first_high(mesh: &[f64], amount: f64) -> Place
+fn first_high(mesh: &[f64], amount: f64) -> Option<usize>
     ensures { result ≡ first_bad (lifted amount mesh.now) }
 {
-    let mut k = 0;
-    while k < mesh.len() {
-        if !plane::is_coordinate(lifted_at(amount, k, mesh[k])) {
-            return Place::At(k);
+    for (k, x) in mesh.iter().enumerate() {
+        if !plane::is_coordinate(lifted_at(amount, k, *x)) {
+            return Some(k);
         }
-        k += 1;
     }
-    Place::Nowhere
+    None
 }
 
 // Number k of a mesh, raised where it is a z.
@@ -170,6 +99,7 @@ fn lifted_at(amount: f64, k: usize, x: f64) -> f64
 fn lift(mesh: &mut [f64], amount: f64)
     ensures { mesh.new ≡ lifted amount mesh.old }
 {
+    // by index: the place of a number tells whether it is a z
     for k in 0..mesh.len() {
         mesh[k] = lifted_at(amount, k, mesh[k]);
     }
@@ -180,6 +110,7 @@ fn top_all(mesh: &[f64], n: usize, boxes: &mut [f64])
     requires { (n * 9 ≤ length mesh.now) × (length boxes.old ≡ n * 5) }
     ensures { boxes.new ≡ topped_of mesh.now boxes.old n }
 {
+    // by index: triangle i is nine numbers of one table and five of the other
     for i in 0..n {
         let b = grid::box_at(boxes, i);
         let z = plane::top(plane::triangle_at(mesh, i));

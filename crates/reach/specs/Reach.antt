@@ -1,17 +1,15 @@
 -- Document 01, rows `bull_chord_clear` and `sections_chord_clear`: where along a chord a triangle is within a cutter's reach. The distance in plan from a
 -- triangle is convex along a chord, so that is one stretch around the closest approach.
-use Rattle.std.specs.Prelude.{cond, ℕ, zero, suc, Float}
+use Rattle.std.specs.Prelude.{cond, ℕ, zero, suc, Float, None, Option, Some}
 use Rattle.std.specs.Float.Ieee.{lt, le}
 use Rattle.numbers.specs.Reals.{◌⊕◌, ◌⊖◌, ◌⊘◌, f0, f1, f2}
 use Rattle.plane.specs.declared.Triangle.{Triangle}
 use Rattle.plane.specs.declared.Contact.{Contact}
-use Rattle.plane.specs.declared.Contact.TheVariants.{Nothing, Height}
 use Rattle.plane.specs.Distance.{distance_xy}
 use Rattle.golden.specs.Search.{golden_argmin}
 use Rattle.golden.specs.Upper.{minus_infinity}
 use Rattle.cutters.specs.declared.Stretch.{Stretch}
-use Rattle.cutters.specs.declared.Stretch.TheVariants.{Nowhere, Between}
-use Rattle.cutters.specs.Touch.{along}
+use Rattle.cutters.specs.Touch.{along, from_to}
 use Rattle.reach.specs.declared.Chord.{Chord}
 use Rattle.reach.specs.declared.Span.{Span}
 
@@ -42,11 +40,11 @@ rim_of t m r inside outside =
     cond (le (apart_at t m outside) r) outside (span_at t m r (record { inside = inside; outside = outside }) 60).inside
 
 -- The stretch of the chord where the triangle is within r, around the closest approach; none where even that is farther.
-unfoldable pub stretch_from : Triangle → Chord → Float → Float → Stretch
+unfoldable pub stretch_from : Triangle → Chord → Float → Float → Option Stretch
 stretch_from t m r near =
-    cond (lt r (apart_at t m near)) Nowhere (Between (rim_of t m r near f0) (rim_of t m r near f1))
+    cond (lt r (apart_at t m near)) None (from_to (rim_of t m r near f0) (rim_of t m r near f1))
 
-unfoldable pub stretch_of : Triangle → Chord → Float → ℕ → Stretch
+unfoldable pub stretch_of : Triangle → Chord → Float → ℕ → Option Stretch
 stretch_of t m r n = stretch_from t m r (near_of t m n)
 
 -- How far the height z, lifted, stands above the tip at s.
@@ -54,6 +52,6 @@ unfoldable pub above_of : Chord → Float → Float → Float
 above_of m s z = z ⊕ m.lift ⊖ along m.az m.bz s
 
 -- The same of the contact c: minus infinity where there is none.
-unfoldable pub gap_of : Chord → Float → Contact → Float
-gap_of m s Nothing = minus_infinity
-gap_of m s (Height z t) = above_of m s z
+unfoldable pub gap_of : Chord → Float → Option Contact → Float
+gap_of m s None = minus_infinity
+gap_of m s (Some n) = above_of m s n.height

@@ -7,12 +7,12 @@ ghost use Rattle.numbers.specs.Reals.{f0, f1};
 ghost use Rattle.roots.specs.Root.{root_of};
 ghost use Rattle.golden.specs.Search.{falls, golden_start, golden_step};
 ghost use Rattle.reach.specs.Reach.{apart_at, near_of, halved_of, span_at, rim_of, stretch_from, stretch_of, above_of, gap_of};
-ghost use Rattle.cutters.specs.declared.Stretch.TheVariants.{Between};
+ghost use Rattle.cutters.specs.Touch.{from_to};
 ghost use Rattle.reach.specs.Inside.{edge_square, square_xy, square_at, rooted, Flat, Far, Settles};
 
 use cutters::Stretch;
 use golden::Golden;
-use plane::{Contact, Spot, Triangle};
+use plane::{Contact, Triangle};
 
 const MINUS_ONE: f64 = -1.0;
 
@@ -50,33 +50,35 @@ pub struct Limit {
 }
 
 // The stretch of a chord where a triangle is within r; the search for the closest approach takes `steps` steps.
-pub fn stretch_of(t: Triangle, m: Chord, r: f64, steps: usize) -> Stretch
+pub fn stretch_of(t: Triangle, m: Chord, r: f64, steps: usize) -> Option<Stretch>
     ensures { result ≡ stretch_of t m r steps }
 {
     stretch_from(t, m, r, nearest(t, m, steps))
 }
 
 // The same around the closest approach.
-fn stretch_from(t: Triangle, m: Chord, r: f64, near: f64) -> Stretch
+fn stretch_from(t: Triangle, m: Chord, r: f64, near: f64) -> Option<Stretch>
     ensures { result ≡ stretch_from t m r near }
 {
     if apart_at(t, m, near) > r {
-        return Stretch::Nowhere;
+        return None;
     }
     between(t, m, limit_of(r), near)
 }
 
 // How far the contact c, lifted, stands above the tip at s.
-pub fn gap_of(m: Chord, s: f64, c: Contact) -> f64
+#[tactic(auto, unfolding(crate::specs::Reach::gap_of))]
+pub fn gap_of(m: Chord, s: f64, c: Option<Contact>) -> f64
     ensures { result ≡ gap_of m s c }
 {
     match c {
-        Contact::Nothing => MINUS_ONE / 0.0,
-        Contact::Height(z, _) => above(m, s, z),
+        None => MINUS_ONE / 0.0,
+        Some(met) => above(m, s, met.height),
     }
 }
 
 // How far the height z, lifted, stands above the tip at s.
+#[tactic(auto, unfolding(crate::specs::Reach::above_of))]
 fn above(m: Chord, s: f64, z: f64) -> f64
     ensures { result ≡ above_of m s z }
 {
@@ -138,6 +140,7 @@ fn is_farther(p: f64, q: f64) -> bool
 }
 
 // The same by the roots.
+#[tactic(auto, unfolding(roots::specs::Root::root_of))]
 fn by_roots(p: f64, q: f64) -> bool
     ensures { result ≡ lt (root_of q) (root_of p) }
 {
@@ -146,13 +149,16 @@ fn by_roots(p: f64, q: f64) -> bool
 }
 
 // The same where the closest approach is within reach.
-fn between(t: Triangle, m: Chord, k: Limit, near: f64) -> Stretch
+fn between(t: Triangle, m: Chord, k: Limit, near: f64) -> Option<Stretch>
     requires { Settles k }
-    ensures { result ≡ Between (rim_of t m k.r near f0) (rim_of t m k.r near f1) }
+    ensures { result ≡ from_to (rim_of t m k.r near f0) (rim_of t m k.r near f1) }
 {
     let low = rim(t, m, k, near, 0.0);
     let high = rim(t, m, k, near, 1.0);
-    Stretch::Between(low, high)
+    Some(Stretch {
+        from: low,
+        to: high,
+    })
 }
 
 // What squares tell of r. That the root of r * r is at most r, and that of a little more above it, is seen here, once for all squares.
@@ -268,8 +274,8 @@ fn square_xy(t: Triangle, x: f64, y: f64) -> f64
     ensures { result ≡ square_xy t x y }
 {
     match plane::bary(t, x, y) {
-        Spot::Nowhere => edge_square(t, x, y),
-        Spot::At(p) => {
+        None => edge_square(t, x, y),
+        Some(p) => {
             if plane::at_least(p, 0.0) {
                 0.0
             } else {

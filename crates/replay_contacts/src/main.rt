@@ -16,7 +16,7 @@ use std::io;
 use std::io::Read;
 
 // The contact in the capsule.
-fn of_capsule(line: &[u8; 293], t: Triangle) -> Contact {
+fn of_capsule(line: &[u8; 293], t: Triangle) -> Option<Contact> {
     let px = vectors::asked(line, 9);
     let py = vectors::asked(line, 10);
     let qx = vectors::asked(line, 11);
@@ -33,7 +33,7 @@ fn of_capsule(line: &[u8; 293], t: Triangle) -> Contact {
 }
 
 // The contact of the bull-nose cutter.
-fn of_bull(line: &[u8; 293], t: Triangle) -> Contact {
+fn of_bull(line: &[u8; 293], t: Triangle) -> Option<Contact> {
     let k = Bull {
         x: vectors::asked(line, 9),
         y: vectors::asked(line, 10),
@@ -44,7 +44,7 @@ fn of_bull(line: &[u8; 293], t: Triangle) -> Contact {
 }
 
 // The contact of the section.
-fn of_section(line: &[u8; 293], t: Triangle) -> Contact {
+fn of_section(line: &[u8; 293], t: Triangle) -> Option<Contact> {
     let s = Section {
         z0: vectors::asked(line, 11),
         r0: vectors::asked(line, 12),
@@ -61,7 +61,7 @@ fn far(line: &[u8; 293], t: Triangle) -> u64 {
 }
 
 // Counts a contact, and in column k whether it differs.
-fn tell(table: &mut [u64; 6], line: &[u8; 293], c: Contact, k: usize) {
+fn tell(table: &mut [u64; 6], line: &[u8; 293], c: Option<Contact>, k: usize) {
     if k < 6 {
         table[1] = table[1].wrapping_add(vectors::height(c));
         table[k] = table[k].wrapping_add(vectors::differs(line, c));

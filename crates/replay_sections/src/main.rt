@@ -12,6 +12,7 @@ ghost use Rattle.std.specs.Prelude.{◌≤◌};
 use ask::{Answer, Ruling};
 use grid::Header;
 use reach::Chord;
+use refusals::Refusal;
 use section::Section;
 use std::io;
 use std::io::Read;
@@ -24,11 +25,11 @@ struct Question {
     tool: u64,
 }
 
-// What was answered to a case: the refusals, the height's bits, the verdict's number, both counts, the last stamp, and the marks.
+// What was answered to a case: the height's question and the chord's, and the marks.
 #[derive(Clone, Copy)]
 struct Told {
-    height: Answer,
-    ruling: Ruling,
+    height: Result<Answer, Refusal>,
+    ruling: Result<Ruling, Refusal>,
     marks: u64,
 }
 
@@ -147,7 +148,7 @@ fn of_heights(
     py: f64,
     t: [Section; 33],
     n: usize,
-) -> Answer
+) -> Result<Answer, Refusal>
     requires { n ≤ 33 }
 {
     sections::max_sections(
@@ -176,7 +177,7 @@ fn of_chords(
     m: Chord,
     t: [Section; 33],
     n: usize,
-) -> Ruling
+) -> Result<Ruling, Refusal>
     requires { n ≤ 33 }
 {
     sections::sections_chord_clear(mesh, h, starts, members, boxes, marks, stamp, m, &t[..n])
@@ -219,7 +220,7 @@ fn by_slice(
         members,
         boxes,
         marks,
-        height.stamp,
+        stamp_after(height),
         m,
         t,
         q.n,
@@ -265,7 +266,7 @@ fn by_table(
         members,
         boxes,
         marks,
-        height.stamp,
+        stamp_after(height),
         m,
         &numbers[..k],
     );
@@ -273,6 +274,22 @@ fn by_table(
         height,
         ruling,
         marks: packed(marks),
+    }
+}
+
+// The stamp after a question that was asked with stamp 0.
+fn stamp_after(a: Result<Answer, Refusal>) -> u32 {
+    match a {
+        Ok(a) => a.stamp,
+        Err(_) => 0,
+    }
+}
+
+// The height's bits, those of 0 where it is refused.
+fn height_bits(a: Result<Answer, Refusal>) -> u64 {
+    match a {
+        Ok(a) => vectors::bits_of(a.height),
+        Err(_) => vectors::bits_of(0.0),
     }
 }
 
@@ -305,8 +322,22 @@ fn indexed(mesh: &[f64; 54], q: Question, slice: bool) -> Told
     let mut starts = [0u32; 64];
     let mut members = [0u32; 512];
     let mut boxes = [0.0; 30];
-    let b = grid::build(mesh, -10.0, 1.0, &mut starts, &mut members, &mut boxes);
-    over(mesh, b.header, &starts, &members, &boxes, q, slice)
+    let none = Header {
+        n: 0,
+        origin_x: 0.0,
+        origin_y: 0.0,
+        cell: 0.0,
+        columns: 0,
+        rows: 0,
+        floor: 0.0,
+        eps: 0.0,
+        r: 0.0,
+    };
+    let h = match grid::build(mesh, -10.0, 1.0, &mut starts, &mut members, &mut boxes) {
+        Ok(h) => h,
+        Err(_) => none,
+    };
+    over(mesh, h, &starts, &members, &boxes, q, slice)
 }
 
 // The question over its tables.
@@ -340,21 +371,20 @@ fn unlike(a: u64, b: u64, c: u64, d: u64) -> u64 {
 fn differs(line: &[u8; 38], a: Told) -> u64 {
     let height = a.height;
     let ruling = a.ruling;
-    let finding = ruling.finding;
     let refusal = vectors::digit(line[0]);
     let told = unlike(
-        wide(height.refusal),
+        wide(refusals::code_of(&height)),
         refusal,
-        vectors::bits_of(height.height),
+        height_bits(height),
         vectors::number(line, 2),
     );
     let verdict = unlike(
-        wide(ask::finding_number(finding)),
+        wide(ask::finding_number(&ruling)),
         vectors::digit(line[19]),
         a.marks,
         vectors::number(line, 21),
     );
-    told | verdict | vectors::unlike(wide(ruling.refusal), refusal)
+    told | verdict | vectors::unlike(wide(refusals::code_of(&ruling)), refusal)
 }
 
 // 1 where the answers over the slice and over the table differ.
@@ -364,14 +394,16 @@ fn parts(a: Told, b: Told) -> u64 {
         | vectors::unlike(a.marks, b.marks)
 }
 
-fn heights_part(a: Answer, b: Answer) -> u64 {
-    unlike(
-        wide(a.refusal),
-        wide(b.refusal),
-        vectors::bits_of(a.height),
-        vectors::bits_of(b.height),
-    ) | unlike(wide(a.count), wide(b.count), wide(a.stamp), wide(b.stamp))
-        | touched_part(a, b)
+fn heights_part(a: Result<Answer, Refusal>, b: Result<Answer, Refusal>) -> u64 {
+    match (a, b) {
+        (Ok(a), Ok(b)) => {
+            vectors::unlike(vectors::bits_of(a.height), vectors::bits_of(b.height))
+                | unlike(wide(a.count), wide(b.count), wide(a.stamp), wide(b.stamp))
+                | touched_part(a, b)
+        }
+        (Err(a), Err(b)) => vectors::unlike(wide(a.number()), wide(b.number())),
+        _ => 1,
+    }
 }
 
 // What was touched: the triangle, the kind, and which of three.
@@ -380,12 +412,15 @@ fn touched_part(a: Answer, b: Answer) -> u64 {
         | unlike(wide(a.kind), wide(b.kind), wide(a.which), wide(b.which))
 }
 
-fn rulings_part(a: Ruling, b: Ruling) -> u64 {
-    let f = a.finding;
-    let g = b.finding;
-    vectors::unlike(wide(a.refusal), wide(b.refusal))
-        | vectors::unlike(wide(ask::finding_number(f)), wide(ask::finding_number(g)))
-        | unlike(wide(a.count), wide(b.count), wide(a.stamp), wide(b.stamp))
+fn rulings_part(a: Result<Ruling, Refusal>, b: Result<Ruling, Refusal>) -> u64 {
+    let finding = vectors::unlike(wide(ask::finding_number(&a)), wide(ask::finding_number(&b)));
+    match (a, b) {
+        (Ok(a), Ok(b)) => {
+            finding | unlike(wide(a.count), wide(b.count), wide(a.stamp), wide(b.stamp))
+        }
+        (Err(a), Err(b)) => finding | vectors::unlike(wide(a.number()), wide(b.number())),
+        _ => 1,
+    }
 }
 
 // 1 where a and b are the same.
@@ -398,10 +433,9 @@ fn count_line(table: &mut [u64; 6], line: &[u8; 38], n: usize, i: u64) {
     if n == 38 {
         let a = asked(i, true);
         let ruling = a.ruling;
-        let finding = ruling.finding;
-        let clear = alike(wide(ask::finding_number(finding)), 1);
+        let clear = alike(wide(ask::finding_number(&ruling)), 1);
         table[0] = table[0].wrapping_add(1);
-        table[1] = table[1].wrapping_add(alike(wide(ruling.refusal), 0));
+        table[1] = table[1].wrapping_add(alike(wide(refusals::code_of(&ruling)), 0));
         table[2] = table[2].wrapping_add(clear);
         table[3] = table[3].wrapping_add(differs(line, a));
     }

@@ -20,9 +20,13 @@ use Rattle.rules.proofs.Ladder.{refuse_here, refuse_next}
 use Rattle.grid.proofs.Boxing.{boxes_length}
 use Rattle.grid.proofs.Gridding.{counted}
 use Rattle.grid.proofs.Accepting.{Accepted, accepted, Passed, passed, members_fit}
+use Rattle.refusals.proofs.Named.{not_zero}
 use Rattle.grid.proofs.Indexing.{grid_fits, grid_gridded}
-use Rattle.rooms.specs.declared.Rooms.{Rooms}
-use Rattle.rooms.specs.Rooms.{refusal_of, no_rooms, unless_refused, rooms_in, rooms_of, RoomsPromise}
+use Rattle.std.specs.Prelude.{Result, Ok, Err}
+use Rattle.refusals.specs.declared.Refusal.{Refusal}
+use Rattle.refusals.specs.Numbers.{number_of}
+use Rattle.rooms.specs.declared.Rooms.{Rooms as Counts}
+use Rattle.rooms.specs.Rooms.{Rooms, told, refusal_of, no_rooms, unless_refused, rooms_in, rooms_of, RoomsPromise}
 
 -- ---- refusals 1, 3, 2 and 4 are the builder's with a box table of the right length
 module _ (mesh : List Float) (floor r : Float) where
@@ -44,6 +48,11 @@ module _ (mesh : List Float) (floor r : Float) where
       → (let g = grid_of mesh (triangles_in mesh) r in refusal_of_grid g.columns g.rows 1048577 ≡ 0 → Gridded mesh (triangles_in mesh) g)
   asked_gridded e f = grid_gridded _ _ _ _ (asked e) 1048577 (passed _ _ _ f)
 
+-- ---- how a refusal is told
+told_err : (e : Refusal) (k : ℕ) → number_of e ≡ k → (o : Result Counts Refusal) → o ≡ Err e → told o ≡ no_rooms k
+unfolding told
+told_err e k a o h = rw (h, a) refl
+
 -- ---- one refusal of the rooms
 module _ (k : ℕ) (next : Rooms) where
   pub rooms_next : (q : Rooms) → k ≡ 0 → q ≡ next → q ≡ unless_refused k next
@@ -64,27 +73,36 @@ module _ (mesh : List Float) (n : ℕ) (g : Grid) where
   unfolding rooms_in
   grid_none k q p h e = rooms_none _ _ k q p h e
 
+  pub grid_err : (e : Refusal) → number_of e ≡ refusal_of_grid g.columns g.rows 1048577 → (o : Result Counts Refusal) → o ≡ Err e → told o ≡ rooms_in mesh n g
+  grid_err e a o h = grid_none (number_of e) (told o) a (not_zero e) (told_err e (number_of e) refl o h)
+
   module _ (p : refusal_of_grid g.columns g.rows 1048577 ≡ 0) (z : Gridded mesh n g) (t k : ℕ) (a : t ≡ total_of mesh g n)
       (b : k ≡ refusal_of_members t 16777216) where
     many : t ≡ start_of (cover_of mesh g) n (cells_in g)
     many = a ∙ counted mesh g n z
 
-    told : k ≡ refusal_of_members (start_of (cover_of mesh g) n (cells_in g)) 16777216
-    told = b ∙ ap (λ (v : ℕ). refusal_of_members v 16777216) many
+    members_told : k ≡ refusal_of_members (start_of (cover_of mesh g) n (cells_in g)) 16777216
+    members_told = b ∙ ap (λ (v : ℕ). refusal_of_members v 16777216) many
 
     pub members_none : (q : Rooms) → (k ≡ 0 → ⊥) → q ≡ no_rooms k → q ≡ rooms_in mesh n g
     unfolding rooms_in
-    members_none q h e = rooms_next _ _ q p (rooms_none _ _ k q told h e)
+    members_none q h e = rooms_next _ _ q p (rooms_none _ _ k q members_told h e)
+
+    pub members_err : (e : Refusal) → number_of e ≡ k → (o : Result Counts Refusal) → o ≡ Err e → told o ≡ rooms_in mesh n g
+    members_err e c o h = members_none (told o) (λ z. not_zero e (c ∙ z)) (told_err e k c o h)
 
     pub members_some : k ≡ 0 → record { refusal = 0; starts = cells_in g + 1; members = t } ≡ rooms_in mesh n g
     unfolding rooms_in
-    members_some h = rooms_next _ _ _ p (rooms_next _ _ _ (sym told ∙ h) (ap (λ (v : ℕ). record { refusal = 0; starts = cells_in g + 1; members = v }) many))
+    members_some h = rooms_next _ _ _ p (rooms_next _ _ _ (sym members_told ∙ h) (ap (λ (v : ℕ). record { refusal = 0; starts = cells_in g + 1; members = v }) many))
 
 -- ---- the answer, as it is found
 module _ (mesh : List Float) (floor r : Float) where
   pub refused_rooms : (k : ℕ) (q : Rooms) → k ≡ refusal_of mesh floor r → (k ≡ 0 → ⊥) → q ≡ no_rooms k → q ≡ rooms_of mesh floor r
   unfolding rooms_of
   refused_rooms k q p h e = rooms_none _ _ k q p h e
+
+  pub rooms_err : (e : Refusal) → number_of e ≡ refusal_of mesh floor r → (o : Result Counts Refusal) → o ≡ Err e → told o ≡ rooms_of mesh floor r
+  rooms_err e a o h = refused_rooms (number_of e) (told o) a (not_zero e) (told_err e (number_of e) refl o h)
 
   pub found_rooms : (g : Grid) (q : Rooms) → refusal_of mesh floor r ≡ 0 → g ≡ grid_of mesh (triangles_in mesh) r → q ≡ rooms_in mesh (triangles_in mesh) g
       → q ≡ rooms_of mesh floor r

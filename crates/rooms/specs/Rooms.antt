@@ -1,5 +1,5 @@
 -- What a build of a mesh needs: how many starts and how many members have to be lent to it. Asked before the build, it refuses what no lent table could help.
-use Rattle.std.specs.Prelude.{true, cond, List, ◌≡◌, ℕ, ◌+◌, ◌%◌, ◌≤◌, ◌<◌, ltb, eqb, Float, length}
+use Rattle.std.specs.Prelude.{true, cond, List, ◌≡◌, ℕ, ◌+◌, ◌%◌, ◌≤◌, ◌<◌, ltb, eqb, Float, length, Result, Ok, Err}
 use Rattle.cells.specs.Cover.{start_of}
 use Rattle.grid.specs.declared.Grid.{Grid}
 use Rattle.rules.specs.Ladder.{refuse, demand}
@@ -7,7 +7,9 @@ use Rattle.rules.specs.Limits.{most}
 use Rattle.grid.specs.Grid.{triangles_in, grid_of, cells_in, cover_of}
 use Rattle.grid.specs.Boxes.{is_boxed}
 use Rattle.grid.specs.Build.{refusal_of_numbers, refusal_of_grid, refusal_of_members, build_of}
-use Rattle.rooms.specs.declared.Rooms.{Rooms}
+use Rattle.refusals.specs.declared.Refusal.{Refusal}
+use Rattle.refusals.specs.Numbers.{number_of}
+use Rattle.rooms.specs.declared.Rooms.{Rooms as Counts}
 
 -- 1: mesh not a multiple of 9 or over 65,536 triangles. 3: mesh empty.
 -- Then 2 and 4, as the builder has them; 23 is not asked, since no box table is handed over.
@@ -18,9 +20,20 @@ refusal_of mesh floor r =
     (refuse (eqb (triangles_in mesh) 0) 3
     (refusal_of_numbers mesh floor r)))
 
+-- Refusal 0 and how many starts and members, or a refusal and zeros.
+pub record Rooms : Type 0 where
+  pub refusal : ℕ
+  pub starts : ℕ
+  pub members : ℕ
+
 -- The answer of a refused call.
 unfoldable pub no_rooms : ℕ → Rooms
 no_rooms k = record { refusal = k; starts = 0; members = 0 }
+
+-- How the answer is told.
+unfoldable pub told : Result Counts Refusal → Rooms
+told (Ok q) = record { refusal = 0; starts = q.starts; members = q.members }
+told (Err e) = no_rooms (number_of e)
 
 -- Refused by k; where k is 0, what comes next.
 unfoldable pub unless_refused : ℕ → Rooms → Rooms

@@ -1,5 +1,6 @@
 -- The section's surface is nowhere below z0. So no vertex gives a tip above its height less z0,
 -- and no edge a bound above its higher end less z0 and what the search's bound adds at most.
+use Rattle.std.specs.Prelude.{None, Option, Some}
 use mathlib.Core.Bool.{Bool, true, false, cond}
 use mathlib.Core.Logic.{⊎_elim}
 use mathlib.Core.Path.{◌≡◌, refl, sym, ◌∙◌, subst}
@@ -42,8 +43,6 @@ use Rattle.caps.proofs.Most.{R, root_under, most_finite}
 use Rattle.caps.proofs.Bracket.{self, plus_none, none_of_zero}
 use Rattle.caps.proofs.Drops.{drop_nan, sum_nan, drop_more}
 use Rattle.section.specs.declared.Section.{Section}
-use Rattle.section.specs.declared.Surface.{Surface}
-use Rattle.section.specs.declared.Surface.TheVariants.{Beyond, Over}
 use Rattle.section.specs.Section.{positive_reach, valid_section, profile_of, height_over, section_under}
 use Rattle.section.specs.Section.{section_vertex, section_at, lipschitz_of, section_stretch, section_edge}
 use Rattle.section.specs.Inside.{Firm, low_edge}
@@ -186,12 +185,12 @@ module _ (s : Section) (v : Valid s) (g : T (fits binary64 s.z0)) where
     )
 
   -- ---- the surface at any distance
-  pub surface_all : (P : Surface → Type 0) → P Beyond → ((h : Float) → T (le s.z0 h) → T (le h top) → P (Over h)) → (d : Float) → P (profile_of s d)
+  pub surface_all : (P : Option Float → Type 0) → P None → ((h : Float) → T (le s.z0 h) → T (le h top) → P (Some h)) → (d : Float) → P (profile_of s d)
   unfolding profile_of
   surface_all P none some d =
-      either P (le d s.r0) (Over s.z0) (cond (le d s.r1) (Over (s.z0 ⊕ (d ⊖ s.r0) ⊗ s.rise)) Beyond)
+      either P (le d s.r0) (Some s.z0) (cond (le d s.r1) (Some (s.z0 ⊕ (d ⊖ s.r0) ⊗ s.rise)) None)
       (λ e. some s.z0 (le_self s.z0 fz) (le_trans s.z0 M top v.z_high (unfold add mul sum round le in tt)))
-      (λ e. either P (le d s.r1) (Over (s.z0 ⊕ (d ⊖ s.r0) ⊗ s.rise)) Beyond
+      (λ e. either P (le d s.r1) (Some (s.z0 ⊕ (d ⊖ s.r0) ⊗ s.rise)) None
       (λ h. let r = risen d (beyond d e h) (le_trans d s.r1 M (holds _ h) v.far_high) in some _ r.0 r.1)
       (λ h. none))
 
@@ -200,9 +199,9 @@ module _ (s : Section) (v : Valid s) (g : T (fits binary64 s.z0)) where
       → P (height_over (profile_of s d))
   unfolding profile_of height_over
   height_all P some d m =
-      either (λ w. P (height_over w)) (le d s.r0) (Over s.z0) (cond (le d s.r1) (Over (s.z0 ⊕ (d ⊖ s.r0) ⊗ s.rise)) Beyond)
+      either (λ w. P (height_over w)) (le d s.r0) (Some s.z0) (cond (le d s.r1) (Some (s.z0 ⊕ (d ⊖ s.r0) ⊗ s.rise)) None)
       (λ e. some s.z0 (le_self s.z0 fz) (le_trans s.z0 M top v.z_high (unfold add mul sum round le in tt)))
-      (λ e. either (λ w. P (height_over w)) (le d s.r1) (Over (s.z0 ⊕ (d ⊖ s.r0) ⊗ s.rise)) Beyond
+      (λ e. either (λ w. P (height_over w)) (le d s.r1) (Some (s.z0 ⊕ (d ⊖ s.r0) ⊗ s.rise)) None
       (λ h. let r = risen d (beyond d e h) (le_trans d s.r1 M m v.far_high) in some _ r.0 r.1)
       (λ h. absurd (no (sym h ∙ is_true _ m))))
 
@@ -216,7 +215,7 @@ module _ (s : Section) (v : Valid s) (g : T (fits binary64 s.z0)) where
   f_top h a b = finite_between s.z0 h top fz (unfold add mul sum round in tt) a b
 
   -- ---- a vertex
-  pub vertex_low : (c : Contact) (x y : Float) (n : ℕ) (vx vy vz : Float) → le (vz ⊖ s.z0) (limit_of c) ≡ true → c ≡ offer_of c (section_vertex s x y n vx vy vz)
+  pub vertex_low : (c : Option Contact) (x y : Float) (n : ℕ) (vx vy vz : Float) → le (vz ⊖ s.z0) (limit_of c) ≡ true → c ≡ offer_of c (section_vertex s x y n vx vy vz)
   unfolding section_vertex
   vertex_low c x y n vx vy vz h =
       surface_all (λ w. c ≡ offer_of c (section_under n vz w)) (unfold section_under offer_of in refl)
@@ -433,7 +432,7 @@ module _ (s : Section) (v : Valid s) (g : T (fits binary64 s.z0)) where
           (add_left binary64 _ C x m.1 f_c fx m.0)
           (add_right binary64 x (K ⊗ Φ) C fx f_kΦ f_c x_high))
 
-    pub edge_low : (c : Contact) (x y : Float) → le (C ⊕ K ⊗ phi60) (limit_of c) ≡ true → c ≡ offer_of c (section_edge s x y e)
+    pub edge_low : (c : Option Contact) (x y : Float) → le (C ⊕ K ⊗ phi60) (limit_of c) ≡ true → c ≡ offer_of c (section_edge s x y e)
     unfolding section_edge
     edge_low c x y h =
         reached_all (λ k. c ≡ offer_of c (section_stretch s x y e k)) (unfold section_stretch offer_of in refl)
@@ -442,13 +441,13 @@ module _ (s : Section) (v : Valid s) (g : T (fits binary64 s.z0)) where
         e x y s.r1
 
 -- ---- as the code has it
-pub vertex_stays : (s : Section) (low : Float) → Firm s low → (c : Contact) (x y : Float) (n : ℕ) (vx vy vz : Float) → le (vz ⊖ low) (limit_of c) ≡ true
+pub vertex_stays : (s : Section) (low : Float) → Firm s low → (c : Option Contact) (x y : Float) (n : ℕ) (vx vy vz : Float) → le (vz ⊖ low) (limit_of c) ≡ true
     → c ≡ offer_of c (section_vertex s x y n vx vy vz)
 vertex_stays s low f c x y n vx vy vz h =
     ⊎_elim (λ e. absurd (drop_nan vz low (limit_of c) e h))
     (λ k. vertex_low s (valid_parts s k.0) k.2 c x y n vx vy vz (subst (λ (w : Float). le (vz ⊖ w) (limit_of c) ≡ true) k.1 h)) f
 
-pub edge_stays : (s : Section) (low : Float) → Firm s low → (c : Contact) (x y : Float) (e : Edge) → low_edge s low e (limit_of c) ≡ true
+pub edge_stays : (s : Section) (low : Float) → Firm s low → (c : Option Contact) (x y : Float) (e : Edge) → low_edge s low e (limit_of c) ≡ true
     → c ≡ offer_of c (section_edge s x y e)
 unfolding low_edge
 edge_stays s low f c x y e h =

@@ -1,4 +1,6 @@
 -- A search along an edge that is given up, or not begun: no place that it can still look at gives a tip above the larger end's, or a bound above the limit.
+use Rattle.cutters.specs.Touch.{from_to}
+use Rattle.std.specs.Prelude.{None, Option}
 use mathlib.Core.Bool.{true, false}
 use mathlib.Core.Logic.{⊎_elim}
 use mathlib.Core.Path.{◌≡◌, refl, ap, sym, ◌∙◌, subst}
@@ -8,14 +10,12 @@ use lib.Ieee.{Float, nan, inf, fin, binary64, add, lt, le, eq, fits, is_nan}
 use Rattle.numbers.specs.Reals.{◌⊕◌, ◌⊖◌, ◌⊗◌, max_of}
 use Rattle.golden.specs.Phi.{phi60}
 use Rattle.rules.proofs.Branches.{no}
-use Rattle.plane.specs.declared.Contact.TheVariants.{Nothing, Height}
-use Rattle.plane.specs.Contacts.{edge}
+use Rattle.plane.specs.Contacts.{edge, at_height}
 use Rattle.above.specs.Above.{offer_of}
 use Rattle.golden.specs.declared.Golden.{Golden}
 use Rattle.golden.specs.Search.{rises, golden_at, golden_max, bound_of, golden_max_bound}
 use Rattle.cutters.specs.declared.Edge.{Edge}
 use Rattle.cutters.specs.declared.Stretch.{Stretch}
-use Rattle.cutters.specs.declared.Stretch.TheVariants.{Nowhere, Between}
 use Rattle.caps.specs.Inside.{InnerOf, Alike}
 use Rattle.caps.proofs.Places.{number_of}
 use Rattle.caps.proofs.Narrow.{found_last, narrow_ends}
@@ -83,12 +83,12 @@ module _ (s : Section) (low x y : Float) (e : Edge) (lo hi limit slope : Float) 
       (subst (λ (v : Float). Alike limit (best ⊕ missed lo hi slope) (golden_max (section_at s x y e) lo hi 60 ⊕ missed lo hi v)) k h)
 
 -- ---- the stretch
-module _ (s : Section) (x y : Float) (e : Edge) (part : Stretch) (limit : Float) where
-  pub stretch_none : part ≡ Nowhere → AsGood limit Nothing (section_stretch s x y e part)
+module _ (s : Section) (x y : Float) (e : Edge) (part : Option Stretch) (limit : Float) where
+  pub stretch_none : part ≡ None → AsGood limit None (section_stretch s x y e part)
   unfolding section_stretch
   stretch_none p = λ c q. ap (λ k. offer_of c (section_stretch s x y e k)) (sym p)
 
-  pub stretch_some : (lo hi z : Float) → part ≡ Between lo hi → Alike limit z (golden_max_bound (section_at s x y e) lo hi (lipschitz_of s e))
-      → AsGood limit (Height z (edge e.which)) (section_stretch s x y e part)
+  pub stretch_some : (lo hi z : Float) → part ≡ from_to lo hi → Alike limit z (golden_max_bound (section_at s x y e) lo hi (lipschitz_of s e))
+      → AsGood limit (at_height z (edge e.which)) (section_stretch s x y e part)
   unfolding section_stretch offer_of
   stretch_some lo hi z p h = λ c q. h c (edge e.which) q ∙ ap (λ k. offer_of c (section_stretch s x y e k)) (sym p)

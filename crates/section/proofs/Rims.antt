@@ -1,4 +1,5 @@
 -- Beyond r1, which is not below r0, the section has no surface, and a vertex there no candidate.
+use Rattle.std.specs.Prelude.{None, Option}
 use mathlib.Core.Bool.{true, false}
 use mathlib.Core.Path.{◌≡◌, sym, ◌∙◌}
 use Prim.Native.Nat.{ℕ}
@@ -13,11 +14,10 @@ use Rattle.above.specs.Above.{offer_of}
 use Rattle.bound.specs.Inside.{Beyond as Outside}
 use Rattle.order.proofs.Order.{le_trans}
 use Rattle.section.specs.declared.Section.{Section}
-use Rattle.section.specs.declared.Surface.TheVariants.{Beyond}
 use Rattle.section.specs.Section.{profile_of, section_under, section_vertex}
 use Rattle.section.specs.Inside.{Clear}
 
-out_of : (s : Section) (d : Float) → le s.r0 s.r1 ≡ true → le d s.r1 ≡ false → profile_of s d ≡ Beyond
+out_of : (s : Section) (d : Float) → le s.r0 s.r1 ≡ true → le d s.r1 ≡ false → profile_of s d ≡ None
 unfolding profile_of
 out_of s d h e =
     by_test (le d s.r0) (λ l. absurd (no (sym e ∙ is_true _ (le_trans d s.r0 s.r1 (holds _ l) (holds _ h))))) (λ l. rw (l, e))
@@ -33,7 +33,7 @@ none_reached v h = no h
 pub clear_none : (s : Section) → Clear s (f0 ⊘ f0)
 clear_none s = record { out = λ p q f g h. absurd (none_reached _ h) }
 
-pub none_beyond : (s : Section) (far x y : Float) (n : ℕ) (vx vy vz : Float) (c : Contact) → Clear s far
+pub none_beyond : (s : Section) (far x y : Float) (n : ℕ) (vx vy vz : Float) (c : Option Contact) → Clear s far
     → le far ((vx ⊖ x) ⊗ (vx ⊖ x) ⊕ (vy ⊖ y) ⊗ (vy ⊖ y)) ≡ true → c ≡ offer_of c (section_vertex s x y n vx vy vz)
 unfolding section_vertex section_under offer_of
 none_beyond s far x y n vx vy vz c b h = rw (b.out (vx ⊖ x) (vy ⊖ y) (sub-fits binary64 vx x) (sub-fits binary64 vy y) h)

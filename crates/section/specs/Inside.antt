@@ -1,5 +1,5 @@
 -- What the functions inside the search promise each other: a sum of two squares that is at most `flat` belongs to a distance within r0.
-use Rattle.std.specs.Prelude.{Bool, true, false, cond, ◌⊎◌, ◌≡◌, T, Float}
+use Rattle.std.specs.Prelude.{Bool, true, false, cond, ◌⊎◌, ◌≡◌, T, Float, None, Option}
 use Rattle.std.specs.Float.{binary64}
 use Rattle.std.specs.Float.Ieee.{lt, le, fits, is_nan}
 use Rattle.numbers.specs.Reals.{◌⊕◌, ◌⊖◌, ◌⊗◌, ◌⊘◌, f0, f1, min_of, max_of, abs_of}
@@ -16,7 +16,6 @@ use Rattle.caps.specs.Inside.{root_most, high_on, least_on, tame_on, tame_rise}
 use Rattle.section.specs.declared.Section.{Section}
 use Rattle.section.specs.declared.slide.Fence.{Fence}
 use Rattle.section.specs.declared.slide.Loose.{Loose}
-use Rattle.section.specs.declared.Surface.TheVariants.{Beyond}
 use Rattle.section.specs.Section.{valid_section, profile_of, height_over, section_at}
 
 pub record FlatTo (s : Section) (flat : Float) : Type 0 where
@@ -24,7 +23,7 @@ pub record FlatTo (s : Section) (flat : Float) : Type 0 where
 
 -- A sum of two f64s' squares that is at least `far` belongs to a distance beyond the section.
 pub record Clear (s : Section) (far : Float) : Type 0 where
-  pub out : (p q : Float) → T (fits binary64 p) → T (fits binary64 q) → le far (p ⊗ p ⊕ q ⊗ q) ≡ true → profile_of s (hypot_of p q) ≡ Beyond
+  pub out : (p q : Float) → T (fits binary64 p) → T (fits binary64 q) → le far (p ⊗ p ⊕ q ⊗ q) ≡ true → profile_of s (hypot_of p q) ≡ None
 
 -- r is z where it is good, and else a NaN.
 abbrev pub KeptIf : Bool → Float → Float → Type 0
@@ -52,8 +51,8 @@ cap_of s low x y e lo hi =
     (f0 ⊘ f0)
 
 -- Two candidates that are as good as each other beside a contact with the limit b.
-abbrev pub AsGood : Float → Contact → Contact → Type 0
-AsGood b r k = (c : Contact) → limit_of c ≡ b → offer_of c r ≡ offer_of c k
+abbrev pub AsGood : Float → Option Contact → Option Contact → Type 0
+AsGood b r k = (c : Option Contact) → limit_of c ≡ b → offer_of c r ≡ offer_of c k
 
 -- The cap is at most m, or with `more` added at most the limit.
 abbrev pub Under : Float → Float → Float → Float → Type 0

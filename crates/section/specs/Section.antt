@@ -1,28 +1,22 @@
 -- Document 01, rows `Section` and `section_contact`, and "Questions": a section of a tool, seen from below, and its contact with one triangle. Its lower
 -- surface is level to r0, at z0 over the tip, and rises in a straight line to r1.
-use Rattle.std.specs.Prelude.{Bool, cond, ◌&&◌, ℕ, Float}
+use Rattle.std.specs.Prelude.{Bool, cond, ◌&&◌, ℕ, Float, None, Option, Some}
 use Rattle.std.specs.Float.Ieee.{lt, le}
 use Rattle.numbers.specs.Reals.{◌⊕◌, ◌⊖◌, ◌⊗◌, f0, no_slope, million, billion, min_of, abs_of}
 use Rattle.roots.specs.Root.{root_of}
 use Rattle.roots.specs.Hypot.{hypot_of}
 use Rattle.plane.specs.declared.Triangle.{Triangle}
 use Rattle.plane.specs.declared.Contact.{Contact}
-use Rattle.plane.specs.declared.Contact.TheVariants.{Nothing, Height}
-use Rattle.plane.specs.Contacts.{corner, edge}
+use Rattle.plane.specs.Contacts.{corner, edge, at_height}
 use Rattle.golden.specs.Search.{golden_max_bound}
 use Rattle.golden.specs.Upper.{infinity}
 use Rattle.cutters.specs.declared.Edge.{Edge}
 use Rattle.cutters.specs.declared.Stretch.{Stretch}
-use Rattle.cutters.specs.declared.Stretch.TheVariants.{Nowhere, Between}
 use Rattle.cutters.specs.declared.Gradient.{Gradient}
-use Rattle.cutters.specs.declared.Facing.{Facing}
-use Rattle.cutters.specs.declared.Facing.TheVariants.{Upright, Leaning}
 use Rattle.cutters.specs.declared.Rest.{Rest}
 use Rattle.above.specs.Above.{offer_of}
 use Rattle.cutters.specs.Touch.{edge_ab, edge_bc, edge_ca, along, distance_at, length2, reached_of, facing_of, rest_of, facet_height}
 use Rattle.section.specs.declared.Section.{Section}
-use Rattle.section.specs.declared.Surface.{Surface}
-use Rattle.section.specs.declared.Surface.TheVariants.{Beyond, Over}
 
 -- Between 0 and `high`, both included: no for a NaN.
 abbrev pub within : Float → Float → Bool
@@ -37,31 +31,31 @@ unfoldable pub valid_section : Section → Bool
 valid_section s = within s.z0 million && (within s.r0 s.r1 && positive_reach s.r1 s.rise)
 
 -- The height of the lower surface over the tip at the distance d from the axis: none beyond r1.
-unfoldable pub profile_of : Section → Float → Surface
+unfoldable pub profile_of : Section → Float → Option Float
 profile_of s d =
-    cond (le d s.r0) (Over s.z0) (cond (le d s.r1) (Over (s.z0 ⊕ (d ⊖ s.r0) ⊗ s.rise)) Beyond)
+    cond (le d s.r0) (Some s.z0) (cond (le d s.r1) (Some (s.z0 ⊕ (d ⊖ s.r0) ⊗ s.rise)) None)
 
 -- That height: infinite beyond r1.
-unfoldable pub height_over : Surface → Float
-height_over Beyond = infinity
-height_over (Over h) = h
+unfoldable pub height_over : Option Float → Float
+height_over None = infinity
+height_over (Some h) = h
 
 -- The candidate of corner n at the height z under the surface.
-unfoldable pub section_under : ℕ → Float → Surface → Contact
-section_under n z Beyond = Nothing
-section_under n z (Over h) = Height (z ⊖ h) (corner n)
+unfoldable pub section_under : ℕ → Float → Option Float → Option Contact
+section_under n z None = None
+section_under n z (Some h) = at_height (z ⊖ h) (corner n)
 
 -- The candidate of vertex n, (vx, vy, vz); the axis stands at (x, y).
-unfoldable pub section_vertex : Section → Float → Float → ℕ → Float → Float → Float → Contact
+unfoldable pub section_vertex : Section → Float → Float → ℕ → Float → Float → Float → Option Contact
 section_vertex s x y n vx vy vz = section_under n vz (profile_of s (hypot_of (vx ⊖ x) (vy ⊖ y)))
 
 -- The vertices' candidates, in their order.
-unfoldable pub section_vertices : Section → Float → Float → Triangle → Contact
+unfoldable pub section_vertices : Section → Float → Float → Triangle → Option Contact
 section_vertices s x y t =
     let a = section_vertex s x y 0 t.ax t.ay t.az in
     let b = section_vertex s x y 1 t.bx t.by t.bz in
     let c = section_vertex s x y 2 t.cx t.cy t.cz in
-    offer_of (offer_of (offer_of Nothing a) b) c
+    offer_of (offer_of (offer_of None a) b) c
 
 -- The tip's height over the edge's point at t.
 unfoldable pub section_at : Section → Float → Float → Edge → Float → Float
@@ -73,16 +67,16 @@ lipschitz_of s e = abs_of (e.bz ⊖ e.az) ⊕ s.rise ⊗ root_of (length2 e)
 
 -- An upper bound over the edge's stretch under the section, from a search of 60 steps. It touches the edge, also where the search ends at an end and the bound
 -- lies a hair above its corner.
-unfoldable pub section_stretch : Section → Float → Float → Edge → Stretch → Contact
-section_stretch s x y e Nowhere = Nothing
-section_stretch s x y e (Between t0 t1) = Height (golden_max_bound (section_at s x y e) t0 t1 (lipschitz_of s e)) (edge e.which)
+unfoldable pub section_stretch : Section → Float → Float → Edge → Option Stretch → Option Contact
+section_stretch s x y e None = None
+section_stretch s x y e (Some m) = at_height (golden_max_bound (section_at s x y e) m.from m.to (lipschitz_of s e)) (edge e.which)
 
 -- The candidate of an edge.
-unfoldable pub section_edge : Section → Float → Float → Edge → Contact
+unfoldable pub section_edge : Section → Float → Float → Edge → Option Contact
 section_edge s x y e = section_stretch s x y e (reached_of e x y s.r1)
 
 -- The contact c with the edges' candidates, in their order.
-unfoldable pub section_edges : Section → Float → Float → Triangle → Contact → Contact
+unfoldable pub section_edges : Section → Float → Float → Triangle → Option Contact → Option Contact
 section_edges s x y t c =
     offer_of (offer_of (offer_of c (section_edge s x y (edge_ab t))) (section_edge s x y (edge_bc t))) (section_edge s x y (edge_ca t))
 
@@ -99,10 +93,10 @@ section_rest s x y g =
     cond (lt g.steep no_slope) (record { x = x; y = y; drop = s.z0 }) (section_sloped s x y g (reach_of s g.steep))
 
 -- The candidate of the facet: none on an upright triangle.
-unfoldable pub section_facet : Section → Float → Float → Triangle → Facing → Contact
-section_facet s x y t Upright = Nothing
-section_facet s x y t (Leaning g) = facet_height t (section_rest s x y g)
+unfoldable pub section_facet : Section → Float → Float → Triangle → Option Gradient → Option Contact
+section_facet s x y t None = None
+section_facet s x y t (Some g) = facet_height t (section_rest s x y g)
 
 -- section_contact: the vertices, the edges, the facet; the axis stands at (x, y).
-unfoldable pub section_contact : Triangle → Float → Float → Section → Contact
+unfoldable pub section_contact : Triangle → Float → Float → Section → Option Contact
 section_contact t x y s = offer_of (section_edges s x y t (section_vertices s x y t)) (section_facet s x y t (facing_of t))

@@ -11,7 +11,7 @@ ghost use Rattle.section.specs.Section.{within, positive_reach, valid_section, p
 ghost use Rattle.section.specs.Section.{section_vertices, section_at, lipschitz_of, section_stretch, section_edge, section_edges};
 ghost use Rattle.section.specs.Section.{reach_of, section_sloped, section_rest, section_facet, section_contact};
 
-use cutters::{Edge, Facing, Gradient, Rest, Stretch};
+use cutters::{Edge, Gradient, Rest, Stretch};
 use golden::Golden;
 use plane::{Contact, Touch, Triangle};
 use slide::Stage;
@@ -26,13 +26,6 @@ pub struct Section {
     pub r0: f64,
     pub r1: f64,
     pub rise: f64,
-}
-
-// The height of a section's surface over the tip: none beyond r1.
-#[derive(Clone, Copy)]
-pub enum Surface {
-    Beyond,
-    Over(f64),
 }
 
 // Whether a section is valid.
@@ -66,14 +59,20 @@ fn within_range(x: f64, high: f64) -> bool
 }
 
 // The tip's height where the section, its axis at (x, y), rests on the triangle: an upper bound.
-pub fn section_contact(t: Triangle, x: f64, y: f64, s: Section) -> Contact
+pub fn section_contact(t: Triangle, x: f64, y: f64, s: Section) -> Option<Contact>
     ensures { result ≡ section_contact t x y s }
 {
-    section_contact_on(t, x, y, s, Contact::Nothing)
+    section_contact_on(t, x, y, s, None)
 }
 
 // The same on top of the contact c: what cannot exceed c is left out.
-pub fn section_contact_on(t: Triangle, x: f64, y: f64, s: Section, c: Contact) -> Contact
+pub fn section_contact_on(
+    t: Triangle,
+    x: f64,
+    y: f64,
+    s: Section,
+    c: Option<Contact>,
+) -> Option<Contact>
     ensures { result ≡ offer_of c (section_contact t x y s) }
 {
     let low = low::low_of(s);
@@ -83,41 +82,41 @@ pub fn section_contact_on(t: Triangle, x: f64, y: f64, s: Section, c: Contact) -
 }
 
 // The height of the lower surface over the tip at the distance d from the axis.
-pub fn profile(s: Section, d: f64) -> Surface
+pub fn profile(s: Section, d: f64) -> Option<f64>
     ensures { result ≡ profile_of s d }
 {
     if d <= s.r0 {
-        return Surface::Over(s.z0);
+        return Some(s.z0);
     }
     if d <= s.r1 {
-        return Surface::Over(s.z0 + (d - s.r0) * s.rise);
+        return Some(s.z0 + (d - s.r0) * s.rise);
     }
-    Surface::Beyond
+    None
 }
 
 // The same as a number: infinite beyond r1.
-fn height_over(h: Surface) -> f64
+fn height_over(h: Option<f64>) -> f64
     ensures { result ≡ height_over h }
 {
     match h {
-        Surface::Beyond => 1.0 / 0.0,
-        Surface::Over(z) => z,
+        None => 1.0 / 0.0,
+        Some(z) => z,
     }
 }
 
 // The candidate of corner n at the height z under the surface.
-fn under(n: u32, z: f64, h: Surface) -> Contact
+fn under(n: u32, z: f64, h: Option<f64>) -> Option<Contact>
     ensures { result ≡ section_under n z h }
 {
     match h {
-        Surface::Beyond => Contact::Nothing,
-        Surface::Over(d) => Contact::Height(
-            z - d,
-            Touch {
+        None => None,
+        Some(d) => Some(Contact {
+            height: z - d,
+            touch: Touch {
                 kind: plane::CORNER,
                 which: n,
             },
-        ),
+        }),
     }
 }
 
@@ -144,8 +143,8 @@ fn vertex(
     vx: f64,
     vy: f64,
     vz: f64,
-    c: Contact,
-) -> Contact
+    c: Option<Contact>,
+) -> Option<Contact>
     requires { Firm s low × Clear s far }
     ensures { result ≡ offer_of c (section_vertex s x y n vx vy vz) }
 {
@@ -161,7 +160,15 @@ fn vertex(
 }
 
 // The contact c with the vertices' candidates.
-fn vertices(s: Section, low: f64, far: f64, x: f64, y: f64, t: Triangle, c: Contact) -> Contact
+fn vertices(
+    s: Section,
+    low: f64,
+    far: f64,
+    x: f64,
+    y: f64,
+    t: Triangle,
+    c: Option<Contact>,
+) -> Option<Contact>
     requires { Firm s low × Clear s far }
     ensures { result ≡ offer_of c (section_vertices s x y t) }
 {
@@ -171,7 +178,7 @@ fn vertices(s: Section, low: f64, far: f64, x: f64, y: f64, t: Triangle, c: Cont
 }
 
 // The contact c with the edges' candidates.
-fn edges(s: Section, low: f64, x: f64, y: f64, t: Triangle, c: Contact) -> Contact
+fn edges(s: Section, low: f64, x: f64, y: f64, t: Triangle, c: Option<Contact>) -> Option<Contact>
     requires { Firm s low }
     ensures { result ≡ section_edges s x y t c }
 {
@@ -181,7 +188,7 @@ fn edges(s: Section, low: f64, x: f64, y: f64, t: Triangle, c: Contact) -> Conta
 }
 
 // The contact c with the candidate of an edge, unless that cannot exceed c.
-fn edge(s: Section, low: f64, x: f64, y: f64, e: Edge, c: Contact) -> Contact
+fn edge(s: Section, low: f64, x: f64, y: f64, e: Edge, c: Option<Contact>) -> Option<Contact>
     requires { Firm s low }
     ensures { result ≡ offer_of c (section_edge s x y e) }
 {
@@ -194,20 +201,28 @@ fn edge(s: Section, low: f64, x: f64, y: f64, e: Edge, c: Contact) -> Contact
 }
 
 // The bound over an edge's stretch, or one that is as good beside the limit.
-fn stretch_of(s: Section, low: f64, x: f64, y: f64, e: Edge, part: Stretch, limit: f64) -> Contact
+fn stretch_of(
+    s: Section,
+    low: f64,
+    x: f64,
+    y: f64,
+    e: Edge,
+    part: Option<Stretch>,
+    limit: f64,
+) -> Option<Contact>
     requires { Firm s low }
     ensures { AsGood limit result (section_stretch s x y e part) }
 {
     let which = e.which;
     match part {
-        Stretch::Nowhere => Contact::Nothing,
-        Stretch::Between(t0, t1) => Contact::Height(
-            bounded(s, low, x, y, e, t0, t1, limit),
-            Touch {
+        None => None,
+        Some(on) => Some(Contact {
+            height: bounded(s, low, x, y, e, on.from, on.to, limit),
+            touch: Touch {
                 kind: plane::EDGE,
                 which,
             },
-        ),
+        }),
     }
 }
 
@@ -393,12 +408,12 @@ fn at(s: Section, x: f64, y: f64, e: Edge, flat: f64, t: f64) -> f64
 }
 
 // The candidate of the facet.
-pub fn facet(s: Section, x: f64, y: f64, t: Triangle, f: Facing) -> Contact
+pub fn facet(s: Section, x: f64, y: f64, t: Triangle, f: Option<Gradient>) -> Option<Contact>
     ensures { result ≡ section_facet s x y t f }
 {
     match f {
-        Facing::Upright => Contact::Nothing,
-        Facing::Leaning(g) => cutters::facet_height(t, rest(s, x, y, g)),
+        None => None,
+        Some(g) => cutters::facet_height(t, rest(s, x, y, g)),
     }
 }
 

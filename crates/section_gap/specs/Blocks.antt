@@ -1,6 +1,6 @@
 -- Document 01, row `sections_chord_clear`, for one triangle and one section: whether the triangle blocks the section on a chord. The gap has one maximum, which
 -- is bounded from the last bracket of its search with no slope known beforehand (upright walls included).
-use Rattle.std.specs.Prelude.{Bool, false, cond, Float}
+use Rattle.std.specs.Prelude.{Bool, false, cond, Float, None, Option, Some}
 use Rattle.std.specs.Float.Ieee.{lt, le}
 use Rattle.numbers.specs.Reals.{◌⊕◌, ◌⊖◌, f0, min_of, max_of}
 use Rattle.roots.specs.Hypot.{hypot_of}
@@ -8,7 +8,6 @@ use Rattle.plane.specs.declared.Triangle.{Triangle}
 use Rattle.plane.specs.declared.Bounds.{Bounds}
 use Rattle.golden.specs.Upper.{concave_max_upper}
 use Rattle.cutters.specs.declared.Stretch.{Stretch}
-use Rattle.cutters.specs.declared.Stretch.TheVariants.{Nowhere, Between}
 use Rattle.cutters.specs.Touch.{along}
 use Rattle.section.specs.declared.Section.{Section}
 use Rattle.section.specs.Section.{section_contact}
@@ -20,9 +19,9 @@ unfoldable pub section_gap : Triangle → Chord → Section → Float → Float
 section_gap t m k u = gap_of m u (section_contact t (along m.ax m.bx u) (along m.ay m.by u) k)
 
 -- Whether it may stand above anywhere on the stretch.
-unfoldable pub section_searched : Triangle → Chord → Section → Stretch → Bool
-section_searched t m k Nowhere = false
-section_searched t m k (Between u0 u1) = lt f0 (concave_max_upper (section_gap t m k) u0 u1)
+unfoldable pub section_searched : Triangle → Chord → Section → Option Stretch → Bool
+section_searched t m k None = false
+section_searched t m k (Some n) = lt f0 (concave_max_upper (section_gap t m k) n.from n.to)
 
 -- How far low..high lies from the values between a and b: 0 where they meet.
 unfoldable pub side_gap : Float → Float → Float → Float → Float

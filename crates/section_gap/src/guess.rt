@@ -17,10 +17,10 @@ pub fn start_of(t: Triangle, x: f64, y: f64, k: Section) -> f64 {
 }
 
 // The height of a contact.
-fn height(c: Contact) -> f64 {
+fn height(c: Option<Contact>) -> f64 {
     match c {
-        Contact::Nothing => MINUS_ONE / 0.0,
-        Contact::Height(z, _) => z,
+        None => MINUS_ONE / 0.0,
+        Some(met) => met.height,
     }
 }
 

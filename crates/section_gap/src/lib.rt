@@ -49,12 +49,13 @@ fn side_gap(low: f64, high: f64, a: f64, b: f64) -> f64
 }
 
 // Whether a contact on the stretch, lifted, may stand above the tip.
-fn searched(t: Triangle, m: Chord, k: Section, s: Stretch) -> bool
+#[tactic(auto, unfolding(crate::specs::Blocks::section_searched))]
+fn searched(t: Triangle, m: Chord, k: Section, s: Option<Stretch>) -> bool
     ensures { result ≡ section_searched t m k s }
 {
     match s {
-        Stretch::Nowhere => false,
-        Stretch::Between(u0, u1) => bound(t, m, k, u0, u1) > 0.0,
+        None => false,
+        Some(part) => bound(t, m, k, part.from, part.to) > 0.0,
     }
 }
 
@@ -130,7 +131,7 @@ fn gap(t: Triangle, m: Chord, k: Section, u: f64) -> f64
 }
 
 // The contact by itself. What lies lower than a guess of it is left out, unless the contact lies lower too.
-fn contact(t: Triangle, x: f64, y: f64, k: Section) -> Contact
+fn contact(t: Triangle, x: f64, y: f64, k: Section) -> Option<Contact>
     ensures { result ≡ section_contact t x y k }
 {
     let on = above::so_far(guess::start_of(t, x, y, k));

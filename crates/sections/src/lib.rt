@@ -3,7 +3,7 @@
 
 ghost use Rattle.std.specs.Prelude.{◌≡◌, ◌≤◌, length};
 ghost use Rattle.grid.specs.Index.{index_of};
-ghost use Rattle.ask.specs.Ask.{ended};
+ghost use Rattle.ask.specs.Ask.{ended, answer_told, ruling_told};
 ghost use Rattle.tips.specs.Contact.{max_sections_of, SectionsPromise};
 ghost use Rattle.chords.specs.Chords.{sections_chord_of, SectionsChordPromise};
 ghost use Rattle.flatten.specs.Flat.{flat_of, held_in};
@@ -12,6 +12,7 @@ use ask::{Answer, Ruling};
 use flatten::Table;
 use grid::Header;
 use reach::Chord;
+use refusals::Refusal;
 use section::Section;
 
 // The highest tip of a tool of the sections at (px, py), or why the question is refused.
@@ -26,12 +27,12 @@ pub fn max_sections(
     px: f64,
     py: f64,
     sections: &[Section],
-) -> Answer
-    ensures marks_after { ended result marks.new
+) -> Result<Answer, Refusal>
+    ensures marks_after { ended (answer_told result stamp) marks.new
         ≡ max_sections_of (index_of mesh.now h starts.now members.now boxes.now)
         marks.old stamp px py (flat_of sections.now) }
     ensures sections_promise { SectionsPromise (index_of mesh.now h starts.now members.now boxes.now)
-        marks.old stamp px py (flat_of sections.now) result }
+        marks.old stamp px py (flat_of sections.now) (answer_told result stamp) }
 {
     let t = flatten::flat(sections);
     max_over(mesh, h, starts, members, boxes, marks, stamp, px, py, t)
@@ -48,12 +49,12 @@ pub fn sections_chord_clear(
     stamp: u32,
     m: Chord,
     sections: &[Section],
-) -> Ruling
-    ensures marks_after { ended result marks.new
+) -> Result<Ruling, Refusal>
+    ensures marks_after { ended (ruling_told result stamp) marks.new
         ≡ sections_chord_of (index_of mesh.now h starts.now members.now boxes.now)
         marks.old stamp m (flat_of sections.now) }
     ensures sections_chord_promise { SectionsChordPromise (index_of mesh.now h starts.now members.now boxes.now)
-        marks.old stamp m (flat_of sections.now) result }
+        marks.old stamp m (flat_of sections.now) (ruling_told result stamp) }
 {
     let t = flatten::flat(sections);
     chord_over(mesh, h, starts, members, boxes, marks, stamp, m, t)
@@ -71,9 +72,9 @@ fn max_over(
     px: f64,
     py: f64,
     t: Table,
-) -> Answer
+) -> Result<Answer, Refusal>
     requires { t.count ≤ length t.numbers }
-    ensures { ended result marks.new
+    ensures { ended (answer_told result stamp) marks.new
         ≡ max_sections_of (index_of mesh.now h starts.now members.now boxes.now)
         marks.old stamp px py (held_in t) }
 {
@@ -104,9 +105,9 @@ fn chord_over(
     stamp: u32,
     m: Chord,
     t: Table,
-) -> Ruling
+) -> Result<Ruling, Refusal>
     requires { t.count ≤ length t.numbers }
-    ensures { ended result marks.new
+    ensures { ended (ruling_told result stamp) marks.new
         ≡ sections_chord_of (index_of mesh.now h starts.now members.now boxes.now)
         marks.old stamp m (held_in t) }
 {

@@ -26,7 +26,12 @@ use Rattle.setup.specs.declared.Seen.{Seen}
 use Rattle.setup.specs.declared.Question.{Question}
 use Rattle.setup.specs.Question.{is_question, reach_of, step_of, patch_of}
 use Rattle.setup.specs.Answer.{is_marked, triangle_usable, member_usable, tables_usable, refusal_of_tables}
-use Rattle.setup.specs.Answer.{refusal_of, setup_walk, refused_by, answered_by, setup_height_of}
+use Rattle.std.specs.Prelude.{Result, Ok, Err}
+use Rattle.refusals.specs.declared.Refusal.{Refusal}
+use Rattle.refusals.specs.Numbers.{number_of}
+use Rattle.refusals.proofs.Named.{not_zero}
+use Rattle.setup.specs.declared.Answer.{Answer as Found}
+use Rattle.setup.specs.Answer.{told, refusal_of, setup_walk, refused_by, answered_by, setup_height_of}
 use Rattle.setup.specs.Inside.{seen, Small}
 use Rattle.setup.proofs.Reaching.{small_reach, patch_inside}
 use Rattle.setup.proofs.Heads.{Headed, headed_is}
@@ -62,6 +67,10 @@ module _ (ix : Index) (marks : List ℕ) (stamp : ℕ) (w : Reach) (p : Patch) (
       → r ≡ t → tables_usable ix marks stamp w ≡ t
   unfolding tables_usable
   tables_told r t f h = sym (f ∙ ap (cells_usable (member_usable ix.mesh ix.header.n marks stamp) ix.starts ix.members ix.header.columns) e) ∙ h
+
+pub told_height : (stamp : ℕ) (r : Refusal) (o : Result Found Refusal) → o ≡ Err r → (told o stamp).height < 4294967296
+unfolding told
+told_height stamp r o h = rw h (omega arith)
 
 module _ (ix : Index) (marks : List ℕ) (stamp : ℕ) (q : Question) where
   pub record Passed : Type 0 where
@@ -129,3 +138,8 @@ module _ (ix : Index) (marks : List ℕ) (stamp : ℕ) (q : Question) where
           let k : seen m' s ≡ setup_walk ix marks stamp q = unfold setup_walk in (i ∙ walk_is next (step_of ix.mesh w) _ _ ∙ (rw (f, g, h))) in
           ap (λ (x : ℕ). ended (answered_by (seen m' s) x) m') g
           ∙ taken _ _ _ _ (eq-eqb _ 0 (sym e ∙ z)) (ap (λ (u : Walk Best). ended (answered_by u (next_stamp stamp)) u.marks) k)
+
+  pub refused_err : (r : Refusal) → number_of r ≡ refusal_of ix marks stamp q → (o : Result Found Refusal) → o ≡ Err r
+      → ended (told o stamp) marks ≡ setup_height_of ix marks stamp q
+  unfolding told
+  refused_err r a o h = rw h (refused (number_of r) a (not_zero r))

@@ -12,8 +12,7 @@ use lib.ListN.{length}
 use lib.Pow.{pow_pos}
 use Rattle.rules.proofs.Branches.{both_true, no}
 use Rattle.fields.specs.Rows.{somewhere}
-use Rattle.fields.specs.declared.Place.{Place}
-use Rattle.fields.specs.declared.Place.TheVariants.{Nowhere, At}
+use Rattle.std.specs.Prelude.{Option, None, Some}
 use Rattle.rules.specs.Every.{is_from}
 use Rattle.micro.specs.Micro.{is_coordinate, is_radius, first_where}
 use Rattle.um.specs.declared.Header.{Header}
@@ -39,10 +38,10 @@ from_is a e k t = let p = both_true (leb a k) (leb k e) t in (leb-true _ _ p.0, 
 pub few_cells : (columns rows : ℕ) → is_from 1 65536 columns ≡ true → is_from 1 65536 rows ≡ true → rows * columns ≤ 65536 * 65536
 few_cells columns rows c r = mul-le-mul (from_is 1 65536 rows r).1 (from_is 1 65536 columns c).1
 
-power_at : (cell : ℕ) (p : Place) → first_where (λ k. eqb (2 ^ k) cell) 0 32 ≡ p → somewhere p ≡ true → 0 < cell
+power_at : (cell : ℕ) (p : Option ℕ) → first_where (λ k. eqb (2 ^ k) cell) 0 32 ≡ p → somewhere p ≡ true → 0 < cell
 unfolding somewhere
-power_at cell Nowhere q e = absurd (no e)
-power_at cell (At k) q e = let z = eqb-true (2 ^ k) cell (found (λ k. eqb (2 ^ k) cell) 0 32 k q).passes in rw (← z) (pow_pos k)
+power_at cell None q e = absurd (no e)
+power_at cell (Some k) q e = let z = eqb-true (2 ^ k) cell (found (λ k. eqb (2 ^ k) cell) 0 32 k q).passes in rw (← z) (pow_pos k)
 
 power_positive : (cell : ℕ) → is_power cell ≡ true → 0 < cell
 unfolding is_power

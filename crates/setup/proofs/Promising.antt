@@ -22,10 +22,9 @@ use Rattle.micro.specs.Micro.{is_coordinate, number_at}
 use Rattle.um.specs.Index.{Index, covers_of, BuiltFrom, SoundIndex}
 use Rattle.um.proofs.Indexing.{index_sound}
 use Rattle.setup.specs.declared.Best.{Best}
-use Rattle.setup.specs.declared.Answer.{Answer}
 use Rattle.setup.specs.declared.Question.{Question}
 use Rattle.setup.specs.Question.{reach_of, plain_walk, patch_of}
-use Rattle.setup.specs.Answer.{is_marked, head_usable, triangle_usable, member_usable, tables_usable, refusal_of_tables}
+use Rattle.setup.specs.Answer.{Answer, is_marked, head_usable, triangle_usable, member_usable, tables_usable, refusal_of_tables}
 use Rattle.setup.specs.Answer.{refusal_of, within, looked_in, setup_walk, refused_by, answered_by, setup_height_of}
 use Rattle.setup.specs.Demand.{Shares, GoodQuestion, Plain, SetupPromise}
 use Rattle.setup.proofs.Reaching.{patch_inside}

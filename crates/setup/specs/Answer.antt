@@ -1,5 +1,5 @@
 -- Document 02, request 11: refusals 1, 2 and 7 of the set-up height question, its answer, and the marks that it leaves.
-use Rattle.std.specs.Prelude.{Bool, ◌&&◌, cond, List, ℕ, ◌+◌, ◌*◌, eqb, leb, ltb, ℤ, length, get_or}
+use Rattle.std.specs.Prelude.{Bool, ◌&&◌, cond, List, ℕ, ◌+◌, ◌*◌, eqb, leb, ltb, ℤ, length, get_or, Result, Ok, Err}
 use Rattle.walk.specs.Walk.{Walk, block, looked, walked, next_stamp, ready_marks}
 use Rattle.rules.specs.Ladder.{demand}
 use Rattle.query.specs.declared.Patch.{Patch}
@@ -12,7 +12,9 @@ use Rattle.um.specs.declared.Header.{Header}
 use Rattle.um.specs.Build.{in_ranges, nought}
 use Rattle.um.specs.Index.{Index}
 use Rattle.setup.specs.declared.Best.{Best}
-use Rattle.setup.specs.declared.Answer.{Answer}
+use Rattle.setup.specs.declared.Answer.{Answer as Found}
+use Rattle.refusals.specs.declared.Refusal.{Refusal}
+use Rattle.refusals.specs.Numbers.{number_of}
 use Rattle.setup.specs.declared.Question.{Question}
 use Rattle.setup.specs.declared.Reach.{Reach}
 use Rattle.setup.specs.Question.{is_question, reach_of, step_of, from_floor, patch_of}
@@ -63,6 +65,14 @@ unfoldable pub setup_walk : Index → List ℕ → ℕ → Question → Walk Bes
 setup_walk ix marks stamp q =
     walked (next_stamp stamp) (step_of ix.mesh (reach_of q)) (begun marks stamp (from_floor ix.header.floor)) (within ix (patch_of ix.header (reach_of q)))
 
+-- The answer as document 01 numbers it: its refusal or 0, the height, how many triangles were looked at, the stamp, and how many boxes meet.
+pub record Answer : Type 0 where
+  pub refusal : ℕ
+  pub height : ℕ
+  pub count : ℕ
+  pub stamp : ℕ
+  pub met : ℕ
+
 -- Refused by k: zero height, zero counts, the stamp as handed.
 abbrev pub refused_by : ℕ → ℕ → Answer
 refused_by k stamp = record { refusal = k; height = nought; count = 0; stamp = stamp; met = 0 }
@@ -70,6 +80,11 @@ refused_by k stamp = record { refusal = k; height = nought; count = 0; stamp = s
 -- Accepted: the height and the boxes met that the walk w found, how many triangles it looked at, and its stamp.
 abbrev pub answered_by : Walk Best → ℕ → Answer
 answered_by w stamp = record { refusal = 0; height = w.value.height; count = w.count; stamp = stamp; met = w.value.met }
+
+-- How an answer is told.
+unfoldable pub told : Result Found Refusal → ℕ → Answer
+told (Ok a) stamp = record { refusal = 0; height = a.height; count = a.count; stamp = a.stamp; met = a.met }
+told (Err e) stamp = refused_by (number_of e) stamp
 
 -- The question. A refusal leaves the marks untouched.
 unfoldable pub setup_height_of : Index → List ℕ → ℕ → Question → Outcome Answer

@@ -5,10 +5,9 @@ use Rattle.query.specs.declared.Patch.{Patch}
 use Rattle.query.specs.Asked.{NoneAbove}
 use Rattle.query.specs.Looked.{SharesCell, EachOnce}
 use Rattle.um.specs.Index.{Index, covers_of, BuiltFrom}
-use Rattle.setup.specs.declared.Answer.{Answer}
 use Rattle.setup.specs.declared.Question.{Question}
 use Rattle.setup.specs.Question.{is_question, reach_of, plain_walk, patch_of}
-use Rattle.setup.specs.Answer.{looked_in}
+use Rattle.setup.specs.Answer.{Answer, looked_in}
 
 -- Triangle i shares a grid cell with the question.
 abbrev pub Shares : Index → Patch → ℕ → Type 0

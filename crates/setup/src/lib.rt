@@ -4,17 +4,20 @@
 
 ghost use Rattle.std.specs.Prelude.{◌≡◌, true, ◌+◌, ◌-◌, ◌*◌, ◌^◌, ◌≤◌, ◌<◌, min, length};
 ghost use Rattle.walk.specs.Walk.{block, fold};
-ghost use Rattle.walk.specs.Inside.{look, Below, Room, Walkable};
+ghost use Rattle.walk.specs.Inside.{look, Walkable};
 ghost use Rattle.ask.specs.Ask.{ended};
 ghost use Rattle.um.specs.Index.{index_of};
 ghost use Rattle.setup.specs.Question.{are_points, is_question, reach_of, touches as touches_of, meets as meetsOf, taken, step_of, span_of, patch_of};
-ghost use Rattle.setup.specs.Answer.{head_usable, refusal_of_tables, refusal_of, setup_height_of};
+ghost use Rattle.refusals.specs.Numbers.{code_of};
+ghost use Rattle.setup.specs.Answer.{head_usable, refusal_of_tables, refusal_of, told, setup_height_of};
 ghost use Rattle.setup.specs.Demand.{SetupPromise};
 ghost use Rattle.setup.specs.Inside.{seen, Sane, Small};
 
 use micro::Box;
 use query::{Patch, Span};
+use refusals::Refusal;
 use um::Header;
+use walk::Look;
 
 mod usable;
 
@@ -53,10 +56,9 @@ pub struct Seen {
     pub met: u32,
 }
 
-// The answer: its refusal or 0, the height, how many triangles were looked at, the stamp, and how many boxes meet.
+// The answer: the height, how many triangles were looked at, the stamp, and how many boxes meet.
 #[derive(Clone, Copy)]
 pub struct Answer {
-    pub refusal: u32,
     pub height: u64,
     pub count: u32,
     pub stamp: u32,
@@ -72,30 +74,20 @@ pub fn setup_height(
     marks: &mut [u32],
     stamp: u32,
     q: Question,
-) -> Answer
-    ensures marks_after { (ended result marks.new
-        ≡ setup_height_of (index_of mesh.now h starts.now members.now) marks.old stamp q) × (result.height < 2 ^ 32) }
-    ensures setup_promise { SetupPromise (index_of mesh.now h starts.now members.now) marks.old stamp q result }
+) -> Result<Answer, Refusal>
+    ensures marks_after { (ended (told result stamp) marks.new
+        ≡ setup_height_of (index_of mesh.now h starts.now members.now) marks.old stamp q) × ((told result stamp).height < 2 ^ 32) }
+    ensures setup_promise { SetupPromise (index_of mesh.now h starts.now members.now) marks.old stamp q (told result stamp) }
 {
-    let k = refusal(mesh, h, starts, members, marks, stamp, q);
-    if k != 0 {
-        return Answer {
-            refusal: k,
-            height: 2147483648,
-            count: 0,
-            stamp,
-            met: 0,
-        };
-    }
+    refusal(mesh, h, starts, members, marks, stamp, q)?;
     let next = walk::next_stamp(marks, stamp);
     let s = walk_from(mesh, h, starts, members, marks, next, reach_of(q));
-    Answer {
-        refusal: 0,
+    Ok(Answer {
         height: s.height,
         count: s.count,
         stamp: next,
         met: s.met,
-    }
+    })
 }
 
 // 1, 2 and 7.
@@ -107,17 +99,17 @@ fn refusal(
     marks: &[u32],
     stamp: u32,
     q: Question,
-) -> u32
-    ensures { result ≡ refusal_of (index_of mesh.now h starts.now members.now) marks.now stamp q }
+) -> Result<(), Refusal>
+    ensures { code_of result ≡ refusal_of (index_of mesh.now h starts.now members.now) marks.now stamp q }
 {
     if !usable::is_marked(mesh, marks) {
-        return 1;
+        return Err(Refusal::Length);
     }
     if !is_question(q) {
-        return 2;
+        return Err(Refusal::Number);
     }
     if !usable::head_usable(mesh, h, starts) {
-        return 7;
+        return Err(Refusal::Index);
     }
     refusal_of_tables(mesh, h, starts, members, marks, stamp, reach_of(q))
 }
@@ -131,9 +123,9 @@ fn refusal_of_tables(
     marks: &[u32],
     stamp: u32,
     w: Reach,
-) -> u32
+) -> Result<(), Refusal>
     requires { (length mesh.now ≡ length marks.now * 9) × (head_usable mesh.now h starts.now ≡ true) × Small w }
-    ensures { result ≡ refusal_of_tables (index_of mesh.now h starts.now members.now) marks.now stamp w }
+    ensures { code_of result ≡ refusal_of_tables (index_of mesh.now h starts.now members.now) marks.now stamp w }
 {
     let n = h.n;
     let columns = h.columns;
@@ -147,9 +139,9 @@ fn refusal_of_tables(
         columns,
         patch_of(h, w),
     ) {
-        return 0;
+        return Ok(());
     }
-    7
+    Err(Refusal::Index)
 }
 
 // Whether the numbers of a question are in their ranges.
@@ -246,23 +238,55 @@ fn walk_from(
         ≡ fold (look stamp (step_of mesh.now w)) (seen marks.old (record { count = 0; height = h.floor; met = 0 }))
         (block starts.now members.now h.columns (patch_of h w).x0 (patch_of h w).x1 (patch_of h w).y0 (patch_of h w).y1)) × Sane result }
 {
-    let columns = h.columns;
-    let first = Seen {
-        count: 0,
-        height: h.floor,
-        met: 0,
-    };
-    visit(
-        mesh,
+    let p = patch_of(h, w);
+    let s = walk::visit(
+        &Tops { mesh, w },
         starts,
         members,
         marks,
         stamp,
-        columns,
-        patch_of(h, w),
-        w,
-        first,
-    )
+        h.columns,
+        p.x0,
+        p.x1,
+        p.y0,
+        p.y1,
+        walk::Seen {
+            count: 0,
+            best: Best {
+                height: h.floor,
+                met: 0,
+            },
+        },
+    );
+    let best = s.best;
+    Seen {
+        count: s.count,
+        height: best.height,
+        met: best.met,
+    }
+}
+
+// A question at a triangle: the mesh, and the question's box.
+#[derive(Clone, Copy)]
+struct Tops<'a> {
+    mesh: &'a [i32],
+    w: Reach,
+}
+
+impl<'a> Look for Tops<'a> {
+    type Found = Best;
+
+    ghost fits = { λ q i. (9 * i + 9 ≤ length q.mesh.now) × Small q.w };
+
+    ghost sane = { λ q count best. Sane (record { count = count; height = best.height; met = best.met }) };
+
+    ghost step = { λ q. step_of q.mesh.now q.w };
+
+    #[inline]
+    fn look(&self, _: u32, best: Best, i: u32) -> Best {
+        let b = micro::box_of(self.mesh, i as usize);
+        take(self.w, b, best.height, best.met)
+    }
 }
 
 // Whether two stretches of an axis meet, the second grown by r.
@@ -299,69 +323,4 @@ fn take(w: Reach, b: Box, height: u64, met: u32) -> Best
         };
     }
     Best { height, met }
-}
-
-// Looks at triangle i, unless its mark is the stamp.
-fn look_at(mesh: &[i32], marks: &mut [u32], stamp: u32, w: Reach, s: Seen, i: usize) -> Seen
-    requires { (length mesh.now ≡ length marks.old * 9) × (i < length marks.old) × Room stamp (seen marks.old s) × Sane s × Small w }
-    ensures { (seen marks.new result ≡ look stamp (step_of mesh.now w) (seen marks.old s) i) × Sane result }
-{
-    let count = s.count;
-    let height = s.height;
-    let met = s.met;
-    if !walk::fresh(marks, stamp, i) {
-        return s;
-    }
-    let b = take(w, micro::box_of(mesh, i), height, met);
-    Seen {
-        count: count + 1,
-        height: b.height,
-        met: b.met,
-    }
-}
-
-// The step over one cell: looks at each of its numbers.
-fn visit_cell(mesh: &[i32], part: &[u32], marks: &mut [u32], stamp: u32, w: Reach, s: Seen) -> Seen
-    requires { (length mesh.now ≡ length marks.old * 9) × Below (length marks.old) part.now × Room stamp (seen marks.old s) × Sane s × Small w }
-    ensures { (seen marks.new result
-        ≡ fold (look stamp (step_of mesh.now w)) (seen marks.old s) part.now) × Sane result }
-{
-    let mut found = s;
-    for j in 0..part.len() {
-        found = look_at(mesh, marks, stamp, w, found, part[j] as usize);
-    }
-    found
-}
-
-// The walk over the cells of a patch: rows, then columns, then the numbers of each cell.
-fn visit(
-    mesh: &[i32],
-    starts: &[u32],
-    members: &[u32],
-    marks: &mut [u32],
-    stamp: u32,
-    columns: usize,
-    p: Patch,
-    w: Reach,
-    s: Seen,
-) -> Seen
-    requires { (length mesh.now ≡ length marks.old * 9)
-        × Walkable starts.now members.now (length marks.old) columns p.x0 p.x1 p.y0 p.y1
-        × Room stamp (seen marks.old s) × Sane s × Small w }
-    ensures { (seen marks.new result
-        ≡ fold (look stamp (step_of mesh.now w)) (seen marks.old s)
-        (block starts.now members.now columns p.x0 p.x1 p.y0 p.y1)) × Sane result }
-{
-    let x0 = p.x0;
-    let x1 = p.x1;
-    let y0 = p.y0;
-    let y1 = p.y1;
-    let mut found = s;
-    for y in y0..y1 {
-        for x in x0..x1 {
-            let part = walk::stretch(starts, members, y * columns + x);
-            found = visit_cell(mesh, part, marks, stamp, w, found);
-        }
-    }
-    found
 }

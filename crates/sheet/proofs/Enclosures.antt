@@ -1,4 +1,5 @@
 -- The flat end that encloses a curved one: it stands first in the list, and is nowhere above the curved end.
+use Rattle.std.specs.Prelude.{Option, None, Some}
 use mathlib.Core.Bool.{Bool, true, false, ◌||◌}
 use mathlib.Core.List.{List}
 use mathlib.Core.Path.{◌≡◌, refl, ap, sym, ◌∙◌}
@@ -20,7 +21,6 @@ use Rattle.tool.specs.Tool.{section_of}
 use Rattle.sheet.specs.declared.Shape.{Shape}
 use Rattle.sheet.specs.declared.Shape.TheVariants.{Flat, Ball, Bull, Drill, Chamfer, Beam}
 use Rattle.sheet.specs.declared.Sheet.{Sheet}
-use Rattle.sheet.specs.declared.Part.TheVariants.{There}
 use Rattle.sheet.specs.declared.Body.{Body}
 use Rattle.sheet.specs.Sheet.{cylinder_of, radius_of, enclosed_of, end_of, body_of, listed, sections_of, all_valid, is_absent, refusal_of, placed}
 use Rattle.sheet.specs.Enclosing.{least_corner, least_corner_is, is_corner, is_curved, Encloses}
@@ -97,7 +97,7 @@ enclosing r table fit v e = record {
 -- ---- where it stands
 
 curved_end : (shape : Shape) (enclose : Bool) (p : Sheet) → is_curved shape ≡ true → is_absent (end_of shape enclose p) ≡ false
-    → end_of shape enclose p ≡ There (cylinder_of f0 (radius_of p))
+    → end_of shape enclose p ≡ Some (cylinder_of f0 (radius_of p))
 unfolding is_curved is_absent end_of enclosed_of
 curved_end Flat enclose p c a = absurd (no c)
 curved_end Ball true p c a = refl
@@ -108,7 +108,7 @@ curved_end Drill enclose p c a = absurd (no c)
 curved_end Chamfer enclose p c a = absurd (no c)
 curved_end Beam enclose p c a = absurd (no c)
 
-module _ (b : Body) (hs : List Float) (c : Section) (e : b.end ≡ There c) where
+module _ (b : Body) (hs : List Float) (c : Section) (e : b.end ≡ Some c) where
   first_is : (table : List Float) → section_of (placed (sections_of b hs) 0 table) 0 ≡ c
   unfolding sections_of listed placed flat_of section_of
   first_is table = rw e
@@ -123,6 +123,6 @@ unfolding body_of
 accepted_encloses shape enclose neck p hs table b body z t f curved =
     let a = accepted p b hs (length table) z in
     let at : b.end ≡ end_of shape enclose p = ap (λ (q : Body). q.end) body in
-    let e : b.end ≡ There (cylinder_of f0 (radius_of p)) = at ∙ curved_end shape enclose p curved (ap is_absent (sym at) ∙ a.covered) in
+    let e : b.end ≡ Some (cylinder_of f0 (radius_of p)) = at ∙ curved_end shape enclose p curved (ap is_absent (sym at) ∙ a.covered) in
     enclosing (radius_of p) t (div-fits binary64 p.diameter f2) (first_valid b hs _ e a.valid) (ap (λ (l : List Float). section_of l 0) f
     ∙ first_is b hs _ e table)

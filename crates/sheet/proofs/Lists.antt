@@ -1,4 +1,5 @@
 -- Lists of sections: how long, all valid, and in a table one list behind the other.
+use Rattle.std.specs.Prelude.{Option, None, Some}
 use mathlib.Core.Bool.{Bool, true, false, ◌&&◌}
 use mathlib.Core.List.{List, [], ◌∷◌, ◌++◌, append_assoc, append-nil}
 use mathlib.Core.Path.{◌≡◌, refl, ap, sym, ◌∙◌}
@@ -12,8 +13,6 @@ use lib.Seq.{sets-eq, take_at, drop-append-add, drop-drop}
 use Rattle.section.specs.declared.Section.{Section}
 use Rattle.section.specs.Section.{valid_section}
 use Rattle.flatten.specs.Flat.{four, flat_of}
-use Rattle.sheet.specs.declared.Part.{Part}
-use Rattle.sheet.specs.declared.Part.TheVariants.{Absent, There}
 use Rattle.sheet.specs.declared.Body.{Body}
 use Rattle.sheet.specs.Sheet.{holder_at, holders_from, listed, sections_of, all_valid, placed}
 
@@ -40,7 +39,7 @@ and_true : (a : Bool) → (a && true) ≡ a
 and_true true = refl
 and_true false = refl
 
-pub valid_one : (q : Part) (s : Section) → q ≡ There s → valid_section s ≡ all_valid (listed q)
+pub valid_one : (q : Option Section) (s : Section) → q ≡ Some s → valid_section s ≡ all_valid (listed q)
 unfolding all_valid listed
 valid_one q s e = rw e (sym (and_true (valid_section s)))
 
@@ -128,15 +127,15 @@ module _ (fs : List Section) (at : ℕ) (table : List Float) (h : 4 * (at + leng
   placed_then bs k t u n p q = rw (n, p) at q ∙ placed_more bs
 
 -- a part's section, or none
-pub none_put : (q : Part) (at : ℕ) (table : List Float) → q ≡ Absent → (at ≡ at + length (listed q)) × (table ≡ placed (listed q) at table)
+pub none_put : (q : Option Section) (at : ℕ) (table : List Float) → q ≡ None → (at ≡ at + length (listed q)) × (table ≡ placed (listed q) at table)
 unfolding listed
 none_put q at table e = rw e (sym (add-zero at), placed_none at table)
 
-pub one_long : (q : Part) (s : Section) → q ≡ There s → length (listed q) ≡ 1
+pub one_long : (q : Option Section) (s : Section) → q ≡ Some s → length (listed q) ≡ 1
 unfolding listed
 one_long q s e = rw e
 
-pub one_put : (q : Part) (s : Section) (at : ℕ) (table t : List Float) → q ≡ There s → t ≡ placed (s ∷ []) at table
+pub one_put : (q : Option Section) (s : Section) (at : ℕ) (table t : List Float) → q ≡ Some s → t ≡ placed (s ∷ []) at table
     → (at + 1 ≡ at + length (listed q)) × (t ≡ placed (listed q) at table)
 unfolding listed
 one_put q s at table t e f = rw e (refl, f)

@@ -1,4 +1,5 @@
 -- What a sheet is answered, and that an accepted list is a tool for the section questions.
+use Rattle.std.specs.Prelude.{Option, None, Some}
 use mathlib.Core.Bool.{Bool, true, false, ◌&&◌}
 use mathlib.Core.List.{List, [], ◌∷◌}
 use mathlib.Core.Path.{◌≡◌, refl, ap, sym, ◌∙◌}
@@ -19,8 +20,6 @@ use Rattle.rules.proofs.Ladder.{demand_here, demand_next, refused_not, demanded}
 use Rattle.tool.specs.Tool.{section_of, is_tool}
 use Rattle.sheet.specs.declared.Shape.{Shape}
 use Rattle.sheet.specs.declared.Sheet.{Sheet}
-use Rattle.sheet.specs.declared.Part.{Part}
-use Rattle.sheet.specs.declared.Part.TheVariants.{Absent, There}
 use Rattle.sheet.specs.declared.Body.{Body}
 use Rattle.sheet.specs.Sheet.{body_of, holders_from, listed, sections_of, all_valid, is_absent, refusal_of_list, refusal_of_end, refusal_of, ended, placed, sheet_of}
 use Rattle.sheet.proofs.Lists.{flat_length, sections_length, sections_valid}
@@ -133,10 +132,10 @@ flat_tool ss h l v =
     let m : length (flat_of ss) % 4 ≡ 0 = omega (arith, flat_length ss) in
     rw (n, m, le-leb 1 (length ss) h, le-leb (length ss) 32 l) (every_all _ 0 (length ss) (λ i k. valid_at ss (0 + i) v (omega arith)))
 
-covered_one : (q : Part) → is_absent q ≡ false → 1 ≤ length (listed q)
+covered_one : (q : Option Section) → is_absent q ≡ false → 1 ≤ length (listed q)
 unfolding is_absent listed
-covered_one Absent e = absurd (no (sym e))
-covered_one (There s) e = omega arith
+covered_one None e = absurd (no (sym e))
+covered_one (Some s) e = omega arith
 
 pub accepted_tool : (p : Sheet) (b : Body) (hs table : List Float) → refusal_of p b hs (length table) ≡ 0
     → (n : ℕ) (t : List Float) → n ≡ length (sections_of b hs) → t ≡ placed (sections_of b hs) 0 table → is_tool (take (4 * n) t) ≡ true

@@ -1,6 +1,6 @@
 -- Document 02, request 8: a tool's sections straight from its sheet, in the order of the Rust's `sections_of`, as a flat table
 -- that the section questions accept.
-use Rattle.std.specs.Prelude.{Bool, true, false, cond, ◌&&◌, List, [], ◌∷◌, ◌++◌, ℕ, zero, suc, ◌+◌, ◌*◌, ◌/◌, ◌%◌, eqb, leb, Float, length, take, drop}
+use Rattle.std.specs.Prelude.{Bool, true, false, cond, ◌&&◌, List, [], ◌∷◌, ◌++◌, ℕ, zero, suc, ◌+◌, ◌*◌, ◌/◌, ◌%◌, eqb, leb, Float, length, take, drop, Option, None, Some, Result, Ok, Err}
 use Rattle.std.specs.Float.Ieee.{lt}
 use Rattle.numbers.specs.Reals.{◌⊕◌, ◌⊖◌, ◌⊘◌, num, f0, f2}
 use Rattle.fields.specs.Rows.{all_finite}
@@ -11,10 +11,9 @@ use Rattle.rules.specs.Ladder.{refuse, demand}
 use Rattle.sheet.specs.declared.Shape.{Shape}
 use Rattle.sheet.specs.declared.Shape.TheVariants.{Flat, Ball, Bull, Drill, Chamfer, Beam}
 use Rattle.sheet.specs.declared.Sheet.{Sheet}
-use Rattle.sheet.specs.declared.Part.{Part}
-use Rattle.sheet.specs.declared.Part.TheVariants.{Absent, There}
 use Rattle.sheet.specs.declared.Body.{Body}
-use Rattle.sheet.specs.declared.Listed.{Listed}
+use Rattle.refusals.specs.declared.Refusal.{Refusal}
+use Rattle.refusals.specs.Numbers.{number_of}
 
 -- The shapes' numbers, in this order.
 unfoldable pub shape_number : Shape → ℕ
@@ -46,8 +45,8 @@ abbrev pub radius_of : Sheet → Float
 radius_of p = p.diameter ⊘ f2
 
 -- A ball or bull end: the flat end of the same radius, which holds it, where that is asked for.
-unfoldable pub enclosed_of : Bool → Sheet → Part
-enclosed_of enclose p = cond enclose (There (cylinder_of f0 (radius_of p))) Absent
+unfoldable pub enclosed_of : Bool → Sheet → Option Section
+enclosed_of enclose p = cond enclose (Some (cylinder_of f0 (radius_of p))) None
 
 -- A chamfer's end: its tip is level, then it rises to the tip height at the full radius.
 unfoldable pub chamfer_of : Sheet → Section
@@ -61,22 +60,22 @@ unfoldable pub drill_of : Sheet → Section
 drill_of p = record { z0 = f0; r0 = f0; r1 = radius_of p; rise = p.tip_height ⊘ radius_of p }
 
 -- The end's section: none of a beam, or of a curved end without the enclosure.
-unfoldable pub end_of : Shape → Bool → Sheet → Part
-end_of Flat enclose p = There (cylinder_of f0 (radius_of p))
+unfoldable pub end_of : Shape → Bool → Sheet → Option Section
+end_of Flat enclose p = Some (cylinder_of f0 (radius_of p))
 end_of Ball enclose p = enclosed_of enclose p
 end_of Bull enclose p = enclosed_of enclose p
-end_of Drill enclose p = There (drill_of p)
-end_of Chamfer enclose p = There (chamfer_of p)
-end_of Beam enclose p = Absent
+end_of Drill enclose p = Some (drill_of p)
+end_of Chamfer enclose p = Some (chamfer_of p)
+end_of Beam enclose p = None
 
 -- A cylinder of the radius r at z0, where that lies below the stickout.
-unfoldable pub below_of : Float → Float → Float → Part
-below_of z0 r stickout = cond (lt z0 stickout) (There (cylinder_of z0 r)) Absent
+unfoldable pub below_of : Float → Float → Float → Option Section
+below_of z0 r stickout = cond (lt z0 stickout) (Some (cylinder_of z0 r)) None
 
 -- At the end of the neck, if there is one: cutting length + neck length.
-unfoldable pub neck_of : Bool → Sheet → Part
+unfoldable pub neck_of : Bool → Sheet → Option Section
 neck_of neck p =
-    cond neck (below_of (p.cutting_length ⊕ p.neck_length) p.above_neck p.stickout) Absent
+    cond neck (below_of (p.cutting_length ⊕ p.neck_length) p.above_neck p.stickout) None
 
 -- What stands below the holders: the end, then the cylinders at the ends of the cutting length and of the neck.
 unfoldable pub body_of : Shape → Bool → Bool → Sheet → Body
@@ -102,9 +101,9 @@ holders_from hs i zero = []
 holders_from hs i (suc n) = holder_at hs i ∷ holders_from hs (i + 1) n
 
 -- The section of a part, if there is one.
-unfoldable pub listed : Part → List Section
-listed Absent = []
-listed (There s) = s ∷ []
+unfoldable pub listed : Option Section → List Section
+listed None = []
+listed (Some s) = s ∷ []
 
 -- The list: the end, the cutting length, the neck, the holders.
 unfoldable pub sections_of : Body → List Float → List Section
@@ -123,9 +122,9 @@ unfoldable pub all_valid : List Section → Bool
 all_valid [] = true
 all_valid (s ∷ ss) = valid_section s && all_valid ss
 
-unfoldable pub is_absent : Part → Bool
-is_absent Absent = true
-is_absent (There s) = false
+unfoldable pub is_absent : Option Section → Bool
+is_absent None = true
+is_absent (Some s) = false
 
 -- 8: a section invalid or out of document 01's ranges, or more than 32. 25: the table shorter than four numbers a section.
 unfoldable pub refusal_of_list : List Section → ℕ → ℕ
@@ -141,6 +140,16 @@ refusal_of p b hs room =
     demand (eqb (length hs % 4) 0) 1 (demand (all_finite (numbers_of p)) 2 (demand (all_finite hs) 2 (refusal_of_end b hs room)))
 
 -- ---- the answer
+
+-- The refusal or 0, and how many sections there are: a refusal has a count of zero.
+pub record Listed : Type 0 where
+  pub refusal : ℕ
+  pub count : ℕ
+
+-- How an answer is told.
+unfoldable pub told : Result ℕ Refusal → Listed
+told (Ok n) = record { refusal = 0; count = n }
+told (Err r) = record { refusal = number_of r; count = 0 }
 
 -- The answer, and the lent table afterwards.
 pub record Outcome : Type 0 where

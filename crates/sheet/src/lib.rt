@@ -5,12 +5,14 @@
 
 ghost use Rattle.std.specs.Prelude.{◌≡◌, true, ◌&&◌, [], ◌∷◌, min, ◌+◌, ◌*◌, ◌/◌, ◌^◌, ◌≤◌, ◌<◌, length, take};
 ghost use Rattle.fields.specs.Rows.{all_finite};
+ghost use Rattle.refusals.specs.Numbers.{code_of};
 ghost use Rattle.tool.specs.Tool.{is_tool};
 ghost use Rattle.sheet.specs.Enclosing.{is_curved, Encloses};
 ghost use Rattle.sheet.specs.Sheet.{shape_number, shape_from, cylinder_of, radius_of, enclosed_of, chamfer_of, drill_of, end_of, below_of};
 ghost use Rattle.sheet.specs.Sheet.{neck_of, body_of, holder_of, holder_at, holders_from, listed, sections_of, numbers_of, all_valid};
-ghost use Rattle.sheet.specs.Sheet.{refusal_of_list, refusal_of_end, refusal_of, ended, placed, sheet_of};
+ghost use Rattle.sheet.specs.Sheet.{refusal_of_list, refusal_of_end, refusal_of, told, ended, placed, sheet_of};
 
+use refusals::Refusal;
 use section::Section;
 
 // The shapes of a cutter's end.
@@ -38,26 +40,12 @@ pub struct Sheet {
     pub above_neck: f64,
 }
 
-// A place of the list: no section or one.
-#[derive(Clone, Copy)]
-pub enum Part {
-    Absent,
-    There(Section),
-}
-
 // What stands below the holders.
 #[derive(Clone, Copy)]
 pub struct Body {
-    pub end: Part,
-    pub cut: Part,
-    pub neck: Part,
-}
-
-// The answer: a refusal has a count of zero.
-#[derive(Clone, Copy)]
-pub struct Listed {
-    pub refusal: u32,
-    pub count: u32,
+    pub end: Option<Section>,
+    pub cut: Option<Section>,
+    pub neck: Option<Section>,
 }
 
 // Puts the sections of a tool into a lent table of four numbers each, at most 32; entries beyond those stay unchanged.
@@ -68,24 +56,15 @@ pub fn sections_of(
     p: Sheet,
     holders: &[f64],
     sections: &mut [f64],
-) -> Listed
-    ensures sections_after { ended result sections.new ≡ sheet_of shape enclose neck p holders.now sections.old }
-    ensures sections_after_2 { result.refusal ≡ 0 → is_tool (take (4 * result.count) sections.new) ≡ true }
-    ensures encloses { result.refusal ≡ 0 → is_curved shape ≡ true → Encloses (radius_of p) sections.new }
+) -> Result<u32, Refusal>
+    ensures sections_after { ended (told result) sections.new ≡ sheet_of shape enclose neck p holders.now sections.old }
+    ensures sections_after_2 { (told result).refusal ≡ 0 → is_tool (take (4 * (told result).count) sections.new) ≡ true }
+    ensures encloses { (told result).refusal ≡ 0 → is_curved shape ≡ true → Encloses (radius_of p) sections.new }
 {
     let b = body_of(shape, enclose, neck, p);
-    let k = refusal(p, b, holders, sections.len());
-    if k != 0 {
-        return Listed {
-            refusal: k,
-            count: 0,
-        };
-    }
+    refusal(p, b, holders, sections.len())?;
     let n = put_all(b, holders, sections);
-    Listed {
-        refusal: 0,
-        count: n as u32,
-    }
+    Ok(n as u32)
 }
 
 // The shape of a number.
@@ -114,27 +93,29 @@ fn body_of(shape: Shape, enclose: bool, neck: bool, p: Sheet) -> Body
 }
 
 // The end's section, if one covers it.
-fn end_of(shape: Shape, enclose: bool, p: Sheet) -> Part
+#[tactic(auto, unfolding(crate::specs::Sheet::end_of))]
+fn end_of(shape: Shape, enclose: bool, p: Sheet) -> Option<Section>
     ensures { result ≡ end_of shape enclose p }
 {
     match shape {
-        Shape::Flat => Part::There(cylinder(0.0, p.diameter / 2.0)),
+        Shape::Flat => Some(cylinder(0.0, p.diameter / 2.0)),
         Shape::Ball => enclosed(enclose, p),
         Shape::Bull => enclosed(enclose, p),
-        Shape::Drill => Part::There(drill(p)),
-        Shape::Chamfer => Part::There(chamfer(p)),
-        Shape::Beam => Part::Absent,
+        Shape::Drill => Some(drill(p)),
+        Shape::Chamfer => Some(chamfer(p)),
+        Shape::Beam => None,
     }
 }
 
 // The flat end that holds a curved one, where it is asked for.
-fn enclosed(enclose: bool, p: Sheet) -> Part
+#[tactic(auto, unfolding(crate::specs::Sheet::enclosed_of))]
+fn enclosed(enclose: bool, p: Sheet) -> Option<Section>
     ensures { result ≡ enclosed_of enclose p }
 {
     if enclose {
-        return Part::There(cylinder(0.0, p.diameter / 2.0));
+        return Some(cylinder(0.0, p.diameter / 2.0));
     }
-    Part::Absent
+    None
 }
 
 // A drill's end.
@@ -177,23 +158,25 @@ fn cylinder(z0: f64, r: f64) -> Section
 }
 
 // A cylinder at z0, where that lies below the stickout.
-fn below(z0: f64, r: f64, stickout: f64) -> Part
+#[tactic(auto, unfolding(crate::specs::Sheet::below_of))]
+fn below(z0: f64, r: f64, stickout: f64) -> Option<Section>
     ensures { result ≡ below_of z0 r stickout }
 {
     if z0 < stickout {
-        return Part::There(cylinder(z0, r));
+        return Some(cylinder(z0, r));
     }
-    Part::Absent
+    None
 }
 
 // The cylinder at the neck's end, if there is a neck.
-fn neck_of(neck: bool, p: Sheet) -> Part
+#[tactic(auto, unfolding(crate::specs::Sheet::neck_of))]
+fn neck_of(neck: bool, p: Sheet) -> Option<Section>
     ensures { result ≡ neck_of neck p }
 {
     if neck {
         return below(p.cutting_length + p.neck_length, p.above_neck, p.stickout);
     }
-    Part::Absent
+    None
 }
 
 // A holder, widening or not.
@@ -221,50 +204,51 @@ fn holder_at(holders: &[f64], i: usize) -> Section
 }
 
 // 1 and 2, else what the end decides.
-fn refusal(p: Sheet, b: Body, holders: &[f64], room: usize) -> u32
-    ensures { result ≡ refusal_of p b holders.now room }
+#[tactic(auto, using(rules::proofs::Ladder::ladder), unfolding(crate::specs::Sheet::refusal_of, refusals::specs::Numbers::code_of, refusals::specs::Numbers::number_of))]
+fn refusal(p: Sheet, b: Body, holders: &[f64], room: usize) -> Result<(), Refusal>
+    ensures { code_of result ≡ refusal_of p b holders.now room }
 {
     if holders.len() % 4 != 0 {
-        return 1;
+        return Err(Refusal::Length);
     }
     if !sheet_finite(p) {
-        return 2;
+        return Err(Refusal::Number);
     }
     if !fields::all_finite(holders) {
-        return 2;
+        return Err(Refusal::Number);
     }
     refusal_of_end(b, holders, room)
 }
 
 // 24, else what the list decides.
-fn refusal_of_end(b: Body, holders: &[f64], room: usize) -> u32
-    ensures { result ≡ refusal_of_end b holders.now room }
+#[tactic(auto, using(rules::proofs::Ladder::ladder), unfolding(crate::specs::Sheet::refusal_of_end, crate::specs::Sheet::is_absent, refusals::specs::Numbers::code_of, refusals::specs::Numbers::number_of))]
+fn refusal_of_end(b: Body, holders: &[f64], room: usize) -> Result<(), Refusal>
+    ensures { code_of result ≡ refusal_of_end b holders.now room }
 {
-    let end = b.end;
-    match end {
-        Part::Absent => 24,
-        Part::There(_) => refusal_of_list(b, holders, room),
+    match b.end {
+        None => Err(Refusal::Shape),
+        Some(_) => refusal_of_list(b, holders, room),
     }
 }
 
-// 8 and 25, or 0 for a sheet that is accepted.
-fn refusal_of_list(b: Body, holders: &[f64], room: usize) -> u32
-    ensures { result ≡ refusal_of_list (sections_of b holders.now) room }
+// 8 and 25.
+fn refusal_of_list(b: Body, holders: &[f64], room: usize) -> Result<(), Refusal>
+    ensures { code_of result ≡ refusal_of_list (sections_of b holders.now) room }
 {
     let n = count(b, holders.len() / 4);
     if n > 32 {
-        return 8;
+        return Err(Refusal::Tool);
     }
     if !valid_body(b) {
-        return 8;
+        return Err(Refusal::Tool);
     }
     if !valid_holders(holders) {
-        return 8;
+        return Err(Refusal::Tool);
     }
     if 4 * n > room {
-        return 25;
+        return Err(Refusal::Sections);
     }
-    0
+    Ok(())
 }
 
 // Whether every number of a sheet is finite.
@@ -296,12 +280,13 @@ fn count(b: Body, n: usize) -> usize
 }
 
 // How many sections a part has.
-fn one(part: Part) -> usize
+#[tactic(auto, unfolding(crate::specs::Sheet::listed))]
+fn one(part: Option<Section>) -> usize
     ensures { (result ≡ length (listed part)) × (result ≤ 1) }
 {
     match part {
-        Part::Absent => 0,
-        Part::There(_) => 1,
+        None => 0,
+        Some(_) => 1,
     }
 }
 
@@ -316,12 +301,13 @@ fn valid_body(b: Body) -> bool
 }
 
 // Whether a part has no section that is invalid.
-fn valid_part(part: Part) -> bool
+#[tactic(auto, unfolding(crate::specs::Sheet::listed, crate::specs::Sheet::all_valid))]
+fn valid_part(part: Option<Section>) -> bool
     ensures { result ≡ all_valid (listed part) }
 {
     match part {
-        Part::Absent => true,
-        Part::There(s) => section::valid(s),
+        None => true,
+        Some(s) => section::valid(s),
     }
 }
 
@@ -330,6 +316,7 @@ fn valid_holders(holders: &[f64]) -> bool
     ensures { result ≡ all_valid (holders_from holders.now 0 (length holders.now / 4)) }
 {
     let n = holders.len() / 4;
+    // by index: a holder is four numbers of the table, which `holder_at` reads by its place
     for i in 0..n {
         if !section::valid(holder_at(holders, i)) {
             return false;
@@ -354,13 +341,13 @@ fn put_all(b: Body, holders: &[f64], sections: &mut [f64]) -> usize
 }
 
 // Writes a part's section as section `at` of the table, and answers where the next one goes.
-fn put(part: Part, at: usize, sections: &mut [f64]) -> usize
+fn put(part: Option<Section>, at: usize, sections: &mut [f64]) -> usize
     requires { 4 * (at + length (listed part)) ≤ length sections.old }
     ensures { (result ≡ at + length (listed part)) × (sections.new ≡ placed (listed part) at sections.old) }
 {
     match part {
-        Part::Absent => at,
-        Part::There(s) => {
+        None => at,
+        Some(s) => {
             store(s, at, sections);
             at + 1
         }
@@ -374,6 +361,7 @@ fn put_holders(holders: &[f64], at: usize, sections: &mut [f64]) -> usize
         × (sections.new ≡ placed (holders_from holders.now 0 (length holders.now / 4)) at sections.old) }
 {
     let n = holders.len() / 4;
+    // by index: holder i stands in the list at a place of its own
     for i in 0..n {
         store(holder_at(holders, i), at + i, sections);
     }

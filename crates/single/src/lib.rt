@@ -18,6 +18,7 @@ pub fn widened(bits: u32) -> f64
 }
 
 // Whether the exponent is not all ones.
+#[tactic(auto, using(crate::proofs::Value::bits_finite))]
 pub fn is_finite(bits: u32) -> bool
     ensures { result ≡ finite (value_of bits) }
 {

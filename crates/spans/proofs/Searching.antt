@@ -1,32 +1,24 @@
--- The search for a number that is no coordinate: what is left of the mesh is searched as the whole is.
-use Rattle.std.proofs.Common.{◌≡◌, ℕ, zero, suc, ◌+◌, ◌<◌, Bool, true, false, List, [], ◌∷◌, length, drop, refl, ◌∙◌, add-one, arith, drop-cons}
-use lib.Seq.{drop-length}
-use lib.Ieee.{Float, nan}
+-- The search for a number that is no coordinate.
+use Rattle.std.specs.Prelude.{Option, None, Some, not}
+use Rattle.std.specs.List.{position_from}
+use Rattle.std.proofs.lemmas.Iterator.Adapters.{position_from-zero}
+use Rattle.std.proofs.Common.{◌≡◌, ℕ, zero, suc, ◌+◌, ◌<◌, Bool, true, false, List, [], ◌∷◌, length, refl, sym, ◌∙◌, arith}
+use lib.Ieee.{Float}
 use Rattle.numbers.specs.Reals.{num}
 use Rattle.plane.specs.Ranges.{is_coordinate}
-use Rattle.spans.specs.Mesh.{bad_from, first_bad}
-use Rattle.spans.specs.declared.Place.TheVariants.{Nowhere, At}
+use Rattle.rules.proofs.Branches.{by_test}
+use Rattle.spans.specs.Mesh.{first_bad}
 
-module _ (mesh : List Float) where
-  pub search_begins : bad_from 0 (drop 0 mesh) ≡ first_bad mesh
-  unfolding first_bad
-  search_begins = refl
+-- the same, place by place: of the numbers from place k on, where the first stands that is no coordinate
+unfoldable pub bad_from : ℕ → List Float → Option ℕ
+bad_from k xs = position_from (λ x. not (is_coordinate x)) k xs
 
-  module _ (k : ℕ) (h : bad_from k (drop k mesh) ≡ first_bad mesh) where
-    pub search_finds : k < length mesh → is_coordinate (num mesh k) ≡ false → At k ≡ first_bad mesh
-    unfolding bad_from
-    search_finds l e = (rw (drop-cons mesh k nan l, e) refl) ∙ h
-
-    pub search_goes : k < length mesh → is_coordinate (num mesh k) ≡ true → bad_from (k + 1) (drop (k + 1) mesh) ≡ first_bad mesh
-    unfolding bad_from
-    search_goes l e = (rw (drop-cons mesh k nan l, e, add-one k) refl) ∙ h
-
-    pub search_ends : k ≡ length mesh → Nowhere ≡ first_bad mesh
-    unfolding bad_from
-    search_ends e = (rw (e, drop-length mesh) refl) ∙ h
+pub bad_is : (mesh : List Float) → first_bad mesh ≡ bad_from 0 mesh
+unfolding first_bad bad_from
+bad_is mesh = position_from-zero _ mesh
 
 -- ---- where nothing was found every number is a coordinate
-from_good : (j : ℕ) (xs : List Float) → bad_from j xs ≡ Nowhere → (k : ℕ) → k < length xs → is_coordinate (num xs k) ≡ true
+from_good : (j : ℕ) (xs : List Float) → bad_from j xs ≡ None → (k : ℕ) → k < length xs → is_coordinate (num xs k) ≡ true
 unfolding bad_from
 from_good j [] e k h = absurd (omega arith)
 from_good j (x ∷ xs) e k h = go (is_coordinate x) refl (λ p. from_good (j + 1) xs ((rw p) ∙ e)) k h
@@ -35,8 +27,7 @@ from_good j (x ∷ xs) e k h = go (is_coordinate x) refl (λ p. from_good (j + 1
         → is_coordinate (num (x ∷ xs) k) ≡ true
     go true p f zero l = p
     go true p f (suc k) l = f p k (omega arith)
-    go false p f k l = let z : At j ≡ Nowhere = (rw p) ∙ e in let y : ◌≡◌ {A = ℕ} 0 1 = cc in absurd (omega arith)
+    go false p f k l = let z : Some j ≡ None = (rw p) ∙ e in let y : ◌≡◌ {A = ℕ} 0 1 = cc in absurd (omega arith)
 
-pub all_good : (mesh : List Float) → first_bad mesh ≡ Nowhere → (k : ℕ) → k < length mesh → is_coordinate (num mesh k) ≡ true
-unfolding first_bad
-all_good mesh e = from_good 0 mesh e
+pub all_good : (mesh : List Float) → first_bad mesh ≡ None → (k : ℕ) → k < length mesh → is_coordinate (num mesh k) ≡ true
+all_good mesh e = from_good 0 mesh (sym (bad_is mesh) ∙ e)

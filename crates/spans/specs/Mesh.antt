@@ -1,5 +1,5 @@
 -- Document 01, "Mesh, grid and marks": the first number that a mesh may not hold, where it lies, and its eps.
-use Rattle.std.specs.Prelude.{ℕ, zero, suc, ◌+◌, true, false, cond, List, [], ◌∷◌, Float}
+use Rattle.std.specs.Prelude.{ℕ, zero, suc, ◌+◌, true, false, cond, List, [], ◌∷◌, Float, Option, not, position}
 use Rattle.std.specs.Float.{inf}
 use Rattle.plane.specs.Ranges.{is_coordinate}
 use Rattle.numbers.specs.Reals.{◌⊗◌, f0, f1, slack, max_of, min_of, abs_of}
@@ -7,17 +7,10 @@ use Rattle.plane.specs.Mesh.{triangle_of, bounds_of}
 use Rattle.plane.specs.declared.Triangle.{Triangle}
 use Rattle.plane.specs.declared.Bounds.{Bounds}
 use Rattle.spans.specs.declared.Extent.{Extent}
-use Rattle.spans.specs.declared.Place.{Place}
-use Rattle.spans.specs.declared.Place.TheVariants.{Nowhere, At}
-
--- Of the numbers from place k on: where the first stands that is no coordinate.
-unfoldable pub bad_from : ℕ → List Float → Place
-bad_from k [] = Nowhere
-bad_from k (x ∷ xs) = cond (is_coordinate x) (bad_from (k + 1) xs) (At k)
 
 -- Refusal 4: the first number of a mesh that is no coordinate, or none.
-unfoldable pub first_bad : List Float → Place
-first_bad mesh = bad_from 0 mesh
+unfoldable pub first_bad : List Float → Option ℕ
+first_bad mesh = position (λ x. not (is_coordinate x)) mesh
 
 -- The box of triangle i.
 unfoldable pub box_of : List Float → ℕ → Bounds

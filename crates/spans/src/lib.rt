@@ -13,13 +13,6 @@ ghost use Rattle.numbers.specs.Rounding.{truncated};
 // 2^52: from there on to 2^53 a float has no fraction.
 const SHIFT: f64 = 4503599627370496.0;
 
-// A place in a mesh, or none.
-#[derive(Clone, Copy)]
-pub enum Place {
-    Nowhere,
-    At(usize),
-}
-
 // The extremes of triangles: their x lie from left to right, their y from bottom to top.
 #[derive(Clone, Copy)]
 pub struct Extent {
@@ -37,17 +30,11 @@ pub struct Stretch {
 }
 
 // The first number that is no coordinate.
-pub fn first_bad(mesh: &[f64]) -> Place
+#[tactic(auto, unfolding(crate::specs::Mesh::first_bad))]
+pub fn first_bad(mesh: &[f64]) -> Option<usize>
     ensures { result ≡ first_bad mesh.now }
 {
-    let mut k = 0;
-    while k < mesh.len() {
-        if !plane::is_coordinate(mesh[k]) {
-            return Place::At(k);
-        }
-        k += 1;
-    }
-    Place::Nowhere
+    mesh.iter().position(|x| !plane::is_coordinate(*x))
 }
 
 // The smaller of two numbers, the first of which is no NaN.
@@ -130,6 +117,7 @@ pub fn extent_of(mesh: &[f64], n: usize) -> Extent
         right: -1.0 / 0.0,
         top: -1.0 / 0.0,
     };
+    // by index: triangle i is nine numbers of the mesh
     for i in 0..n {
         e = widen(e, box_of(mesh, i));
     }
@@ -169,6 +157,7 @@ fn scale(mesh: &[f64], n: usize) -> f64
     ensures { result ≡ scale_of mesh.now n }
 {
     let mut s = 1.0;
+    // by index: triangle i is nine numbers of the mesh
     for i in 0..n {
         s = numbers::max(s, farthest(plane::triangle_at(mesh, i)));
     }

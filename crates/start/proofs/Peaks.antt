@@ -1,4 +1,5 @@
 -- The contact of a triangle whose corners are low is not above `from`: no candidate of it is.
+use Rattle.std.specs.Prelude.{None, Option, Some}
 use mathlib.Core.Bool.{Bool, true, false, cond, ◌&&◌}
 use mathlib.Core.List.{List, [], ◌∷◌, ◌++◌}
 use mathlib.Core.Path.{◌≡◌, refl, sym, subst}
@@ -12,10 +13,8 @@ use Rattle.order.proofs.Ranges.{finite_between}
 use Rattle.order.proofs.Extremes.{not_below_lem}
 use Rattle.plane.specs.declared.Touch.{Touch}
 use Rattle.plane.specs.declared.Triangle.{Triangle}
-use Rattle.plane.specs.declared.Spot.TheVariants.{Nowhere, At}
 use Rattle.plane.specs.declared.Contact.{Contact}
-use Rattle.plane.specs.declared.Contact.TheVariants.{Nothing, Height}
-use Rattle.plane.specs.Contacts.{exceeds_of, take_of}
+use Rattle.plane.specs.Contacts.{exceeds_of, take_of, at_height}
 use Rattle.plane.specs.Distance.{bary_of, at_least}
 use Rattle.capsule.specs.declared.Capsule.{Capsule}
 use Rattle.capsule.specs.declared.Place.{Place}
@@ -29,9 +28,9 @@ use Rattle.tops.proofs.Weights.{S, I}
 use Rattle.tops.proofs.Tops.{deep, first, last, step, corner_under, edge_under, facet_under}
 
 -- ---- a contact, a list of points that are not above a height
-pub data Topped (f : Float) : Contact → Type 0 where
-  none : Topped f Nothing
-  met : (z : Float) (t : Touch) → T (le z f) → Topped f (Height z t)
+pub data Topped (f : Float) : Option Contact → Type 0 where
+  none : Topped f None
+  met : (z : Float) (t : Touch) → T (le z f) → Topped f (at_height z t)
 
 data All (f : Float) : List Point → Type 0 where
   nil : All f []
@@ -51,12 +50,12 @@ module _ (f : Float) where
   all_if b xs a = either (All f) b xs [] a (λ e. nil)
 
   -- what they make of a contact
-  taken : (c : Contact) (z : Float) (t : Touch) → Topped f c → T (le z f) → Topped f (take_of c z t)
+  taken : (c : Option Contact) (z : Float) (t : Touch) → Topped f c → T (le z f) → Topped f (take_of c z t)
   unfolding take_of
-  taken Nothing z t a l = met z t l
-  taken (Height b s) z t a l = either (Topped f) (exceeds_of z b) (Height z t) (Height b s) (λ e. met z t l) (λ e. a)
+  taken None z t a l = met z t l
+  taken (Some m) z t a l = either (Topped f) (exceeds_of z m.height) (at_height z t) (at_height m.height m.touch) (λ e. met z t l) (λ e. a)
 
-  offered : (k : Capsule) (vs : List Point) (c : Contact) → Topped f c → All f vs → Topped f (offered_all k c vs)
+  offered : (k : Capsule) (vs : List Point) (c : Option Contact) → Topped f c → All f vs → Topped f (offered_all k c vs)
   unfolding offered_all offer_of
   offered k [] c a l = a
   offered k (v ∷ vs) c a (cons _ _ l m) =
@@ -147,7 +146,7 @@ module _ (f : Float) (A : T (le first f)) (B : T (le f last)) (t : Triangle) (h 
       (all_append f _ _ (crossed_all f k _ (λ s l m. edge_under f A B t.bz t.cz s b_low.0 b_low.1 c_low.0 c_low.1 l m))
       (all_append f _ _ (crossed_all f k _ (λ s l m. edge_under f A B t.cz t.az s c_low.0 c_low.1 a_low.0 a_low.1 l m)) nil))
 
-  weighed_all : (p : Place) (v w : Float) → All f (raised t p (At (record { u = f1 ⊖ v ⊖ w; v = v; w = w })))
+  weighed_all : (p : Place) (v w : Float) → All f (raised t p (Some (record { u = f1 ⊖ v ⊖ w; v = v; w = w })))
   unfolding raised point_over at_least
   weighed_all p v w =
       all_if f _ _
@@ -170,12 +169,12 @@ module _ (f : Float) (A : T (le first f)) (B : T (le f last)) (t : Triangle) (h 
       let det = bx ⊗ cy ⊖ cx ⊗ by in
       let l1 = (dx ⊗ cy ⊖ cx ⊗ dy) ⊘ det in
       let l2 = (bx ⊗ dy ⊖ dx ⊗ by) ⊘ det in
-      either (λ s. All f (raised t p s)) (lt (abs_of det) tiny) Nowhere (At (record { u = f1 ⊖ l1 ⊖ l2; v = l1; w = l2 })) (λ e. unfold raised in nil)
+      either (λ s. All f (raised t p s)) (lt (abs_of det) tiny) None (Some (record { u = f1 ⊖ l1 ⊖ l2; v = l1; w = l2 })) (λ e. unfold raised in nil)
       (λ e. weighed_all p l1 l2)
 
   pub peak : (k : Capsule) → Topped f (highest_in k t)
   unfolding highest_in candidates inner
   peak k =
-      offered f k (candidates k t) Nothing none
+      offered f k (candidates k t) None none
       (all_append f _ _ corners_all (all_append f _ _ (edges_all k)
       (all_if f (lt tiny (abs_of (determinant_of t))) _ (λ o. all_each f (plane_over t) over_all (places k (rise_of t k.r))))))

@@ -1,4 +1,5 @@
 -- A walk that begins at `from` and one that begins lower end at the same height, or both at most at `from`: what only one of them leaves out is not above it.
+use Rattle.std.specs.Prelude.{None, Option, Some}
 use mathlib.Core.Bool.{true, false}
 use mathlib.Core.List.{List, [], ◌∷◌}
 use mathlib.Core.Logic.{◌⊎◌, inl, inr, ⊎_elim}
@@ -16,8 +17,7 @@ use Rattle.order.proofs.Extremes.{le_self, not_below_lem}
 use Rattle.order.proofs.Order.{le_trans}
 use Rattle.plane.specs.declared.Touch.{Touch}
 use Rattle.plane.specs.declared.Contact.{Contact}
-use Rattle.plane.specs.declared.Contact.TheVariants.{Nothing, Height}
-use Rattle.plane.specs.Contacts.{exceeds_of, raised_to, raised_by}
+use Rattle.plane.specs.Contacts.{exceeds_of, raised_to, raised_by, at_height}
 use Rattle.plane.specs.Mesh.{triangle_of}
 use Rattle.capsule.specs.declared.Capsule.{Capsule}
 use Rattle.plane.specs.declared.Best.{Best}
@@ -76,14 +76,14 @@ module _ (mesh boxes : List Float) (q : Capsule) (from : Float) (F : T (le lowes
   abbrev Agree : Best → Best → Type 0
   Agree b c = (b ≡ c) ⊎ ((le b.height from ≡ true) × (le c.height from ≡ true))
 
-  raised_low : (k : Contact) (i : ℕ) (b : Best) → Topped from k → le b.height from ≡ true → le (raised_by k i b).height from ≡ true
+  raised_low : (k : Option Contact) (i : ℕ) (b : Best) → Topped from k → le b.height from ≡ true → le (raised_by k i b).height from ≡ true
   unfolding raised_by raised_to
-  raised_low Nothing i b t l = l
-  raised_low (Height z s) i b (met _ _ m) l =
-      either (λ (v : Best). le v.height from ≡ true) (exceeds_of z b.height) (record { height = z; triangle = i; kind = s.kind; which = s.which }) b
+  raised_low None i b t l = l
+  raised_low (Some n) i b (met _ _ m) l =
+      either (λ (v : Best). le v.height from ≡ true) (exceeds_of n.height b.height) (record { height = n.height; triangle = i; kind = n.touch.kind; which = n.touch.which }) b
       (λ e. is_true _ m) (λ e. l)
 
-  stays : (z : Float) (s : Touch) (i : ℕ) (b : Best) → le b.height from ≡ true → lt from z ≡ false → le (raised_by (Height z s) i b).height from ≡ true
+  stays : (z : Float) (s : Touch) (i : ℕ) (b : Best) → le b.height from ≡ true → lt from z ≡ false → le (raised_by (at_height z s) i b).height from ≡ true
   unfolding raised_by raised_to exceeds_of
   stays z s i b l e =
       by_test (lt b.height z)
@@ -91,17 +91,17 @@ module _ (mesh boxes : List Float) (q : Capsule) (from : Float) (F : T (le lowes
       (λ g. rw ((le_numbers b.height from l).0, g) l)
 
   rises : (z : Float) (s : Touch) (i : ℕ) (b : Best) → le b.height from ≡ true → lt from z ≡ true
-      → raised_by (Height z s) i b ≡ record { height = z; triangle = i; kind = s.kind; which = s.which }
+      → raised_by (at_height z s) i b ≡ record { height = z; triangle = i; kind = s.kind; which = s.which }
   unfolding raised_by raised_to exceeds_of
   rises z s i b l e = rw ((le_numbers b.height from l).0, le_lt b.height from z l e)
 
   -- not above `from`, or above both
-  raised_agree : (k : Contact) (i : ℕ) (b c : Best) → le b.height from ≡ true → le c.height from ≡ true → Agree (raised_by k i b) (raised_by k i c)
-  raised_agree Nothing i b c l m = inr (unfold raised_by in (l, m))
-  raised_agree (Height z s) i b c l m =
-      by_test (lt from z)
-      (λ e. inl (rises z s i b l e ∙ sym (rises z s i c m e)))
-      (λ e. inr (stays z s i b l e, stays z s i c m e))
+  raised_agree : (k : Option Contact) (i : ℕ) (b c : Best) → le b.height from ≡ true → le c.height from ≡ true → Agree (raised_by k i b) (raised_by k i c)
+  raised_agree None i b c l m = inr (unfold raised_by in (l, m))
+  raised_agree (Some n) i b c l m =
+      by_test (lt from n.height)
+      (λ e. inl (rises n.height n.touch i b l e ∙ sym (rises n.height n.touch i c m e)))
+      (λ e. inr (stays n.height n.touch i b l e, stays n.height n.touch i c m e))
 
   topped : (i : ℕ) → lies_low (from ⊖ margin) (triangle_of mesh i) ≡ true → Topped from (height_of mesh q i)
   unfolding height_of of_bits

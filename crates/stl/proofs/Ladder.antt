@@ -1,21 +1,17 @@
--- A file gets no refusal exactly where it is sound, and 19 only behind a whole head.
+-- A file gets no refusal exactly where it is sound.
 use mathlib.Core.List.{List}
 use mathlib.Core.Path.{◌≡◌, refl, sym}
-use Prim.Native.Nat.{ℕ, zero, suc, ◌+◌, ◌*◌, ◌≤◌}
+use Prim.Native.Nat.{ℕ, zero, suc, ◌≤◌}
 use native.Mathlib.Nat.{zero-add}
 use native.Mathlib.Omega.{arith}
-use borrow.Author.Tests.{eqb-false, le-ltb, ltb-false, ne_eqb}
+use borrow.Author.Tests.{eqb-false, le-ltb, ne_eqb}
 use lib.Dec.{lit<}
 use lib.ListN.{length}
-use Rattle.fields.specs.declared.Shape.{Shape}
-use Rattle.fields.specs.declared.Length.{Length}
-use Rattle.fields.specs.declared.Length.TheVariants.{Exact}
 use Rattle.fields.specs.Little.{value}
-use Rattle.fields.specs.Length.{length_rule, refuse_length}
-use Rattle.rules.proofs.Ladder.{refuse_next, refused_not, refused_later}
+use Rattle.rules.proofs.Ladder.{refuse_next, refused_not}
 use Rattle.fields.proofs.Room.{room_for, room_enough}
-use Rattle.fields.proofs.Lengths.{exact_only, exact_length, rung_exact}
-use Rattle.stl.specs.Layout.{count, shape}
+use Rattle.fields.proofs.Lengths.{exact_only, rung_exact}
+use Rattle.stl.specs.Layout.{count}
 use Rattle.stl.specs.Reader.{refusal_of_numbers, refusal_of_length, refusal_of_count, refusal_of, shape_of, Sound}
 use Rattle.stl.proofs.Numbers.{clean, good}
 
@@ -23,20 +19,7 @@ positive : (n : ℕ) → (n ≡ 0 → ⊥) → 1 ≤ n
 positive zero h = absurd (h refl)
 positive (suc n) h = omega arith
 
--- the rule asked of a shape that was made
-pub ruled : (s t : Shape) (l : ℕ) (r : Length) → s ≡ t → r ≡ length_rule s l → r ≡ length_rule t l
-ruled s t l r p e = rw p at e
-
 module _ (bytes : List ℕ) where
-  module _ (n : ℕ) where
-    -- the rung of the length, from what the rule answered
-    pub rung : (r : Length) (k : ℕ) → r ≡ length_rule (shape n) (length bytes) → k ≡ refuse_length r (refusal_of_numbers bytes n) → k ≡ refusal_of_length bytes n
-    unfolding refusal_of_length
-    rung r k e p = rw (← e) p
-
-    pub exact_bytes : Exact ≡ length_rule (shape n) (length bytes) → length bytes ≡ 84 + 50 * n
-    exact_bytes e = omega (arith, exact_length (shape n) (length bytes) e)
-
   module _ (room : ℕ) where
     -- a file that passes every rung is sound
     pub sound : refusal_of bytes room ≡ 0 → Sound bytes room
@@ -63,7 +46,3 @@ module _ (bytes : List ℕ) where
         (refuse_next _ 18 _ 0 (room_enough _ _ s.few.0 s.few.1)
         (rung_exact (shape_of bytes) (length bytes) _ 0 (omega (arith, s.whole))
         (refuse_next _ 20 _ 0 (sym (good bytes 0 _ (λ k l. rw zero-add (s.finite_all k l)))) refl))))
-
-    pub behind_head : refusal_of bytes room ≡ 19 → 84 ≤ length bytes
-    unfolding refusal_of
-    behind_head e = ltb-false (length bytes) 84 (refused_later _ 14 _ 19 (lit< tt) e).0

@@ -1,5 +1,5 @@
 -- Document 02, request 3: which STL files are refused, and what reading one answers and leaves in the lent mesh.
-use Rattle.std.specs.Prelude.{Bool, true, cond, List, ◌++◌, ◌≡◌, ℕ, ◌+◌, ◌*◌, ◌/◌, ◌%◌, ◌≤◌, ◌<◌, eqb, ltb, Float, length, drop}
+use Rattle.std.specs.Prelude.{Bool, true, cond, List, ◌++◌, ◌≡◌, ℕ, ◌+◌, ◌*◌, ◌/◌, ◌%◌, ◌≤◌, ◌<◌, eqb, ltb, Float, length, drop, Result, Ok, Err}
 use Rattle.fields.specs.declared.Shape.{Shape}
 use Rattle.fields.specs.Little.{value}
 use Rattle.fields.specs.Rows.{finite, row, first_bad, somewhere}
@@ -10,7 +10,8 @@ use Rattle.fields.specs.Length.{length_rule, refuse_length, whole_in}
 use Rattle.fields.specs.Copies.{ToldApart}
 use Rattle.single.specs.Single.{value_of}
 use Rattle.stl.specs.Layout.{count, vertex_number, shape}
-use Rattle.stl.specs.declared.Read.{Read}
+use Rattle.refusals.specs.Numbers as refusals
+use Rattle.refusals.specs.declared.Refusal.{Refusal}
 
 -- Number k of the mesh is number k % 9 of triangle k / 9: the value of its bits.
 unfoldable pub number_of : List ℕ → ℕ → Float
@@ -43,6 +44,15 @@ refusal_of bytes room = refuse (ltb (length bytes) 84) 14 (refusal_of_count byte
 
 -- ---- reading
 
+-- The answer by its numbers: a refusal, or 0, and the triangles read; after 19 those that stand whole before the cut, else none.
+pub record Read : Type 0 where
+  pub refusal : ℕ
+  pub n : ℕ
+
+abbrev pub told : Result ℕ Refusal → Read
+told (Ok n) = record { refusal = 0; n = n }
+told (Err r) = record { refusal = refusals.number_of r; n = refusals.told_of r }
+
 -- the answer, and the lent mesh afterwards
 pub record Outcome : Type 0 where
   pub answer : Read
@@ -55,7 +65,11 @@ ended a ms = record { answer = a; mesh = ms }
 abbrev pub shape_of : List ℕ → Shape
 shape_of bytes = shape (value count bytes)
 
--- how many triangles are told with refusal k: with 19 those that stand whole before the cut, else none
+-- how many triangles are told with refusal k of a file of n triangles: with 19 those that stand whole before the cut, else none
+unfoldable pub told_of_count : ℕ → ℕ → List ℕ → ℕ
+told_of_count n k bytes = cond (eqb k 19) (whole_in (shape n) (length bytes)) 0
+
+-- the same of the count that these bytes hold: with 19 those that stand whole before the cut, else none
 unfoldable pub told_with : ℕ → List ℕ → ℕ
 told_with k bytes = cond (eqb k 19) (whole_in (shape_of bytes) (length bytes)) 0
 

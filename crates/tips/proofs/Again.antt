@@ -180,7 +180,7 @@ module _ (stamp other : ℕ) (apart : other ≡ stamp → ⊥) (ms m : List ℕ)
 
 -- ---- as the code has it: a walk under another stamp left the marks m'
 module _ (stamp other : ℕ) (apart : other ≡ stamp → ⊥) (ms m : List ℕ) (fresh : Fresh stamp m ms) (step : Best → ℕ → Best) (w : Walk Best)
-    (b : Besides ms m w.marks) (m' : List ℕ) (s : Seen) (e : seen m' s ≡ fold (look other step) w ms) where
+    (b : Besides ms m w.marks) (m' : List ℕ) (s : Seen Best) (e : seen m' s ≡ fold (look other step) w ms) where
   abbrev marks_are : m' ≡ (fold (look other step) w ms).marks
   marks_are = ap (λ (u : Walk Best). u.marks) e
 
@@ -195,6 +195,6 @@ module _ (stamp other : ℕ) (apart : other ≡ stamp → ⊥) (ms m : List ℕ)
       (subst (λ (l : List ℕ). Stale stamp ms m l) (sym marks_are) (stale stamp other apart ms m fresh step w b))
 
 -- the marks that a walk under the stamp itself left
-pub left_besides : (stamp : ℕ) (ms m m' : List ℕ) (step : Best → ℕ → Best) (s r : Seen) → seen m' r ≡ fold (look stamp step) (seen m s) ms → Besides ms m m'
+pub left_besides : (stamp : ℕ) (ms m m' : List ℕ) (step : Best → ℕ → Best) (s r : Seen Best) → seen m' r ≡ fold (look stamp step) (seen m s) ms → Besides ms m m'
 left_besides stamp ms m m' step s r e =
     subst (λ (l : List ℕ). Besides ms m l) (sym (ap (λ (u : Walk Best). u.marks) e)) (besides stamp step ms m (seen m s) (besides_own ms m))

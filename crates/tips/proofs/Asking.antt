@@ -8,7 +8,7 @@ use Rattle.bull.specs.declared.Bull.{Bull}
 use Rattle.grid.specs.Index.{Index}
 use Rattle.query.specs.declared.Patch.{Patch}
 use Rattle.query.specs.Patch.{patch_of}
-use Rattle.ask.specs.declared.Answer.{Answer}
+use Rattle.ask.specs.Ask.{Answer}
 use Rattle.ask.specs.Ask.{is_corner, ended, asked_height}
 use Rattle.ask.proofs.Demands.{height_demand, height_told}
 use Rattle.tool.specs.Tool.{sections_in, is_tool, widest_of, lowest_of}

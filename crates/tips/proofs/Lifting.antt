@@ -1,4 +1,5 @@
 -- A walk of a cutter that begins above the floor follows the walk from the floor, lifted to where it began, or is lost. Once it is raised both are the same.
+use Rattle.std.specs.Prelude.{None, Option, Some}
 use mathlib.Core.Bool.{true, false, cond}
 use mathlib.Core.List.{List, [], ◌∷◌}
 use mathlib.Core.Logic.{◌⊎◌, inl, inr, ⊎_elim}
@@ -13,7 +14,6 @@ use Rattle.rules.proofs.Branches.{either, by_test, no}
 use Rattle.order.proofs.Strict.{le_not_lt}
 use Rattle.plane.specs.declared.Triangle.{Triangle}
 use Rattle.plane.specs.declared.Contact.{Contact}
-use Rattle.plane.specs.declared.Contact.TheVariants.{Nothing, Height}
 use Rattle.plane.specs.Contacts.{exceeds_of, raised_to, raised_by}
 use Rattle.plane.proofs.Higher.{same_waits}
 use Rattle.above.specs.Above.{so_far}
@@ -44,10 +44,10 @@ never_over nan = refl
 never_over (inf s) = refl
 never_over (fin s m e) = refl
 
-lost_raised : (p : Contact) (i : ℕ) → raised_by p i lost ≡ lost
+lost_raised : (p : Option Contact) (i : ℕ) → raised_by p i lost ≡ lost
 unfolding raised_by raised_to
-lost_raised Nothing i = refl
-lost_raised (Height z t) i = rw (never_over z)
+lost_raised None i = refl
+lost_raised (Some m) i = rw (never_over m.height)
 
 lost_stays : (t : Triangle) (top : Float) (i : ℕ) (k : Bull) → bull_raised t top i k lost ≡ lost
 unfolding bull_raised
@@ -64,20 +64,20 @@ module _ (f : Float) (b : Begun f) where
   le_same = is_true _ (le_self f (ff f b))
 
   -- ---- one contact
-  lift_raised : (p : Contact) (i : ℕ) (x : Best) → exceeds_of x.height f ≡ false → lifted (raised_by p i x) ≡ raised_by p i start
+  lift_raised : (p : Option Contact) (i : ℕ) (x : Best) → exceeds_of x.height f ≡ false → lifted (raised_by p i x) ≡ raised_by p i start
   unfolding raised_by raised_to
-  lift_raised Nothing i x h = rw h
-  lift_raised (Height z t) i x h =
-      by_test (exceeds_of z f)
+  lift_raised None i x h = rw h
+  lift_raised (Some m) i x h =
+      by_test (exceeds_of m.height f)
       (λ g.
-      let o : exceeds_of z x.height ≡ true = by_test (exceeds_of z x.height) (λ j. j) (λ j. absurd (no (sym h ∙ passes f z x.height g j))) in
+      let o : exceeds_of m.height x.height ≡ true = by_test (exceeds_of m.height x.height) (λ j. j) (λ j. absurd (no (sym h ∙ passes f m.height x.height g j))) in
       rw (o, g))
-      (λ g. by_test (exceeds_of z x.height) (λ j. rw (j, g)) (λ j. rw (j, h, g)))
+      (λ g. by_test (exceeds_of m.height x.height) (λ j. rw (j, g)) (λ j. rw (j, h, g)))
 
-  stays_up : (p : Contact) (i : ℕ) (x : Best) → exceeds_of x.height f ≡ true → exceeds_of (raised_by p i x).height f ≡ true
+  stays_up : (p : Option Contact) (i : ℕ) (x : Best) → exceeds_of x.height f ≡ true → exceeds_of (raised_by p i x).height f ≡ true
   unfolding raised_by raised_to
-  stays_up Nothing i x h = h
-  stays_up (Height z t) i x h = by_test (exceeds_of z x.height) (λ j. rw j (rises f x.height z h j)) (λ j. rw j h)
+  stays_up None i x h = h
+  stays_up (Some m) i x h = by_test (exceeds_of m.height x.height) (λ j. rw j (rises f x.height m.height h j)) (λ j. rw j h)
 
   start_waits : (i : ℕ) → raised_by (so_far f) i start ≡ start
   unfolding raised_by raised_to
@@ -102,7 +102,7 @@ module _ (f : Float) (b : Begun f) where
         either (λ (y : Best). cond (le top f) start (raised_by (bull_contact_above t k f) i start) ≡ lifted y) (le top x.height) x (raised_by p i x)
         (λ e. rw (u, h))
         (λ e. rw u (sym (lift_raised p i x h ∙ sym (raised_beside p i start)
-        ∙ ap (λ (c : Contact). raised_by c i start) (parted_under f b k level fit t top q u x.height) ∙ start_waits i))))
+        ∙ ap (λ (c : Option Contact). raised_by c i start) (parted_under f b k level fit t top q u x.height) ∙ start_waits i))))
         (λ u.
         let p = bull_contact_above t k x.height in
         let c = bull_contact_above t k f in
@@ -110,7 +110,7 @@ module _ (f : Float) (b : Begun f) where
         by_test (le top x.height) (λ l. absurd (no (sym u ∙ under_from f (number f b) top x.height h l))) (λ l. l) in
         rw (u, e)
         (sym (lift_raised p i x h ∙ sym (raised_beside p i start)
-        ∙ ap (λ (d : Contact). raised_by d i start) (parted_same f b k level fit t top q u x.height h) ∙ raised_beside c i start)))
+        ∙ ap (λ (d : Option Contact). raised_by d i start) (parted_same f b k level fit t top q u x.height h) ∙ raised_beside c i start)))
 
     -- once above f a best stays there
     keeps : (t : Triangle) (top : Float) (i : ℕ) (x : Best) → exceeds_of x.height f ≡ true → exceeds_of (bull_raised t top i k x).height f ≡ true
@@ -172,7 +172,7 @@ module _ (f : Float) (b : Begun f) where
           (tied_fold is (at_floor floor) start (inl (sym (lifted_low (at_floor floor) h))))
 
       -- a walk that was raised found what the walk from the floor finds
-      pub found_from : (stamp : ℕ) (ms m m' : List ℕ) (r : Seen) (floor : Float) → exceeds_of floor f ≡ false → (r.best.kind ≡ 0 → ⊥)
+      pub found_from : (stamp : ℕ) (ms m m' : List ℕ) (r : Seen Best) (floor : Float) → exceeds_of floor f ≡ false → (r.best.kind ≡ 0 → ⊥)
           → seen m' r ≡ fold (look stamp (from_step mesh boxes sight)) (seen m (record { count = 0; best = start })) ms
           → seen m' r ≡ fold (look stamp (bull_step mesh boxes k)) (seen m (record { count = 0; best = at_floor floor })) ms
       unfolding walked

@@ -11,7 +11,7 @@ use Rattle.plane.specs.declared.Best.{Best}
 use Rattle.grid.specs.Boxes.{box_at}
 use Rattle.grid.specs.Index.{Index}
 use Rattle.query.specs.Patch.{patch_of}
-use Rattle.ask.specs.declared.Answer.{Answer}
+use Rattle.ask.specs.Ask.{Answer}
 use Rattle.ask.specs.Ask.{is_corner, Outcome, asked_height}
 use Rattle.plane.specs.Contacts.{raised_by}
 use Rattle.ask.specs.Demand.{HeightPromise}

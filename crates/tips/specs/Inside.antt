@@ -17,9 +17,7 @@ use Rattle.grid.specs.Boxes.{box_at}
 use Rattle.query.specs.declared.Patch.{Patch}
 use Rattle.ask.specs.Ask.{at_floor}
 use Rattle.tips.specs.declared.Sight.{Sight}
-use Rattle.tips.specs.declared.Shape.{Shape}
-use Rattle.tips.specs.declared.Shape.TheVariants.{Nose, Sections, Guess, From}
-use Rattle.tips.specs.Contact.{bull_raised, bull_step, tool_step}
+use Rattle.tips.specs.Contact.{bull_raised}
 
 -- ---- a walk of a cutter that begins above the floor
 
@@ -67,10 +65,3 @@ pub record Tables (mesh boxes : List Float) (starts members : List ℕ) (columns
 pub record Ready (mesh boxes : List Float) (starts members : List ℕ) (columns : ℕ) (p : Patch) (marks : List ℕ) (stamp : ℕ) : Type 0 where
   pub tables : Tables mesh boxes starts members columns p marks
   pub fresh : Fresh stamp marks (block starts members columns p.x0 p.x1 p.y0 p.y1)
-
--- ---- one triangle, by the kind of the tool: a table is read only where the tool is one of sections
-unfoldable pub shape_step : List Float → List Float → Shape → List Float → Best → ℕ → Best
-shape_step mesh boxes (Nose k) table best i = bull_step mesh boxes k best i
-shape_step mesh boxes (Sections a) table best i = tool_step mesh boxes a table best i
-shape_step mesh boxes (Guess g) table best i = guess_step mesh boxes g best i
-shape_step mesh boxes (From g) table best i = from_step mesh boxes g best i

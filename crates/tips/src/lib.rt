@@ -1,21 +1,22 @@
 // The highest tip of a tool that rests on the part: a bull-nose cutter, or a table of sections.
 #![tactic(auto)]
 
-ghost use Rattle.std.specs.Prelude.{true, List, ◌≡◌, ℕ, ◌+◌, ◌*◌, ◌≤◌, ◌<◌, length};
+ghost use Rattle.std.specs.Prelude.{true, List, ◌≡◌, ℕ, ◌+◌, ◌*◌, ◌≤◌, length, ⊤};
 ghost use Rattle.walk.specs.Walk.{block, fold};
-ghost use Rattle.walk.specs.Inside.{seen, look, Below, Room, Walkable};
+ghost use Rattle.walk.specs.Inside.{seen, look, Tabled};
 ghost use Rattle.grid.specs.Index.{index_of};
-ghost use Rattle.ask.specs.Ask.{ended, at_floor};
+ghost use Rattle.ask.specs.Ask.{ended, at_floor, answer_told};
 ghost use Rattle.tips.specs.Contact.{bull_raised, bull_step, is_stand, max_bull_of, BullPromise, tool_raised};
 ghost use Rattle.tips.specs.Contact.{tool_step, is_place, max_sections_of, SectionsPromise};
-ghost use Rattle.tips.specs.Inside.{shape_step, guess_step, first_raised, from_raised, from_step, may_begin, Fresh, Besides, Tables, Ready};
+ghost use Rattle.tips.specs.Inside.{guess_step, first_raised, from_raised, from_step, may_begin, Fresh, Besides, Tables, Ready};
 
 use ask::Answer;
 use bull::Bull;
 use grid::Header;
 use plane::{Best, Triangle};
 use query::Patch;
-use walk::Seen;
+use refusals::Refusal;
+use walk::{Look, Seen};
 
 // 2^-10: how far under the guess a walk begins. Nearer to it more triangles could have their contact on either side of that.
 const AHEAD: f64 = 0.0009765625;
@@ -35,14 +36,97 @@ pub struct Sight {
     pub limit: f64,
 }
 
-// The tool of a question: a bull-nose cutter, or sections, whose table is handed beside it (and is empty for a cutter). Of a cutter there are two walks
-// more: one that guesses what the answer will be, and one that begins above the floor.
+// A cutter's question at a triangle: the tables of the part, and the cutter.
 #[derive(Clone, Copy)]
-pub enum Shape {
-    Nose(Bull),
-    Sections(Axis),
-    Guess(Sight),
-    From(Sight),
+struct Nose<'a> {
+    mesh: &'a [f64],
+    boxes: &'a [f64],
+    k: Bull,
+}
+
+impl<'a> Look for Nose<'a> {
+    type Found = Best;
+
+    ghost fits = { λ q. Tabled q.mesh.now q.boxes.now };
+
+    ghost sane = { λ q count best. ⊤ };
+
+    ghost step = { λ q. bull_step q.mesh.now q.boxes.now q.k };
+
+    #[inline]
+    fn look(&self, _: u32, best: Best, i: u32) -> Best {
+        raise_bull(self.mesh, self.boxes, self.k, best, i)
+    }
+}
+
+// The same of a tool of sections.
+#[derive(Clone, Copy)]
+struct Sections<'a> {
+    mesh: &'a [f64],
+    boxes: &'a [f64],
+    a: Axis,
+    table: &'a [f64],
+}
+
+impl<'a> Look for Sections<'a> {
+    type Found = Best;
+
+    ghost fits = { λ q. Tabled q.mesh.now q.boxes.now };
+
+    ghost sane = { λ q count best. ⊤ };
+
+    ghost step = { λ q. tool_step q.mesh.now q.boxes.now q.a q.table.now };
+
+    #[inline]
+    fn look(&self, _: u32, best: Best, i: u32) -> Best {
+        raise_tool(self.mesh, self.boxes, self.a, self.table, best, i)
+    }
+}
+
+// The same of a walk that guesses what a cutter's will find.
+#[derive(Clone, Copy)]
+struct Guess<'a> {
+    mesh: &'a [f64],
+    boxes: &'a [f64],
+    g: Sight,
+}
+
+impl<'a> Look for Guess<'a> {
+    type Found = Best;
+
+    ghost fits = { λ q. Tabled q.mesh.now q.boxes.now };
+
+    ghost sane = { λ q count best. ⊤ };
+
+    ghost step = { λ q. guess_step q.mesh.now q.boxes.now q.g };
+
+    #[inline]
+    fn look(&self, _: u32, guess: Best, i: u32) -> Best {
+        raise_guess(self.mesh, self.boxes, self.g, guess, i)
+    }
+}
+
+// The same of a cutter's walk that begins above the floor.
+#[derive(Clone, Copy)]
+struct Above<'a> {
+    mesh: &'a [f64],
+    boxes: &'a [f64],
+    g: Sight,
+}
+
+impl<'a> Look for Above<'a> {
+    type Found = Best;
+
+    ghost fits = { λ q. Tabled q.mesh.now q.boxes.now };
+
+    ghost sane = { λ q count best. ⊤ };
+
+    ghost step = { λ q. from_step q.mesh.now q.boxes.now q.g };
+
+    #[inline]
+    fn look(&self, _: u32, best: Best, i: u32) -> Best {
+        raise_from(self.mesh, self.boxes, self.g, best, i)
+    }
 }
 
 // The highest tip of a bull-nose cutter of the radius r and the corner radius rc at (px, py), or why the question is refused.
@@ -58,12 +142,12 @@ pub fn max_bull(
     py: f64,
     r: f64,
     rc: f64,
-) -> Answer
-    ensures marks_after { ended result marks.new
+) -> Result<Answer, Refusal>
+    ensures marks_after { ended (answer_told result stamp) marks.new
         ≡ max_bull_of (index_of mesh.now h starts.now members.now boxes.now)
         marks.old stamp (record { x = px; y = py; r = r; rc = rc }) }
     ensures bull_promise { BullPromise (index_of mesh.now h starts.now members.now boxes.now)
-        marks.old stamp (record { x = px; y = py; r = r; rc = rc }) result }
+        marks.old stamp (record { x = px; y = py; r = r; rc = rc }) (answer_told result stamp) }
 {
     let k = Bull {
         x: px,
@@ -77,24 +161,12 @@ pub fn max_bull(
     let stands = is_stand(px, py, r);
     let corner = ask::is_corner(r, rc);
     let mut list = [0u32; 2048];
-    let heard = ask::refusal(
+    let count = ask::refusal(
         mesh, h, starts, members, boxes, marks, stamp, p, stands, corner, &mut list,
-    );
-    let n = heard.refusal;
-    if n != 0 {
-        return Answer {
-            refusal: n,
-            height: 0.0,
-            count: 0,
-            stamp,
-            triangle: 0,
-            kind: 0,
-            which: 0,
-        };
-    }
+    )?;
     let next = walk::next_stamp(marks, stamp);
-    let listed = heard.count <= 2048;
-    let ends = [0u32, heard.count];
+    let listed = count <= 2048;
+    let ends = [0u32, count];
     let s = walk_nose(
         mesh,
         walk::one_of(listed, &ends, starts),
@@ -106,18 +178,16 @@ pub fn max_bull(
         query::narrowed(listed, p),
         k,
         floor,
-        &boxes[0..0],
     );
     let best = s.best;
-    Answer {
-        refusal: 0,
+    Ok(Answer {
         height: best.height,
         count: s.count,
         stamp: next,
         triangle: best.triangle,
         kind: best.kind,
         which: best.which,
-    }
+    })
 }
 
 // The highest tip of a tool at (px, py) whose sections are four numbers each of a table, or why the question is refused.
@@ -132,12 +202,12 @@ pub fn max_sections(
     px: f64,
     py: f64,
     table: &[f64],
-) -> Answer
-    ensures marks_after { ended result marks.new
+) -> Result<Answer, Refusal>
+    ensures marks_after { ended (answer_told result stamp) marks.new
         ≡ max_sections_of (index_of mesh.now h starts.now members.now boxes.now)
         marks.old stamp px py table.now }
     ensures sections_promise { SectionsPromise (index_of mesh.now h starts.now members.now boxes.now)
-        marks.old stamp px py table.now result }
+        marks.old stamp px py table.now (answer_told result stamp) }
 {
     let columns = h.columns;
     let first = Seen {
@@ -155,48 +225,41 @@ pub fn max_sections(
     let stands = is_place(px, py);
     let valid = tool::is_tool(table);
     let mut list = [0u32; 2048];
-    let heard = ask::refusal(
+    let count = ask::refusal(
         mesh, h, starts, members, boxes, marks, stamp, p, stands, valid, &mut list,
-    );
-    let n = heard.refusal;
-    if n != 0 {
-        return Answer {
-            refusal: n,
-            height: 0.0,
-            count: 0,
-            stamp,
-            triangle: 0,
-            kind: 0,
-            which: 0,
-        };
-    }
+    )?;
     let next = walk::next_stamp(marks, stamp);
     let a = Axis { x: px, y: py, low };
-    let listed = heard.count <= 2048;
-    let ends = [0u32, heard.count];
-    let s = visit(
-        mesh,
+    let listed = count <= 2048;
+    let ends = [0u32, count];
+    let cells = query::narrowed(listed, p);
+    let s = walk::visit(
+        &Sections {
+            mesh,
+            boxes,
+            a,
+            table,
+        },
         walk::one_of(listed, &ends, starts),
         walk::one_of(listed, &list, members),
-        boxes,
         marks,
         next,
         columns,
-        query::narrowed(listed, p),
-        Shape::Sections(a),
-        table,
+        cells.x0,
+        cells.x1,
+        cells.y0,
+        cells.y1,
         first,
     );
     let best = s.best;
-    Answer {
-        refusal: 0,
+    Ok(Answer {
         height: best.height,
         count: s.count,
         stamp: next,
         triangle: best.triangle,
         kind: best.kind,
         which: best.which,
-    }
+    })
 }
 
 // Whether a cutter's axis is a point and its radius in its range.
@@ -317,71 +380,8 @@ fn raise_first(t: Triangle, top: f64, i: u32, g: Sight, best: Best) -> Best
     at(1.0 / 0.0)
 }
 
-// The best so far of a tool of either kind with triangle i.
-fn raise(mesh: &[f64], boxes: &[f64], shape: Shape, table: &[f64], best: Best, i: u32) -> Best
-    requires { (9 * i + 9 ≤ length mesh.now) × (5 * i + 5 ≤ length boxes.now) }
-    ensures { result ≡ shape_step mesh.now boxes.now shape table.now best i }
-{
-    match shape {
-        Shape::Nose(k) => raise_bull(mesh, boxes, k, best, i),
-        Shape::Sections(a) => raise_tool(mesh, boxes, a, table, best, i),
-        Shape::Guess(g) => raise_guess(mesh, boxes, g, best, i),
-        Shape::From(g) => raise_from(mesh, boxes, g, best, i),
-    }
-}
-
-// Looks at triangle i, unless its mark is the stamp.
-fn look_at(
-    mesh: &[f64],
-    boxes: &[f64],
-    marks: &mut [u32],
-    stamp: u32,
-    shape: Shape,
-    table: &[f64],
-    s: Seen,
-    i: u32,
-) -> Seen
-    requires { (length mesh.now ≡ length marks.old * 9) × (i < length marks.old) × Room stamp (seen marks.old s)
-        × (length boxes.now ≡ length marks.old * 5) }
-    ensures { seen marks.new result ≡ look stamp (shape_step mesh.now boxes.now shape table.now)
-        (seen marks.old s) i }
-{
-    let count = s.count;
-    let best = s.best;
-    if !walk::fresh(marks, stamp, i as usize) {
-        return s;
-    }
-    Seen {
-        count: count + 1,
-        best: raise(mesh, boxes, shape, table, best, i),
-    }
-}
-
-// The step over one cell: looks at each of its numbers.
-fn cell(
-    mesh: &[f64],
-    boxes: &[f64],
-    part: &[u32],
-    marks: &mut [u32],
-    stamp: u32,
-    shape: Shape,
-    table: &[f64],
-    s: Seen,
-) -> Seen
-    requires { (length mesh.now ≡ length marks.old * 9) × Below (length marks.old) part.now × Room stamp (seen marks.old s)
-        × (length boxes.now ≡ length marks.old * 5) }
-    ensures { seen marks.new result ≡ fold (look stamp (shape_step mesh.now boxes.now shape table.now))
-        (seen marks.old s) part.now }
-{
-    let mut found = s;
-    for j in 0..part.len() {
-        found = look_at(mesh, boxes, marks, stamp, shape, table, found, part[j]);
-    }
-    found
-}
-
 // The walk of a cutter. A first one, under another stamp, guesses the answer; where that allows it the walk begins just under the guess, so that triangles
-// that lie lower are left out without a contact. `none` is an empty table.
+// that lie lower are left out without a contact.
 fn walk_nose(
     mesh: &[f64],
     starts: &[u32],
@@ -393,8 +393,7 @@ fn walk_nose(
     p: Patch,
     k: Bull,
     floor: f64,
-    none: &[f64],
-) -> Seen
+) -> Seen<Best>
     requires { Ready mesh.now boxes.now starts.now members.now columns p marks.old stamp }
     ensures { seen marks.new result ≡ fold (look stamp (bull_step mesh.now boxes.now k))
         (seen marks.old (record { count = 0; best = at_floor floor }))
@@ -405,36 +404,36 @@ fn walk_nose(
         nose: k,
         limit: bound::beyond(k.r),
     };
-    let s = visit(
-        mesh,
+    let s = walk::visit(
+        &Guess { mesh, boxes, g },
         starts,
         members,
-        boxes,
         marks,
         other,
         columns,
-        p,
-        Shape::Guess(g),
-        none,
+        p.x0,
+        p.x1,
+        p.y0,
+        p.y1,
         begun(floor),
     );
     let from = s.best.height - AHEAD;
     if may_begin(k, floor, from) {
         return walk_from(
-            mesh, starts, members, boxes, marks, stamp, columns, p, k, floor, from, none,
+            mesh, starts, members, boxes, marks, stamp, columns, p, k, floor, from,
         );
     }
-    visit(
-        mesh,
+    walk::visit(
+        &Nose { mesh, boxes, k },
         starts,
         members,
-        boxes,
         marks,
         stamp,
         columns,
-        p,
-        Shape::Nose(k),
-        none,
+        p.x0,
+        p.x1,
+        p.y0,
+        p.y1,
         begun(floor),
     )
 }
@@ -452,8 +451,7 @@ fn walk_from(
     k: Bull,
     floor: f64,
     from: f64,
-    none: &[f64],
-) -> Seen
+) -> Seen<Best>
     requires { Ready mesh.now boxes.now starts.now members.now columns p marks.old stamp × (may_begin k floor from ≡ true) }
     ensures { seen marks.new result ≡ fold (look stamp (bull_step mesh.now boxes.now k))
         (seen marks.old (record { count = 0; best = at_floor floor }))
@@ -463,24 +461,24 @@ fn walk_from(
         nose: k,
         limit: from,
     };
-    let s = visit(
-        mesh,
+    let s = walk::visit(
+        &Above { mesh, boxes, g },
         starts,
         members,
-        boxes,
         marks,
         stamp,
         columns,
-        p,
-        Shape::From(g),
-        none,
+        p.x0,
+        p.x1,
+        p.y0,
+        p.y1,
         begun(from),
     );
     if s.best.kind != 0 {
         return s;
     }
     walk_back(
-        mesh, starts, members, boxes, marks, stamp, columns, p, k, floor, none,
+        mesh, starts, members, boxes, marks, stamp, columns, p, k, floor,
     )
 }
 
@@ -497,8 +495,7 @@ fn walk_back(
     p: Patch,
     k: Bull,
     floor: f64,
-    none: &[f64],
-) -> Seen
+) -> Seen<Best>
     requires { Tables mesh.now boxes.now starts.now members.now columns p marks.old }
     ensures { (m : List ℕ) → Fresh stamp m (block starts.now members.now columns p.x0 p.x1 p.y0 p.y1)
         → Besides (block starts.now members.now columns p.x0 p.x1 p.y0 p.y1) m marks.old
@@ -511,30 +508,30 @@ fn walk_back(
         nose: k,
         limit: 0.0,
     };
-    visit(
-        mesh,
+    walk::visit(
+        &Guess { mesh, boxes, g },
         starts,
         members,
-        boxes,
         marks,
         aside,
         columns,
-        p,
-        Shape::Guess(g),
-        none,
+        p.x0,
+        p.x1,
+        p.y0,
+        p.y1,
         begun(1.0 / 0.0),
     );
-    visit(
-        mesh,
+    walk::visit(
+        &Nose { mesh, boxes, k },
         starts,
         members,
-        boxes,
         marks,
         stamp,
         columns,
-        p,
-        Shape::Nose(k),
-        none,
+        p.x0,
+        p.x1,
+        p.y0,
+        p.y1,
         begun(floor),
     )
 }
@@ -557,45 +554,11 @@ fn other_than(stamp: u32) -> u32
 }
 
 // No triangle looked at, and the height z.
-fn begun(z: f64) -> Seen
+fn begun(z: f64) -> Seen<Best>
     ensures { result ≡ record { count = 0; best = at_floor z } }
 {
     Seen {
         count: 0,
         best: at(z),
     }
-}
-
-// The walk over the cells of a patch: rows, then columns, then the numbers of each cell.
-fn visit(
-    mesh: &[f64],
-    starts: &[u32],
-    members: &[u32],
-    boxes: &[f64],
-    marks: &mut [u32],
-    stamp: u32,
-    columns: usize,
-    p: Patch,
-    shape: Shape,
-    table: &[f64],
-    s: Seen,
-) -> Seen
-    requires { (length mesh.now ≡ length marks.old * 9)
-        × Walkable starts.now members.now (length marks.old) columns p.x0 p.x1 p.y0 p.y1 × Room stamp (seen marks.old s)
-        × (length boxes.now ≡ length marks.old * 5) }
-    ensures { seen marks.new result ≡ fold (look stamp (shape_step mesh.now boxes.now shape table.now))
-        (seen marks.old s) (block starts.now members.now columns p.x0 p.x1 p.y0 p.y1) }
-{
-    let x0 = p.x0;
-    let x1 = p.x1;
-    let y0 = p.y0;
-    let y1 = p.y1;
-    let mut found = s;
-    for y in y0..y1 {
-        for x in x0..x1 {
-            let part = walk::stretch(starts, members, y * columns + x);
-            found = cell(mesh, boxes, part, marks, stamp, shape, table, found);
-        }
-    }
-    found
 }

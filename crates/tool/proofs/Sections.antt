@@ -1,4 +1,5 @@
 -- The loops over a tool's sections: one section more.
+use Rattle.std.specs.Prelude.{Option}
 use mathlib.Core.Bool.{Bool, not}
 use mathlib.Core.List.{List}
 use mathlib.Core.Path.{◌≡◌, ap, ◌∙◌}
@@ -31,7 +32,7 @@ module _ (table : List Float) (i : ℕ) (s : Section) (here : s ≡ section_of t
   lower v r e p = rw (add-one i, p, e, here)
 
   -- its candidates go on from the best so far
-  pub higher : (t : Triangle) (n : ℕ) (x y : Float) (best v r : Best) (k o : Contact) → v ≡ raised_over t n x y table best i → o ≡ so_far v.height
+  pub higher : (t : Triangle) (n : ℕ) (x y : Float) (best v r : Best) (k o : Option Contact) → v ≡ raised_over t n x y table best i → o ≡ so_far v.height
       → k ≡ offer_of o (section_contact t x y s)
       → r ≡ raised_by k n v → r ≡ raised_over t n x y table best (i + 1)
   unfolding raised_over

@@ -18,6 +18,7 @@ const LOWEST_START: f64 = -1048575.0;
 const HIGHEST_START: f64 = 1048576.0;
 
 // Whether a walk may begin at `from`.
+#[tactic(auto, unfolding(crate::specs::Inside::is_start))]
 pub fn is_start(from: f64) -> bool
     ensures { result ≡ is_start from }
 {
@@ -25,6 +26,7 @@ pub fn is_start(from: f64) -> bool
 }
 
 // Whether z is a height of at most `low`.
+#[tactic(auto, unfolding(crate::specs::Inside::is_low))]
 fn is_low(low: f64, z: f64) -> bool
     ensures { result ≡ is_low low z }
 {
@@ -32,6 +34,7 @@ fn is_low(low: f64, z: f64) -> bool
 }
 
 // Whether all corners of a triangle are.
+#[tactic(auto, unfolding(crate::specs::Inside::lies_low))]
 pub fn lies_low(low: f64, t: Triangle) -> bool
     ensures { result ≡ lies_low low t }
 {
@@ -39,6 +42,7 @@ pub fn lies_low(low: f64, t: Triangle) -> bool
 }
 
 // Whether a height is above `from` or lies low.
+#[tactic(auto, unfolding(crate::specs::Inside::is_apart))]
 fn is_apart(low: f64, from: f64, z: f64) -> bool
     ensures { result ≡ is_apart low from z }
 {
@@ -46,6 +50,7 @@ fn is_apart(low: f64, from: f64, z: f64) -> bool
 }
 
 // Whether all corners of a triangle are.
+#[tactic(auto, unfolding(crate::specs::Inside::lies_apart))]
 pub fn lies_apart(low: f64, from: f64, t: Triangle) -> bool
     ensures { result ≡ lies_apart low from t }
 {
@@ -53,6 +58,7 @@ pub fn lies_apart(low: f64, from: f64, t: Triangle) -> bool
 }
 
 // Whether a triangle with this top has its contact on one side of `from`: its top is above, and each corner above or low; or all lie low.
+#[tactic(auto, unfolding(crate::specs::Inside::is_parted))]
 pub fn is_parted(from: f64, top: f64, t: Triangle) -> bool
     ensures { result ≡ is_parted from top t }
 {

@@ -18,9 +18,8 @@ use Rattle.grid.proofs.Accepting.{Passed}
 use Rattle.micro.specs.Micro.{is_coordinate, number_at}
 use Rattle.um.specs.declared.Extent.{Extent}
 use Rattle.um.specs.declared.Grid.{Grid}
-use Rattle.um.specs.declared.Built.{Built}
 use Rattle.um.specs.Grid.{triangles_in, extent_of, cells_along, grid_of, size_of, cells_in, cover_of}
-use Rattle.um.specs.Build.{header_of, is_power, in_ranges, refused_by, accepted_with, Outcome, outcome, unless, filled_of, gridded, build_of}
+use Rattle.um.specs.Build.{Built, header_of, is_power, in_ranges, refused_by, accepted_with, Outcome, outcome, unless, filled_of, gridded, build_of}
 use Rattle.um.specs.Index.{Index, index_of, BuiltFrom, SoundIndex, BuildPromise}
 use Rattle.um.specs.Inside.{Gridded}
 use Rattle.um.proofs.Places.{some}

@@ -6,12 +6,11 @@ use native.Mathlib.Nat.{add-zero}
 use native.Mathlib.Omega.{arith}
 use Rattle.rules.proofs.Branches.{by_test, no}
 use Rattle.fields.specs.Rows.{somewhere}
-use Rattle.fields.specs.declared.Place.{Place}
-use Rattle.fields.specs.declared.Place.TheVariants.{Nowhere, At}
+use Rattle.std.specs.Prelude.{Option, None, Some}
 use Rattle.micro.specs.Micro.{first_where}
 
-module _ (test : ℕ → Bool) (n k : ℕ) (p : Place) where
-  pub found_stops : k < n → test k ≡ true → first_where test k (n - k) ≡ p → At k ≡ p
+module _ (test : ℕ → Bool) (n k : ℕ) (p : Option ℕ) where
+  pub found_stops : k < n → test k ≡ true → first_where test k (n - k) ≡ p → Some k ≡ p
   unfolding first_where
   found_stops h e i = let s : n - k ≡ suc (n - (k + 1)) = omega arith in rw (s, e) at i
 
@@ -19,7 +18,7 @@ module _ (test : ℕ → Bool) (n k : ℕ) (p : Place) where
   unfolding first_where
   found_goes h e i = let s : n - k ≡ suc (n - (k + 1)) = omega arith in rw (s, e) at i
 
-  pub found_ends : n ≤ k → first_where test k (n - k) ≡ p → Nowhere ≡ p
+  pub found_ends : n ≤ k → first_where test k (n - k) ≡ p → None ≡ p
   unfolding first_where
   found_ends h i = let s : n - k ≡ 0 = omega arith in rw s at i
 
@@ -30,13 +29,13 @@ module _ (test : ℕ → Bool) where
     pub past : p < k + c
     pub passes : test p ≡ true
 
-  pub found : (k c p : ℕ) → first_where test k c ≡ At p → Found k c p
+  pub found : (k c p : ℕ) → first_where test k c ≡ Some p → Found k c p
   unfolding first_where
   found k zero p e = let z : ◌≡◌ {A = ℕ} 0 1 = cc in absurd (omega arith)
   found k (suc c) p e =
       by_test (test k)
       (λ t.
-      let f : At k ≡ At p = rw t at e in
+      let f : Some k ≡ Some p = rw t at e in
       let q : k ≡ p = cc in
       record { from = omega arith; past = omega arith; passes = rw (← q) t })
       (λ t.

@@ -1,8 +1,6 @@
 -- Document 02, request 11: refusals 1, 3, 2, 4, 5 and 6 in this order, and what the builder answers and leaves in both tables. Floor and r are counted.
-use Rattle.std.specs.Prelude.{Bool, not, cond, ◌&&◌, List, ℕ, ◌*◌, ◌/◌, ◌%◌, ◌^◌, ltb, eqb, ℤ, length}
+use Rattle.std.specs.Prelude.{Bool, not, cond, ◌&&◌, List, ℕ, ◌*◌, ◌/◌, ◌%◌, ◌^◌, ltb, eqb, ℤ, length, Option, None, Some, Result, Ok, Err}
 use Rattle.fields.specs.Rows.{somewhere}
-use Rattle.fields.specs.declared.Place.{Place}
-use Rattle.fields.specs.declared.Place.TheVariants.{Nowhere, At}
 use Rattle.rules.specs.Every.{is_from}
 use Rattle.cells.specs.Cover.{start_of, starts_of, members_table}
 use Rattle.rules.specs.Ladder.{refuse, demand}
@@ -11,7 +9,8 @@ use Rattle.grid.specs.Build.{refusal_of_members}
 use Rattle.micro.specs.Micro.{is_coordinate, is_radius, number_at, first_where}
 use Rattle.um.specs.declared.Grid.{Grid}
 use Rattle.um.specs.declared.Header.{Header}
-use Rattle.um.specs.declared.Built.{Built}
+use Rattle.refusals.specs.declared.Refusal.{Refusal}
+use Rattle.refusals.specs.Numbers.{number_of, told_of}
 use Rattle.um.specs.Grid.{triangles_in, extent_of, grid_of, size_of, cells_in, cover_of}
 
 -- ---- the header
@@ -42,13 +41,13 @@ in_ranges h =
 -- ---- the refusals
 
 -- The first number of the mesh, in its order, that is no coordinate.
-unfoldable pub first_bad : List ℤ → Place
+unfoldable pub first_bad : List ℤ → Option ℕ
 first_bad mesh = first_where (λ k. not (is_coordinate (number_at mesh k))) 0 (length mesh)
 
 -- The number of a place, 0 where there is none.
-unfoldable pub place_of : Place → ℕ
-place_of Nowhere = 0
-place_of (At k) = k
+unfoldable pub place_of : Option ℕ → ℕ
+place_of None = 0
+place_of (Some k) = k
 
 -- Which number of the mesh is told with refusal k: with 4 the first that is no coordinate; any other outcome tells 0.
 unfoldable pub told_with : ℕ → List ℤ → ℕ
@@ -76,6 +75,14 @@ refusal_of_size cell = refuse (eqb cell 0) 5 0
 
 -- ---- the builder
 
+-- Its answer as document 01 numbers it: refusal 0 and the header, or a refusal and a header all zero. Refusal 4 tells the triangle and which of its nine
+-- numbers came first; all else tells 0 and 0.
+pub record Built : Type 0 where
+  pub refusal : ℕ
+  pub triangle : ℕ
+  pub number : ℕ
+  pub header : Header
+
 -- What it leaves: its answer and both tables.
 pub record Outcome : Type 0 where
   pub built : Built
@@ -102,6 +109,11 @@ refused_by k p =
 -- The answer of an accepted build.
 unfoldable pub accepted_with : Header → Built
 accepted_with h = record { refusal = 0; triangle = 0; number = 0; header = h }
+
+-- How the answer is told: the header, or the refusal's number and the number of the mesh that it tells.
+unfoldable pub told : Result Header Refusal → Built
+told (Ok h) = accepted_with h
+told (Err e) = refused_by (number_of e) (told_of e)
 
 -- Refused by k, telling number p, with both tables untouched; where k is 0, what comes next.
 unfoldable pub unless : ℕ → ℕ → List ℕ → List ℕ → Outcome → Outcome

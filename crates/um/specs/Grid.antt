@@ -1,7 +1,5 @@
 -- Document 02, request 11: the grid over a mesh in whole micrometres, and the cells that a triangle covers. All numbers are counted from the least i32.
-use Rattle.std.specs.Prelude.{Bool, List, ℕ, zero, suc, ◌+◌, ◌-◌, ◌*◌, ◌/◌, ◌^◌, min, max, eqb, ℤ, length}
-use Rattle.fields.specs.declared.Place.{Place}
-use Rattle.fields.specs.declared.Place.TheVariants.{Nowhere, At}
+use Rattle.std.specs.Prelude.{Bool, List, ℕ, zero, suc, ◌+◌, ◌-◌, ◌*◌, ◌/◌, ◌^◌, min, max, eqb, ℤ, length, Option, None, Some}
 use Rattle.cells.specs.Cover.{Cover, covers, area_of}
 use Rattle.cells.specs.Inside.{sums}
 use Rattle.cells.specs.declared.Cells.{Cells}
@@ -51,9 +49,9 @@ fits e lent cell =
     eqb (refusal_of_grid (cells_along e.left e.right cell) (cells_along e.bottom e.top cell) lent) 0
 
 -- The cell is the smallest power of two from 1 to 2 ^ 31 that fits; 0 where none does.
-unfoldable pub power_at : Place → ℕ
-power_at Nowhere = 0
-power_at (At k) = 2 ^ k
+unfoldable pub power_at : Option ℕ → ℕ
+power_at None = 0
+power_at (Some k) = 2 ^ k
 
 unfoldable pub size_of : Extent → ℕ → ℕ
 size_of e lent = power_at (first_where (λ k. fits e lent (2 ^ k)) 0 32)

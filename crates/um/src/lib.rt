@@ -7,12 +7,13 @@ ghost use Rattle.cells.specs.Inside.{Room, CountedAll, Ready, Filled, Fits};
 ghost use Rattle.micro.specs.Micro.{box_of};
 ghost use Rattle.um.specs.Grid.{triangles_in, widened, extent_of, cells_along, grid_of, fits as fitsIn};
 ghost use Rattle.um.specs.Grid.{size_of, cells_in, stretch_of, cells_of, cover_of, total_of};
-ghost use Rattle.um.specs.Build.{first_bad, told_with, refusal_of_numbers, refusal_of_mesh, outcome, refused_by, filled_of, gridded, build_of};
+ghost use Rattle.refusals.specs.Numbers.{code_of, told_in};
+ghost use Rattle.um.specs.Build.{first_bad, told, told_with, refusal_of_numbers, refusal_of_mesh, outcome, filled_of, gridded, build_of};
 ghost use Rattle.um.specs.Index.{index_of, BuildPromise};
 ghost use Rattle.um.specs.Inside.{Above, Gridded};
 
-use fields::Place;
 use micro::Box;
+use refusals::Refusal;
 
 // The extremes of a mesh on both axes.
 #[derive(Clone, Copy)]
@@ -53,138 +54,91 @@ pub struct Header {
     pub cell: u64,
 }
 
-// The builder's answer: refusal 0 and the header, or a refusal and a header all zero. Refusal 4 tells the triangle and which of its nine numbers
-// came first; all else tells 0 and 0.
-#[derive(Clone, Copy)]
-pub struct Built {
-    pub refusal: u32,
-    pub triangle: u32,
-    pub number: u32,
-    pub header: Header,
-}
-
-// What refuses a mesh, 0 if nothing does, and which of its numbers is told.
-#[derive(Clone, Copy)]
-struct Reason {
-    refusal: u32,
-    place: u32,
-}
-
-// The index of a mesh: starts and members hold its tables, and entries that they do not need stay. A refused call changes neither. Floor and r are counted.
-pub fn build_um(mesh: &[i32], floor: u64, r: u64, starts: &mut [u32], members: &mut [u32]) -> Built
-    ensures members_after { outcome result starts.new members.new
+// The index of a mesh: its header; starts and members hold its tables, and entries that they do not need stay. A refused call changes neither; 4 tells which
+// number of the mesh came first. Floor and r are counted.
+pub fn build_um(
+    mesh: &[i32],
+    floor: u64,
+    r: u64,
+    starts: &mut [u32],
+    members: &mut [u32],
+) -> Result<Header, Refusal>
+    ensures members_after { outcome (told result) starts.new members.new
         ≡ build_of mesh.now floor r starts.old members.old }
-    ensures build_promise { BuildPromise (index_of mesh.now result.header starts.new members.new) result.refusal }
+    ensures build_promise { BuildPromise (index_of mesh.now (told result).header starts.new members.new) (told result).refusal }
 {
-    let w = refusal_of_mesh(mesh, floor, r);
-    let k = w.refusal;
-    let place = w.place;
-    if k != 0 {
-        return refused(k, place);
-    }
+    refusal_of_mesh(mesh, floor, r)?;
     build_grid(mesh, floor, r, starts, members)
 }
 
-// The answer of a refused call that tells one number of the mesh.
-fn refused(k: u32, place: u32) -> Built
-    ensures { result ≡ refused_by k place }
-{
-    let header = Header {
-        n: 0,
-        x: 2147483648,
-        y: 2147483648,
-        floor: 2147483648,
-        r: 2147483648,
-        columns: 0,
-        rows: 0,
-        cell: 0,
-    };
-    Built {
-        refusal: k,
-        triangle: place / 9,
-        number: place % 9,
-        header,
-    }
-}
-
 // Refusals 1, 3, 2 and 4.
-fn refusal_of_mesh(mesh: &[i32], floor: u64, r: u64) -> Reason
-    ensures { (result.refusal ≡ refusal_of_mesh mesh.now floor r) × (result.place ≡ told_with result.refusal mesh.now) }
+#[tactic(auto, using(rules::proofs::Ladder::ladder), unfolding(crate::specs::Build::refusal_of_mesh, crate::specs::Build::told_with, refusals::specs::Numbers::code_of, refusals::specs::Numbers::told_in, refusals::specs::Numbers::number_of, refusals::specs::Numbers::told_of))]
+fn refusal_of_mesh(mesh: &[i32], floor: u64, r: u64) -> Result<(), Refusal>
+    ensures code { code_of result ≡ refusal_of_mesh mesh.now floor r }
+    ensures place { told_in result ≡ told_with (code_of result) mesh.now }
 {
     if mesh.len() % 9 != 0 {
-        return Reason {
-            refusal: 1,
-            place: 0,
-        };
+        return Err(Refusal::Length);
     }
     let n = mesh.len() / 9;
     if rules::MOST < n {
-        return Reason {
-            refusal: 1,
-            place: 0,
-        };
+        return Err(Refusal::Length);
     }
     if n == 0 {
-        return Reason {
-            refusal: 3,
-            place: 0,
-        };
+        return Err(Refusal::Empty);
     }
     refusal_of_numbers(mesh, floor, r)
 }
 
 // Refusals 2 and 4.
-fn refusal_of_numbers(mesh: &[i32], floor: u64, r: u64) -> Reason
+#[tactic(auto, using(rules::proofs::Ladder::ladder, crate::proofs::Accepting::place_fits), unfolding(crate::specs::Build::refusal_of_numbers, crate::specs::Build::told_with, refusals::specs::Numbers::code_of, refusals::specs::Numbers::told_in, refusals::specs::Numbers::number_of, refusals::specs::Numbers::told_of, fields::specs::Rows::somewhere, crate::specs::Build::place_of))]
+fn refusal_of_numbers(mesh: &[i32], floor: u64, r: u64) -> Result<(), Refusal>
     requires { length mesh.now ≤ 589824 }
-    ensures { (result.refusal ≡ refusal_of_numbers mesh.now floor r) × (result.place ≡ told_with result.refusal mesh.now) }
+    ensures code { code_of result ≡ refusal_of_numbers mesh.now floor r }
+    ensures place { told_in result ≡ told_with (code_of result) mesh.now }
 {
     if !micro::is_coordinate(floor) {
-        return Reason {
-            refusal: 2,
-            place: 0,
-        };
+        return Err(Refusal::Number);
     }
     if !micro::is_radius(r) {
-        return Reason {
-            refusal: 2,
-            place: 0,
-        };
+        return Err(Refusal::Number);
     }
     match first_bad(mesh) {
-        Place::Nowhere => Reason {
-            refusal: 0,
-            place: 0,
-        },
-        Place::At(k) => Reason {
-            refusal: 4,
-            place: k as u32,
-        },
+        None => Ok(()),
+        Some(k) => Err(Refusal::Coordinate(k as u32)),
     }
 }
 
 // The first number of the mesh that is no coordinate.
-fn first_bad(mesh: &[i32]) -> Place
+fn first_bad(mesh: &[i32]) -> Option<usize>
     ensures { result ≡ first_bad mesh.now }
 {
+    // by index: the place is what is told
     for k in 0..mesh.len() {
         if !micro::is_coordinate(micro::number_at(mesh, k)) {
-            return Place::At(k);
+            return Some(k);
         }
     }
-    Place::Nowhere
+    None
 }
 
 // The index of a mesh that refusals 1 to 4 pass.
-fn build_grid(mesh: &[i32], floor: u64, r: u64, starts: &mut [u32], members: &mut [u32]) -> Built
+fn build_grid(
+    mesh: &[i32],
+    floor: u64,
+    r: u64,
+    starts: &mut [u32],
+    members: &mut [u32],
+) -> Result<Header, Refusal>
     requires { refusal_of_mesh mesh.now floor r ≡ 0 }
-    ensures { outcome result starts.new members.new
+    ensures { outcome (told result) starts.new members.new
         ≡ gridded mesh.now (triangles_in mesh.now) floor r starts.old members.old }
 {
     let n = mesh.len() / 9;
     let e = extent_of(mesh, n);
     let cell = size_of(e, starts.len());
     if cell == 0 {
-        return refused(5, 0);
+        return Err(Refusal::Starts);
     }
     fill_grid(mesh, n, grid_of(e, cell), floor, r, starts, members)
 }
@@ -200,6 +154,7 @@ fn extent_of(mesh: &[i32], n: usize) -> Extent
         bottom: 4294967295,
         top: 0,
     };
+    // by index: triangle i is nine numbers of the mesh
     for i in 0..n {
         e = widen(e, micro::box_of(mesh, i));
     }
@@ -240,7 +195,7 @@ fn fits(e: Extent, lent: usize, cell: u64) -> bool
 {
     let columns = cells_along(e.left, e.right, cell);
     let rows = cells_along(e.bottom, e.top, cell);
-    grid::refusal_of_grid(columns, rows, lent) == 0
+    grid::refusal_of_grid(columns, rows, lent).is_ok()
 }
 
 // Cells on an axis.
@@ -276,18 +231,15 @@ fn fill_grid(
     r: u64,
     starts: &mut [u32],
     members: &mut [u32],
-) -> Built
+) -> Result<Header, Refusal>
     requires gridded { Gridded mesh.now n g }
     requires g_in_bounds { cells_in g + 1 ≤ length starts.old }
-    ensures { outcome result starts.new members.new
+    ensures { outcome (told result) starts.new members.new
         ≡ filled_of mesh.now n g floor r starts.old members.old }
 {
-    let k = grid::refusal_of_members(total(mesh, n, g), members.len());
-    if k != 0 {
-        return refused(k, 0);
-    }
+    grid::refusal_of_members(total(mesh, n, g), members.len())?;
     tables(mesh, n, g, starts, members);
-    let header = Header {
+    Ok(Header {
         n,
         x: g.x,
         y: g.y,
@@ -296,13 +248,7 @@ fn fill_grid(
         columns: g.columns,
         rows: g.rows,
         cell: g.cell,
-    };
-    Built {
-        refusal: 0,
-        triangle: 0,
-        number: 0,
-        header,
-    }
+    })
 }
 
 // The cells of a triangle on an axis of so many cells, from its low end to its high end, held to the last one.
@@ -343,6 +289,7 @@ fn total(mesh: &[i32], n: usize, g: Grid) -> usize
     ensures { result ≡ total_of mesh.now g n }
 {
     let mut t: usize = 0;
+    // by index: triangle i is nine numbers of the mesh
     for i in 0..n {
         t += cells::area(cells_of(mesh, g, i));
     }
@@ -370,6 +317,7 @@ fn count_all(mesh: &[i32], n: usize, g: Grid, starts: &mut [u32])
     ensures { CountedAll (cover_of mesh.now g) n starts.old starts.new }
 {
     let columns = g.columns;
+    // by index: triangle i is nine numbers of the mesh
     for i in 0..n {
         cells::count_cells(starts, columns, cells_of(mesh, g, i));
     }
@@ -384,6 +332,7 @@ fn fill(mesh: &[i32], n: usize, g: Grid, cells: usize, starts: &mut [u32], membe
 {
     let columns = g.columns;
     let mut i = n;
+    // by index: from the last triangle back, and its number is what is put
     while 0 < i {
         i -= 1;
         cells::place_cells(starts, members, columns, cells_of(mesh, g, i), i as u32);

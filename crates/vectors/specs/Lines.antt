@@ -1,10 +1,9 @@
 -- The line of a list: a letter, then numbers of 16 hex digits, the highest first, with a blank before each.
-use Rattle.std.specs.Prelude.{cond, List, ℕ, zero, suc, ◌+◌, ◌-◌, ◌*◌, leb, eqb, Float, get_or}
+use Rattle.std.specs.Prelude.{cond, List, ℕ, zero, suc, ◌+◌, ◌-◌, ◌*◌, leb, eqb, Float, get_or, None, Option, Some}
 use Rattle.std.specs.Float.{binary64}
 use Rattle.std.specs.Float.Ieee.{of_bits, to_bits}
 use Rattle.plane.specs.declared.Triangle.{Triangle}
 use Rattle.plane.specs.declared.Contact.{Contact}
-use Rattle.plane.specs.declared.Contact.TheVariants.{Nothing, Height}
 
 -- The digit that a byte is: 0 to 9, a to f; 0 for any other.
 unfoldable pub digit_of : ℕ → ℕ
@@ -46,11 +45,11 @@ unfoldable pub unlike_of : ℕ → ℕ → ℕ
 unlike_of a b = cond (eqb a b) 0 1
 
 -- 1 where a contact is a height
-unfoldable pub heights_in : Contact → ℕ
-heights_in Nothing = 0
-heights_in (Height z t) = 1
+unfoldable pub heights_in : Option Contact → ℕ
+heights_in None = 0
+heights_in (Some m) = 1
 
 -- 1 where a contact is not the answer that stands behind a line's 15 numbers: the digit 0 for no contact, or 1 and the height's bits.
-unfoldable pub differs_from : List ℕ → Contact → ℕ
-differs_from line Nothing = unlike_of (digit_of (get_or line 257 0)) 0
-differs_from line (Height z t) = cond (eqb (digit_of (get_or line 257 0)) 1) (unlike_of (bits_of z) (hex_of line 259 16)) 1
+unfoldable pub differs_from : List ℕ → Option Contact → ℕ
+differs_from line None = unlike_of (digit_of (get_or line 257 0)) 0
+differs_from line (Some m) = cond (eqb (digit_of (get_or line 257 0)) 1) (unlike_of (bits_of m.height) (hex_of line 259 16)) 1

@@ -93,25 +93,26 @@ pub fn unlike(a: u64, b: u64) -> u64
 }
 
 // 1 where a contact is a height.
-pub fn height(c: Contact) -> u64
+pub fn height(c: Option<Contact>) -> u64
     ensures { result ≡ heights_in c }
 {
     match c {
-        Contact::Nothing => 0,
-        Contact::Height(_, _) => 1,
+        None => 0,
+        Some(_) => 1,
     }
 }
 
 // 1 where a contact is not the one that stands behind a line's 15 numbers: 0, or 1 and the height.
-pub fn differs(line: &[u8], c: Contact) -> u64
+#[tactic(auto, unfolding(crate::specs::Lines::differs_from))]
+pub fn differs(line: &[u8], c: Option<Contact>) -> u64
     requires { 275 ≤ length line.now }
     ensures { result ≡ differs_from line.now c }
 {
     match c {
-        Contact::Nothing => unlike(digit(line[257]), 0),
-        Contact::Height(z, _) => {
+        None => unlike(digit(line[257]), 0),
+        Some(met) => {
             if digit(line[257]) == 1 {
-                unlike(bits_of(z), number(line, 259))
+                unlike(bits_of(met.height), number(line, 259))
             } else {
                 1
             }

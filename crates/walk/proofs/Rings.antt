@@ -144,6 +144,11 @@ fold_keeps stamp s one (m ∷ ms) w b =
     let k = one w m (b 0 (omega arith)) in
     kept_trans k (fold_keeps stamp s one ms (s w m) (λ n h. rw k.size (b (suc n) (omega arith))))
 
+-- what a walk over a list keeps
+pub cell_keeps : {A : Type 0} (stamp : ℕ) (step : A → ℕ → A) (ms : List ℕ) {w w' : Walk A} → w' ≡ fold (look stamp step) w ms
+    → Below (length w.marks) ms → Kept stamp w w'
+cell_keeps stamp step ms {w} e b = rw e (fold_keeps stamp (look stamp step) (look_keeps stamp step) ms w b)
+
 -- ---- a ring that began at w₀ with the numbers all before it, and stands at w with the numbers rest left; s is `look stamp step` or `strike stamp blocks`
 pub record Going {A : Type 0} (stamp : ℕ) (s : Walk A → ℕ → Walk A) (w₀ : Walk A) (all : List ℕ) (w : Walk A) (rest : List ℕ) : Type 0 where
   pub same : fold s w rest ≡ fold s w₀ all

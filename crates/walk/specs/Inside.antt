@@ -1,12 +1,11 @@
 -- What the parts of a question's code promise each other: a walk as the code goes, one member after the other, and what that asks of the tables.
 use Rattle.std.specs.Prelude.{Bool, not, cond, List, [], ◌∷◌, ◌≡◌, ℕ, ◌+◌, ◌*◌, ◌^◌, ◌≤◌, ◌<◌, eqb, length, get_or, set, take}
 use Rattle.walk.specs.Walk.{Walk, cell, looked}
-use Rattle.plane.specs.declared.Best.{Best}
 use Rattle.walk.specs.declared.Seen.{Seen}
 use Rattle.walk.specs.declared.Verdict.{Verdict}
 
--- a height question with these marks, where it stands; and a chord question
-abbrev pub seen : List ℕ → Seen → Walk Best
+-- a question with these marks, where it stands; and a chord question
+abbrev pub seen : {B : Type 0} → List ℕ → Seen B → Walk B
 seen m s = record { marks = m; count = s.count; value = s.best }
 
 abbrev pub judged : List ℕ → Verdict → Walk Bool
@@ -32,6 +31,14 @@ unmarked stamp (m ∷ ms) = cond (eqb m stamp) 0 1 + unmarked stamp ms
 -- every number of ms is below n
 abbrev pub Below : ℕ → List ℕ → Type 0
 Below n ms = (k : ℕ) → k < length ms → get_or ms k 0 < n
+
+-- the tables have the numbers of triangle i: nine of a mesh, five of a box table
+abbrev pub Tabled : {A B : Type 0} → List A → List B → ℕ → Type 0
+Tabled mesh boxes i = (9 * i + 9 ≤ length mesh) × (5 * i + 5 ≤ length boxes)
+
+-- each number below n has what `fits` asks
+abbrev pub FitsAll : (ℕ → Type 0) → ℕ → Type 0
+FitsAll fits n = (i : ℕ) → i < n → fits i
 
 -- the count has room for the triangles that are left
 abbrev pub Room : {A : Type 0} → ℕ → Walk A → Type 0

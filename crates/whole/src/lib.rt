@@ -60,8 +60,8 @@ fn cell_below(starts: &[u32], members: &[u32], n: usize, c: usize) -> bool
 fn members_below(part: &[u32], n: usize) -> bool
     ensures { result ≡ each (λ i. ltb i n) part.now }
 {
-    for j in 0..part.len() {
-        if part[j] as usize >= n {
+    for i in part {
+        if *i as usize >= n {
             return false;
         }
     }

@@ -13,7 +13,11 @@ use Rattle.rules.proofs.Branches.{taken, left, either}
 use Rattle.fields.specs.Rows.{all_finite}
 use Rattle.rules.proofs.Ladder.{refuse_next, refused_not}
 use Rattle.writer.specs.Writer.{numbers_in, job_of, job_in, size_of, refusal_of_numbers, refusal_of_counts}
-use Rattle.writer.specs.Writer.{refusal_of, Outcome, ended, refused_by, accepted_of, write_of}
+use Rattle.std.specs.Prelude.{Err}
+use Rattle.refusals.specs.Numbers.{code_of}
+use Rattle.refusals.specs.declared.Refusal.{Refusal}
+use Rattle.refusals.proofs.Named.{numbered}
+use Rattle.writer.specs.Writer.{refusal_of, Outcome, told, ended, refused_by, accepted_of, write_of}
 use Rattle.writer.proofs.Rows.{laid_length, head_length}
 
 module _ (mesh : List Float) (floor radius : Float) (qs : List Float) (room : ℕ) where
@@ -110,3 +114,9 @@ module _ (mesh : List Float) (floor radius : Float) (qs : List Float) (bytes : L
           let s : sets bytes 0 job ≡ job ++ drop (size_of mesh qs) bytes = sets-eq job bytes 0 (omega (arith, w, ready.fits))
           ∙ ap (λ (n : ℕ). job ++ drop n bytes) w in
           rw (← e) (taken _ _ _ _ (eq-eqb k 0 z) (rw (p, q, s)))
+
+-- a writing that was refused
+pub refused_told : (A : Type 0) (mesh : List Float) (floor radius : Float) (qs : List Float) (bytes : List ℕ) (r : Refusal)
+    → code_of {A = A} (Err r) ≡ refusal_of mesh floor radius qs (length bytes) → ended (told (Err r)) bytes ≡ write_of mesh floor radius qs bytes
+unfolding code_of
+refused_told A mesh floor radius qs bytes r e = refused_is mesh floor radius qs bytes _ e (λ z. omega (arith, numbered r))

@@ -1,6 +1,6 @@
 -- Document 02, request 2: the bytes of a job, which jobs are refused, and what writing one answers and leaves in the lent bytes. The fields are those of
 -- the table by which a job is read.
-use Rattle.std.specs.Prelude.{not, cond, ◌≡◌, refl, List, [], ◌∷◌, ◌++◌, ℕ, zero, suc, ◌+◌, ◌/◌, ◌%◌, eqb, ltb, Float, length, drop}
+use Rattle.std.specs.Prelude.{not, cond, ◌≡◌, refl, List, [], ◌∷◌, ◌++◌, ℕ, zero, suc, ◌+◌, ◌/◌, ◌%◌, eqb, ltb, Float, length, drop, Result, Ok, Err}
 use Rattle.std.specs.Float.{binary64}
 use Rattle.std.specs.Float.Ieee.{to_bits}
 use Rattle.job.specs.Layout.{mark, version, zero_byte, triangles, questions, number, bytes_of, letters, wide}
@@ -8,7 +8,8 @@ use Rattle.fields.specs.Little.{Field}
 use Rattle.fields.specs.Rows.{all_finite}
 use Rattle.rules.specs.Ladder.{refuse}
 use Rattle.rules.specs.Limits.{most}
-use Rattle.writer.specs.declared.Written.{Written}
+use Rattle.refusals.specs.Numbers.{number_of}
+use Rattle.refusals.specs.declared.Refusal.{Refusal}
 
 -- ---- the bytes of a job
 
@@ -78,6 +79,15 @@ module _ (mesh : List Float) (floor radius : Float) (qs : List Float) (room : �
       refusal_of_counts))
 
 -- ---- writing
+
+-- The answer by its numbers: 0 and how many bytes the job has, or the refusal and 0.
+pub record Written : Type 0 where
+  pub refusal : ℕ
+  pub length : ℕ
+
+abbrev pub told : Result ℕ Refusal → Written
+told (Ok n) = record { refusal = 0; length = n }
+told (Err r) = record { refusal = number_of r; length = 0 }
 
 -- the answer, and the lent bytes afterwards
 pub record Outcome : Type 0 where

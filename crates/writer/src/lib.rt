@@ -10,89 +10,88 @@ ghost use Rattle.std.proofs.lemmas.List.Edits.{sets};
 ghost use Rattle.job.specs.Layout.{mark, version, zero_byte, bytes_of, letters, wide};
 ghost use Rattle.fields.specs.Rows.{finite, all_finite};
 ghost use Rattle.writer.specs.Writer.{digits, laid, numbers_in, laid_all, head_of, job_of, job_in};
-ghost use Rattle.writer.specs.Writer.{refusal_of_numbers, refusal_of_counts, refusal_of, ended, write_of};
+ghost use Rattle.refusals.specs.Numbers.{code_of};
+ghost use Rattle.writer.specs.Writer.{refusal_of_numbers, refusal_of_counts, refusal_of, told, ended, write_of};
 ghost use Rattle.writer.specs.Back.{ReadsBack, WritesAgain};
 
-// What writing a job answers: 0 and the number of its bytes, or the refusal and 0.
-#[derive(Clone, Copy)]
-pub struct Written {
-    pub refusal: u32,
-    pub length: usize,
-}
+use refusals::Refusal;
 
 // The place of the first number and the bytes of a number.
 const NUMBERS: usize = 14;
 
 const WIDE: usize = 8;
 
-// Writes a job into the lent bytes, nine numbers a triangle, five a question; bytes beyond the job stay unchanged.
+// Writes a job into the lent bytes, nine numbers a triangle, five a question, and answers how many bytes it has; bytes beyond the job stay unchanged.
 pub fn write_job(
     mesh: &[f64],
     floor: f64,
     radius: f64,
     questions: &[f64],
     bytes: &mut [u8],
-) -> Written
-    ensures bytes_after { ended result bytes.new ≡ write_of mesh.now floor radius questions.now bytes.old }
-    ensures reads_back { ReadsBack mesh.now floor radius questions.now (ended result bytes.new) }
-    ensures writes_again { WritesAgain mesh.now floor radius questions.now (length bytes.old) (ended result bytes.new) }
+) -> Result<usize, Refusal>
+    ensures bytes_after { ended (told result) bytes.new ≡ write_of mesh.now floor radius questions.now bytes.old }
+    ensures reads_back { ReadsBack mesh.now floor radius questions.now (ended (told result) bytes.new) }
+    ensures writes_again { WritesAgain mesh.now floor radius questions.now (length bytes.old) (ended (told result) bytes.new) }
 {
-    let k = refusal(mesh, floor, radius, questions, bytes.len());
-    if k != 0 {
-        return Written {
-            refusal: k,
-            length: 0,
-        };
-    }
+    refusal(mesh, floor, radius, questions, bytes.len())?;
     put_job(mesh, floor, radius, questions, bytes);
-    Written {
-        refusal: 0,
-        length: size(mesh.len() / 9, questions.len() / 5),
-    }
+    Ok(size(mesh.len() / 9, questions.len() / 5))
 }
 
 // 1, which the lengths decide, else what the counts decide.
-fn refusal(mesh: &[f64], floor: f64, radius: f64, questions: &[f64], room: usize) -> u32
-    ensures { result ≡ refusal_of mesh.now floor radius questions.now room }
+#[tactic(auto, using(rules::proofs::Ladder::ladder), unfolding(refusals::specs::Numbers::code_of, refusals::specs::Numbers::number_of, crate::specs::Writer::refusal_of))]
+fn refusal(
+    mesh: &[f64],
+    floor: f64,
+    radius: f64,
+    questions: &[f64],
+    room: usize,
+) -> Result<(), Refusal>
+    ensures { code_of result ≡ refusal_of mesh.now floor radius questions.now room }
 {
-    if mesh.len() % 9 != 0 {
-        return 1;
-    }
-    if mesh.len() / 9 > rules::MOST {
-        return 1;
-    }
-    if questions.len() % 5 != 0 {
-        return 1;
+    if mesh.len() % 9 != 0 || mesh.len() / 9 > rules::MOST || questions.len() % 5 != 0 {
+        return Err(Refusal::Length);
     }
     refusal_of_counts(mesh, floor, radius, questions, room)
 }
 
 // 18, else what the numbers decide.
-fn refusal_of_counts(mesh: &[f64], floor: f64, radius: f64, questions: &[f64], room: usize) -> u32
+#[tactic(auto, using(rules::proofs::Ladder::ladder), unfolding(refusals::specs::Numbers::code_of, refusals::specs::Numbers::number_of, crate::specs::Writer::refusal_of_counts))]
+fn refusal_of_counts(
+    mesh: &[f64],
+    floor: f64,
+    radius: f64,
+    questions: &[f64],
+    room: usize,
+) -> Result<(), Refusal>
     requires { length mesh.now / 9 ≤ 65536 }
-    ensures { result ≡ refusal_of_counts mesh.now floor radius questions.now room }
+    ensures { code_of result ≡ refusal_of_counts mesh.now floor radius questions.now room }
 {
-    if mesh.len() == 0 {
-        return 18;
-    }
-    if questions.len() / 5 > rules::MOST {
-        return 18;
+    if mesh.len() == 0 || questions.len() / 5 > rules::MOST {
+        return Err(Refusal::Count);
     }
     refusal_of_numbers(mesh, floor, radius, questions, room)
 }
 
-// 20 and 22, or 0 for a job that is accepted.
-fn refusal_of_numbers(mesh: &[f64], floor: f64, radius: f64, questions: &[f64], room: usize) -> u32
+// 20 and 22, or none for a job that is accepted.
+#[tactic(auto, using(rules::proofs::Ladder::ladder), unfolding(refusals::specs::Numbers::code_of, refusals::specs::Numbers::number_of, crate::specs::Writer::refusal_of_numbers))]
+fn refusal_of_numbers(
+    mesh: &[f64],
+    floor: f64,
+    radius: f64,
+    questions: &[f64],
+    room: usize,
+) -> Result<(), Refusal>
     requires { (length mesh.now / 9 ≤ 65536) × (length questions.now / 5 ≤ 65536) }
-    ensures { result ≡ refusal_of_numbers mesh.now floor radius questions.now room }
+    ensures { code_of result ≡ refusal_of_numbers mesh.now floor radius questions.now room }
 {
     if !numbers_finite(mesh, floor, radius, questions) {
-        return 20;
+        return Err(Refusal::NotFinite);
     }
     if room < size(mesh.len() / 9, questions.len() / 5) {
-        return 22;
+        return Err(Refusal::Bytes);
     }
-    0
+    Ok(())
 }
 
 // How many bytes a job of n triangles and m questions has.
@@ -104,19 +103,14 @@ fn size(n: usize, m: usize) -> usize
 }
 
 // Whether all numbers of the job are finite.
+#[tactic(auto, using(crate::proofs::Rows::all_append), unfolding(fields::specs::Rows::all_finite))]
 fn numbers_finite(mesh: &[f64], floor: f64, radius: f64, questions: &[f64]) -> bool
     ensures { result ≡ all_finite (numbers_in mesh.now floor radius questions.now) }
 {
-    if !fields::is_number(floor) {
-        return false;
-    }
-    if !fields::is_number(radius) {
-        return false;
-    }
-    if !fields::all_finite(mesh) {
-        return false;
-    }
-    fields::all_finite(questions)
+    fields::is_number(floor)
+        && fields::is_number(radius)
+        && fields::all_finite(mesh)
+        && fields::all_finite(questions)
 }
 
 // Puts an accepted job's fields into the bytes.
@@ -149,6 +143,7 @@ fn put_front(n: u32, m: u32, floor: f64, radius: f64, bytes: &mut [u8])
 }
 
 // The fields before the numbers.
+#[tactic(auto, unfolding(crate::specs::Writer::head_of, crate::specs::Writer::digits))]
 fn put_head(n: u32, m: u32, bytes: &mut [u8])
     requires { 14 ≤ length bytes.old }
     ensures { bytes.new ≡ sets bytes.old 0 (head_of n m) }
@@ -159,6 +154,7 @@ fn put_head(n: u32, m: u32, bytes: &mut [u8])
 }
 
 // The letters F, T and M, version 1 and a zero byte.
+#[tactic(auto, unfolding(crate::specs::Writer::digits))]
 fn put_mark(bytes: &mut [u8])
     requires { 6 ≤ length bytes.old }
     ensures { bytes.new ≡ sets bytes.old 0 (laid mark letters ++ laid version 1 ++ laid zero_byte 0) }
@@ -177,12 +173,14 @@ fn put_numbers(xs: &[f64], k: usize, bytes: &mut [u8])
     requires xs_value { all_finite xs.now ≡ true }
     ensures { bytes.new ≡ sets bytes.old (14 + 8 * k) (laid_all xs.now) }
 {
+    // by index: number i of the row goes to its place in the bytes
     for i in 0..xs.len() {
         put_number(xs[i], k + i, bytes);
     }
 }
 
 // Number k, which is finite.
+#[tactic(auto, using(fields::proofs::Finite::finite_no_nan))]
 fn put_number(x: f64, k: usize, bytes: &mut [u8])
     requires k_in_bounds { 14 + 8 * k + 8 ≤ length bytes.old }
     requires x_value { finite x ≡ true }

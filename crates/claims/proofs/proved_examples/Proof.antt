@@ -9,7 +9,7 @@ use Rattle.rules.specs.Every.{is_from}
 use Rattle.cells.specs.Cover.{covers, members_of, listed, start_of}
 use Rattle.spans.specs.Axis.{span_of, size_of, cell_at, cells_along, stretch_of}
 use Rattle.plane.specs.Ranges.{is_coordinate, is_radius}
-use Rattle.spans.specs.Mesh.{bad_from, first_bad as firstBadIn, box_of, widened, extent_of}
+use Rattle.spans.specs.Mesh.{first_bad as firstBadIn, box_of, widened, extent_of}
 use Rattle.rules.specs.Ladder.{refuse, demand}
 use Rattle.grid.specs.Grid.{grid_of, cells_of, total_of}
 use Rattle.grid.specs.Boxes.{is_boxed}
@@ -30,7 +30,7 @@ returns : tie.Need-returns
 unfolding worked bytes_in numbers_in read_of accepted_of refusal_of refusal_of_head refusal_of_counts refusal_of_length refusal_of_numbers refuse refuse_length length_rule
     whole_in told_in too_many somewhere first_bad finite number_of value little root_of root_of_units nearest_root whole_root round_down_of next_stamp ready_marks
     of_bits to_bits round sub div lt le is_nan to_unsigned of_int max_of min_of abs_of triangle_of lowest highest bounds_of is_from covers members_of listed start_of
-    span_of size_of cell_at cells_along stretch_of is_coordinate is_radius bad_from firstBadIn box_of widened extent_of demand grid_of cells_of total_of is_nowhere
+    span_of size_of cell_at cells_along stretch_of is_coordinate is_radius firstBadIn box_of widened extent_of demand grid_of cells_of total_of is_nowhere
     refusalOfCoordinates refusal_of_mesh is_boxed refusal_of_grid refusal_of_members refused_by accepted_with unless filled_of gridded build_of
 returns c = (refl, refl)
 

@@ -13,16 +13,16 @@ bary-requires c κs = search rules
 enum_told : tie.Need-enum_told-1
 enum_told c = search rules
 
-enum_told-2 : tie.Need-enum_told-in-At
+enum_told-2 : tie.Need-enum_told-in-Some
 enum_told-2 c = search rules
 
-returns : tie.Need-returns-in-Nowhere
+returns : tie.Need-returns-in-None
 unfolding answers
-returns c = ap answers (sym c.in-Nowhere.is ∙ c.before.bary.ensures)
+returns c = ap answers (sym c.in-None.is ∙ c.before.bary.ensures)
 
-returns-2 : tie.Need-returns-in-At
+returns-2 : tie.Need-returns-in-Some
 unfolding answers
-returns-2 c = ap answers (sym c.in-At.is ∙ c.before.bary.ensures)
+returns-2 c = ap answers (sym c.in-Some.is ∙ c.before.bary.ensures)
 
 pub bary_answers_spec : {M : Type 1} → statement M
 bary_answers_spec = tie.close (tie.spec bary-requires enum_told enum_told-2 returns returns-2)

@@ -2,7 +2,6 @@
 use Prim.Native.Nat.{◌≤◌, ◌-◌}
 use mathlib.Core.Path.{◌≡◌, sym, ap, ◌∙◌}
 use native.Mathlib.Omega.{arith}
-use borrow.Author.Tests.{not-true, not-false}
 use Rattle.join.specs.Join.{run_in, runs_in}
 use Rattle.moves.specs.Begin.{is_run, are_runs}
 use Rattle.moves.proofs.Testing.{all_starts, all_fails, all_goes, all_end}

@@ -1,13 +1,13 @@
 -- `moves::go_on` meets its contract: what is left from here on gives what the whole gave. Each line leaves one line less.
 use mathlib.Core.Bool.{true, false}
 use mathlib.Core.Path.{◌≡◌, refl, sym, ap, ◌∙◌}
-use borrow.Author.Tests.{not-true, not-false}
 use Rattle.fives.specs.Tables.{room_of}
 use Rattle.moves.specs.declared.State.{State}
 use Rattle.moves.specs.declared.Leg.{Leg}
-use Rattle.moves.specs.declared.Step.TheVariants.{Go}
+use Rattle.std.specs.Prelude.{Ok, Some}
+use Rattle.moves.specs.declared.Stepped as answer
 use Rattle.moves.specs.Phases.{leg_of, same_of, is_ended}
-use Rattle.moves.specs.Next.{move_by, moved_by, passed_by, stepped, lines_left, go_on, is_within, is_spent}
+use Rattle.moves.specs.Next.{move_by, moved_by, passed_by, told as step_told, lines_left, go_on, is_within, is_spent}
 use Rattle.moves.proofs.Going.{less_on, spent_on, id_free, goes_end, passed_on, goes_empty, goes_given}
 use Rattle.moves.proofs.go_on.Statement.{statement}
 use Rattle.moves.proofs.go_on.Tie as tie
@@ -41,10 +41,14 @@ given-requires c κs = id_free c.before.before.before.before.before.loop-h.now (
     c.before.before.before.before.before.loop-h.invariant.2
 
 returns : tie.Need-returns-then-not-is_empty invariant-loop decreases-loop
+unfolding step_told
 returns c =
-    c.given.ensures
-    ∙ ap (λ (l : Leg). stepped 0 (Go (move_by c.before.before.before.before.before.before.loop-h.now l))
-    (moved_by c.before.before.before.before.before.before.loop-h.now l)) c.before.before.before.leg_of-l.ensures
+    ap (λ (a : answer.Stepped). step_told c.before.before.before.before.before.before.loop-h.now (Ok a)) c.given.ensures
+    ∙ ap (λ (l : Leg). step_told c.before.before.before.before.before.before.loop-h.now
+    (Ok (record {
+      step = Some (move_by c.before.before.before.before.before.before.loop-h.now l);
+      state = moved_by c.before.before.before.before.before.before.loop-h.now l;
+    }))) c.before.before.before.leg_of-l.ensures
     ∙ sym (goes_given _ _ c.before.before.before.before.before.before.loop-h.now c.before.before.before.before.before.before.loop-h.invariant.1
     (open_at c.before.before.before.before) (told c.before.before ∙ c.before.if-not-is_empty.true))
     ∙ c.before.before.before.before.before.before.loop-h.invariant.0
@@ -80,6 +84,7 @@ loop-again c = (
 )
 
 returns-2 : tie.Need-returns invariant-loop decreases-loop
+unfolding step_told
 returns-2 c = sym (goes_end _ _ c.before.before.loop-h.now c.before.before.loop-h.invariant.1 (sym c.before.is_done.ensures
     ∙ c.loop-h-test.false)) ∙ c.before.before.loop-h.invariant.0
 

@@ -12,13 +12,13 @@ tested : (c : tie.After-at_least) →
     inside (bary_of a.t a.x a.y) ≡ c.at_least.result
 unfolding inside
 tested c =
-    ap inside (sym c.before.before.bary.ensures ∙ c.before.in-At.is) ∙ sym c.at_least.ensures
+    ap inside (sym c.before.before.bary.ensures ∙ c.before.in-Some.is) ∙ sym c.at_least.ensures
 
-returns : tie.Need-returns-in-Nowhere
+returns : tie.Need-returns-in-None
 unfolding square_xy inside
 returns c =
     left _ _ _ _
-    (ap inside (sym c.before.before.bary.ensures ∙ c.before.in-Nowhere.is))
+    (ap inside (sym c.before.before.bary.ensures ∙ c.before.in-None.is))
     c.edge_square.ensures
 
 returns-2 : tie.Need-returns-then-at_least

@@ -1,3 +1,4 @@
+use Rattle.std.specs.Prelude.{Option}
 use mathlib.Core.Path.{ap, sym, ◌∙◌}
 use Rattle.rules.proofs.Branches.{bool_called}
 use Rattle.above.specs.Above.{offer_of}
@@ -20,7 +21,7 @@ returns-2 c =
     let a = c.before.before.before.before.before.before.args in
     c.offer.ensures
     ∙ c.before.stretch_of.ensures a.c (sym c.before.before.before.before.before.limit-limit.ensures)
-    ∙ ap (λ (k : Stretch). offer_of a.c (section_stretch a.s a.x a.y a.e k)) c.before.before.reached-part.ensures
+    ∙ ap (λ (k : Option Stretch). offer_of a.c (section_stretch a.s a.x a.y a.e k)) c.before.before.reached-part.ensures
 
 pub edge_spec : {M : Type 1} → statement M
 edge_spec = tie.close (tie.spec (λ c κs. tt) (λ c κs. tt) returns (λ c κs. tt) (λ c κs. c.before.before.before.before.requires) (λ c κs. tt) returns-2)

@@ -1,3 +1,4 @@
+use Rattle.std.specs.Prelude.{Option}
 use mathlib.Core.Path.{ap, ◌∙◌}
 use Rattle.plane.specs.declared.Contact.{Contact}
 use Rattle.above.specs.Above.{offer_of}
@@ -11,7 +12,7 @@ returns : tie.Need-returns
 unfolding section_edges
 returns c =
     let a = c.before.before.before.before.before.before.args in
-    let on : Contact → Edge → Contact = λ d e. offer_of d (section_edge a.s a.x a.y e) in
+    let on : Option Contact → Edge → Option Contact = λ d e. offer_of d (section_edge a.s a.x a.y e) in
     three _ _ _ _ _ _ _
     (c.before.before.before.before.edge-ab.ensures ∙ ap (on _) c.before.before.before.before.before.edge_ab.ensures)
     (c.before.before.edge-bc.ensures ∙ ap (on _) c.before.before.before.edge_bc.ensures)

@@ -1,3 +1,4 @@
+use Rattle.std.specs.Prelude.{Option}
 use mathlib.Core.Path.{◌≡◌}
 use Rattle.rules.proofs.Branches.{bool_called}
 use Rattle.plane.specs.declared.Contact.{Contact}
@@ -6,7 +7,7 @@ use Rattle.above.proofs.Above.{own}
 use Rattle.section_gap.proofs.contact.Statement.{statement}
 use Rattle.section_gap.proofs.contact.Tie as tie
 
-begun : (b s c r : Contact) → b ≡ s → r ≡ offer_of b c → r ≡ offer_of s c
+begun : (b s c r : Option Contact) → b ≡ s → r ≡ offer_of b c → r ≡ offer_of s c
 begun b s c r q e = rw q at e
 
 returns : tie.Need-returns-then-touches

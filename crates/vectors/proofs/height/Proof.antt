@@ -3,11 +3,11 @@ use Rattle.vectors.specs.Lines.{heights_in}
 use Rattle.vectors.proofs.height.Statement.{statement}
 use Rattle.vectors.proofs.height.Tie as tie
 
-returns : tie.Need-returns-in-Nothing
+returns : tie.Need-returns-in-None
 unfolding heights_in
 returns c = search rules
 
-returns-2 : tie.Need-returns-in-Height
+returns-2 : tie.Need-returns-in-Some
 unfolding heights_in
 returns-2 c = search rules
 

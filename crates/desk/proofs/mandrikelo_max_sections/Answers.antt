@@ -1,0 +1,25 @@
+-- `desk::mandrikelo_max_sections` meets its contract: what the library says of the header that was read holds of the one that the arrays stand for.
+use Rattle.grid.specs.Index.{index_of}
+use Rattle.ask.specs.Ask.{answer_told}
+use Rattle.tips.specs.Contact.{max_sections_of, SectionsPromise}
+use Rattle.handed.specs.Handed.{header_from}
+use Rattle.desk.proofs.Asked.{height_told}
+use Rattle.desk.proofs.mandrikelo_max_sections.Goals as goal
+
+pub returns-clause-touched_after : goal.returns-clause-touched_after
+returns-clause-touched_after c =
+    let a = c.args in
+    let q = c.max_sections-a in
+    (height_told c.header_from.result (header_from a.measures.now a.sizes.now) c.header_from.ensures
+    (λ h. max_sections_of (index_of a.mesh.now h a.starts.now a.members.now a.boxes.now) a.marks.now a.stamp a.px a.py a.sections.now)
+    (λ h w. SectionsPromise (index_of a.mesh.now h a.starts.now a.members.now a.boxes.now) a.marks.now a.stamp a.px a.py a.sections.now w)
+    (answer_told q.result a.stamp) _ _ _ _ _ c.lay.ensures q.ensures.marks_after q.ensures.sections_promise).0
+
+pub returns-clause-sections_promise : goal.returns-clause-sections_promise
+returns-clause-sections_promise c =
+    let a = c.args in
+    let q = c.max_sections-a in
+    (height_told c.header_from.result (header_from a.measures.now a.sizes.now) c.header_from.ensures
+    (λ h. max_sections_of (index_of a.mesh.now h a.starts.now a.members.now a.boxes.now) a.marks.now a.stamp a.px a.py a.sections.now)
+    (λ h w. SectionsPromise (index_of a.mesh.now h a.starts.now a.members.now a.boxes.now) a.marks.now a.stamp a.px a.py a.sections.now w)
+    (answer_told q.result a.stamp) _ _ _ _ _ c.lay.ensures q.ensures.marks_after q.ensures.sections_promise).1
