@@ -1,14 +1,14 @@
--- A file gets no refusal exactly where it is sound.
+-- A file gets no refusal exactly where it is sound, and 19 only behind a whole head.
 use mathlib.Core.List.{List}
 use mathlib.Core.Path.{◌≡◌, refl, sym}
 use Prim.Native.Nat.{ℕ, zero, suc, ◌≤◌}
 use native.Mathlib.Nat.{zero-add}
 use native.Mathlib.Omega.{arith}
-use borrow.Author.Tests.{eqb-false, le-ltb, ne_eqb}
+use borrow.Author.Tests.{eqb-false, le-ltb, ltb-false, ne_eqb}
 use lib.Dec.{lit<}
 use lib.ListN.{length}
 use Rattle.fields.specs.Little.{value}
-use Rattle.rules.proofs.Ladder.{refuse_next, refused_not}
+use Rattle.rules.proofs.Ladder.{refuse_next, refused_not, refused_later}
 use Rattle.fields.proofs.Room.{room_for, room_enough}
 use Rattle.fields.proofs.Lengths.{exact_only, rung_exact}
 use Rattle.stl.specs.Layout.{count}
@@ -46,3 +46,7 @@ module _ (bytes : List ℕ) where
         (refuse_next _ 18 _ 0 (room_enough _ _ s.few.0 s.few.1)
         (rung_exact (shape_of bytes) (length bytes) _ 0 (omega (arith, s.whole))
         (refuse_next _ 20 _ 0 (sym (good bytes 0 _ (λ k l. rw zero-add (s.finite_all k l)))) refl))))
+
+    pub behind_head : refusal_of bytes room ≡ 19 → 84 ≤ length bytes
+    unfolding refusal_of
+    behind_head e = ltb-false (length bytes) 84 (refused_later _ 14 _ 19 (lit< tt) e).0

@@ -17,7 +17,7 @@ use Rattle.refusals.specs.declared.Refusal.{Refusal}
 use Rattle.refusals.proofs.Named.{numbered}
 use Rattle.stl.specs.Layout.{count}
 use Rattle.stl.specs.Reader.{number_of, refusal_of, Outcome, Read, told, ended, told_with, refused_by, accepted_of, read_of, SoundExactly}
-use Rattle.stl.proofs.Ladder.{sound, accepted}
+use Rattle.stl.proofs.Ladder.{sound, accepted, behind_head}
 
 module _ (bytes : List ℕ) where
   module _ (mesh : List Float) where
@@ -38,6 +38,10 @@ module _ (bytes : List ℕ) where
       pub refused_is : (a : Read) → (k ≡ 0 → ⊥) → a ≡ refused_by k bytes → ended a mesh ≡ read_of bytes mesh
       unfolding read_of
       refused_is a h p = rw (← e) (left _ _ _ _ (ne_eqb k 0 h) (ap (λ (r : Read). ended r mesh) p))
+
+      -- 19 has a count to go by
+      pub counted : k ≡ 19 → 84 ≤ length bytes
+      counted z = behind_head bytes _ (sym e ∙ z)
 
       module _ (z : k ≡ 0) where
         pub accepted_is : (n : ℕ) (o : Outcome) → n ≡ value count bytes → o ≡ accepted_of bytes n mesh → o ≡ read_of bytes mesh
